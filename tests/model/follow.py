@@ -1,9 +1,10 @@
 #!/usr/bin/env python3
 """Reads a capture in the model, and prints what `rasta follow` must print: a line for each datagram, and the sums.
 
-    tests/model/follow.py follow [--code 0|8|16] [--only WORD] [--ports PORTS] [--t-max MS] [--json] FILE
+    tests/model/follow.py follow [--code 0|8|16] [--only WORD] [--ports PORTS] [--t-max MS] [--time FORM] [--from INSTANT] [--to INSTANT] [--every N] [--json] FILE
 """
 import argparse
+import datetime
 import ipaddress
 import json
 import re
@@ -161,7 +162,7 @@ class Direction:
         opened = 'opened by %s times %d' % (self.opening[0], self.openings) if self.opening else 'opening not seen'
         kinds = 'heartbeats %d requests %d resent %d disconnects %d' % tuple(self.kinds.values())
         near = ' '.join('%s %d of %d%s' % (word, most, t_max, ' reached' if most >= t_max else '') for word, most in (('age', self.oldest), ('waits', self.longest)))
-        last = 'last ' + seconds(self.last - first) if self.last else 'not heard'
+        last = 'last ' + first.said(self.last) if self.last else 'not heard'
         return ' '.join((opened, self.together.sums(), kinds, 'silence ' + seconds(self.silent(until)), near, last,
                          'DiscReq ' + self.left if self.left else 'no DiscReq'))
 
@@ -232,7 +233,7 @@ class Session:
 
     def line(self, ends, first):
         def at(time):
-            return seconds(time - first)
+            return first.said(time)
 
         words = ['session %d of %d-%d' % (self.number, *ends),
                  '%d asked at %s' % (ends[self.asked[1]], at(self.asked[0])) if self.asked else 'its ConnReq was not recorded',
@@ -308,7 +309,7 @@ class Connection:
         longest = max(direction.longest for direction in self.directions)
         return ', '.join((
             'connection %d-%d sessions %d, came up %d, nobody answered %d, ended by a DiscReq %d, by timeout %d' % (*self.ends, *self.session_sums()),
-            'last PDU at ' + seconds(self.last - first), losses(*self.losses()),
+            'last PDU at ' + first.said(self.last), losses(*self.losses()),
             'waits %d of %d%s' % (longest, t_max, ' reached' if longest >= t_max else '')))
 
     def members(self):
@@ -345,6 +346,8 @@ class Follower:
 
     def __init__(self, rule):
         self.rule, self.connections, self.damaged, self.forgotten, self.unreadable = rule, [], 0, 0, 0
+        self.miscoded = 0  # datagrams with a wrong safety code
+        self.frames, self.others = 0, [0, 0]  # lines, and how many of them have no chosen port, and another time than is asked for
         self.datagrams, self.gone = 0, [0] * 6
 
     def line(self, time, line, source, destination, octets):
@@ -354,6 +357,7 @@ class Follower:
         number, p = (None, None) if isinstance(seen, str) else (seen[0], safe_seen(seen[1], self.rule))
         if p is None or isinstance(p, str):
             self.damages(source, destination)
+            self.miscoded += p == 'Code'
             return way if p is None else '%s red %d' % (way, number), [fault('red', seen) if p is None else fault('safe', p)]
         connection = self.connection(sorted((p.sender, p.receiver)))
         connection.last = time
@@ -386,15 +390,20 @@ class Follower:
         """Returns all sums as one JSON object in one line."""
         counts = [sum(column) for column in zip(self.gone, *(connection.counts() for connection in self.connections))]
         names = ('PDUs', 'missing', 'repeats', 'late', 'differs', 'stale')
-        return json.dumps({'first': first or None, 't_max': t_max, 'all': {
-            'datagrams': self.datagrams, **dict(zip(names, counts)), 'damaged': self.damaged, 'forgotten': self.forgotten, 'unreadable': self.unreadable},
+        return json.dumps({'first': first.first or None, 't_max': t_max, 'all': {
+            'datagrams': self.datagrams, **dict(zip(names, counts)), 'damaged': self.damaged, 'forgotten': self.forgotten, 'unreadable': self.unreadable,
+                    'frames': self.frames, 'passed': {'ports': self.others[0], 'times': self.others[1], **dict.fromkeys(('no_ip', 'no_udp', 'tunnels', 'fragments', 'truncated', 'lengths', 'links'), 0)}},
             'connections': [connection.members() for connection in self.connections]}, separators=(',', ':'))
 
     def sums(self, first, t_max):
+        if first.first:
+            yield 'sum first datagram at ' + utc(first.first)
         for connection in self.connections:
             yield from connection.sums(first, t_max)
         counts = [sum(column) for column in zip(self.gone, *(connection.counts() for connection in self.connections))]
         assert sum(counts) - counts[1] + self.damaged == self.datagrams
+        if any(self.others):
+            yield 'sum passed over: other ports %d other times %d no IP 0 no UDP 0 tunnels 0 fragments 0 truncated 0 lengths 0 links 0' % tuple(self.others)
         yield 'sum all datagrams %d PDUs %d missing %d repeats %d late %d differs %d stale %d damaged %d forgotten %d unreadable %d' % (
             self.datagrams, *counts, self.damaged, self.forgotten, self.unreadable)
 
@@ -405,6 +414,47 @@ def fault(layer, name):
 
 def seconds(micros):
     return '%s%d.%06d' % ('-' if micros < 0 else '', abs(micros) // 1000000, abs(micros) % 1000000)
+
+
+def utc(micros):
+    days, rest = divmod(micros, 86400 * 10 ** 6)
+    cycles, days = divmod(days, 146097)  # of 400 years, since the library ends with the year 9999
+    day = datetime.date(1970, 1, 1) + datetime.timedelta(days)
+    clock = rest // 10 ** 6
+    return '%d-%02d-%02dT%02d:%02d:%02d.%06dZ' % (day.year + 400 * cycles, day.month, day.day, clock // 3600, clock // 60 % 60, clock % 60, rest % 10 ** 6)
+
+
+class Times:
+    """The time of the first datagram, and the form in which times are printed."""
+
+    def __init__(self, form):
+        self.form, self.first = form, None
+
+    def said(self, time):
+        return utc(time) if self.form == 'utc' else seconds(time if self.form == 'epoch' else time - (self.first or 0))
+
+
+def instant(text):
+    """Returns the microseconds that a text names, and whether they are since the first datagram; or None."""
+    found = re.fullmatch(r'(@?)([0-9]+)(?:\.([0-9]{1,9}))?', text)
+    if found:
+        whole = number(found[2], 999999999999)
+        return None if whole is None else (10 ** 6 * whole + int((found[3] or '').ljust(6, '0')[:6]), not found[1])
+    found = re.fullmatch(r'([0-9]{4}-[0-9]{2}-[0-9]{2}T[0-9]{2}:[0-9]{2}:[0-9]{2})(?:\.([0-9]{1,9}))?Z?', text)
+    try:
+        time = datetime.datetime.fromisoformat(found[1] + '+00:00') if found else None
+    except ValueError:
+        time = None
+    if time is None or time.year < 1970:
+        return None
+    return (time - datetime.datetime(1970, 1, 1, tzinfo=datetime.timezone.utc)) // datetime.timedelta(seconds=1) * 10 ** 6 + int(
+        (found[2] or '').ljust(6, '0')[:6]), False
+
+
+def is_within(first, time, start, end):
+    """Whether a time is not before one instant, and not after the other."""
+    from_time, to_time = (None if limit is None else limit[0] + (first if limit[1] else 0) for limit in (start, end))
+    return (from_time is None or from_time <= time) and (to_time is None or time <= to_time)
 
 
 def number(text, most):
@@ -492,30 +542,44 @@ def foreign(front):
     return next((why for octets, why in FOREIGN.items() if front.startswith(octets)), None)
 
 
-def followed(raws, code=8, only=None, t_max=1800, ports=None, as_json=False):
+def followed(raws, code=8, only=None, t_max=1800, ports=None, as_json=False, time='since', start=None, end=None, every=None):
     """Returns standard output, standard error and exit status."""
-    follower, first, out, err = Follower(Settings(code=code).rule), None, [], []
+    follower, times, due, out, err = Follower(Settings(code=code).rule), Times(time), None, [], []
+
+    def sums():
+        return [said + '\n' for said in ([follower.members(times, t_max)] if as_json else follower.sums(times, t_max))]
+
     raws = list(raws)
     why = foreign(raws[0]) if raws else None
     if why:
         follower.unreadable, raws = 1, []
         err.append('recording: unreadable behind frame 0: %s\n' % why)
     for line, raw in enumerate(raws, 1):
-        seen = read(raw)
+        seen, follower.frames = read(raw), line
         if isinstance(seen, str):
             follower.unreadable += 1
             err.append('line %d: unreadable: %s\n' % (line, seen))
             continue
         if ports and not any(int(end.rpartition(':')[2]) in some for end in seen[1:3] for some in ports):
+            follower.others[0] += 1
             continue
-        first = seen[0] if first is None else first
+        if times.first is None:
+            times.first, due = seen[0], seen[0] + (every or 0) * 10 ** 6
+        if not is_within(times.first, seen[0], start, end):
+            follower.others[1] += 1
+            continue
         said, words = follower.line(seen[0], line, *seen[1:])
         if is_wanted(only, t_max, words) and not as_json:
             words = [word for word in words if not word.startswith('waits ') or is_long(word, t_max)]
-            out.append(' '.join([seconds(seen[0] - first), 'line', str(line), said] + words) + '\n')
-    out += [said + '\n' for said in ([follower.members(first, t_max)] if as_json else follower.sums(first, t_max))]
+            out.append(' '.join([times.said(seen[0]), 'line', str(line), said] + words) + '\n')
+        if every and due <= seen[0]:
+            out += sums()
+            due = times.first + (max(0, seen[0] - times.first) // (every * 10 ** 6) + 1) * every * 10 ** 6
+    out += sums()
     if follower.forgotten:
         err.append('connections: %d were forgotten, since more than %d were recorded at once; choose some by --ports\n' % (follower.forgotten, CONNECTIONS))
+    if follower.miscoded and follower.miscoded == follower.datagrams:
+        err.append('datagrams: all %d have another safety code; choose it by --code or --iv\n' % follower.miscoded)
     return ''.join(out), ''.join(err), 1 if err else 0
 
 
@@ -527,10 +591,14 @@ def main(words):
     parser.add_argument('--ports', type=ranges)
     parser.add_argument('--json', action='store_true')
     parser.add_argument('--t-max', type=int, default=1800)
+    parser.add_argument('--time', choices=('since', 'epoch', 'utc'), default='since')
+    parser.add_argument('--from', dest='start', type=instant)
+    parser.add_argument('--to', dest='end', type=instant)
+    parser.add_argument('--every', type=int)
     parser.add_argument('file')
     asked = parser.parse_args(words)
     with open(asked.file, 'rb') as file:
-        out, err, status = followed(file, asked.code, asked.only, asked.t_max, asked.ports, asked.json)
+        out, err, status = followed(file, asked.code, asked.only, asked.t_max, asked.ports, asked.json, asked.time, asked.start, asked.end, asked.every)
     sys.stdout.write(out)
     sys.stderr.write(err)
     return status

@@ -9,20 +9,27 @@ _rasta() {
     follow--only) words='opens repeat differs ahead late stale anew resent age waits reason fault' ;;
     follow--t-max) words='' ;;
     follow--ports) words='' ;;
+    follow--time) words='since epoch utc' ;;
+    follow--from) words='' ;;
+    follow--to) words='' ;;
+    follow--every) words='' ;;
     il--turns) words='' ;;
     il--log) words='off state all' ;;
+    il--time) words='' ;;
     il--expect) words='up settled' ;;
-    il--stats) words='text json' ;;
+    il--stats) words='text json prometheus' ;;
     il--every) words='' ;;
     fe--turns) words='' ;;
     fe--log) words='off state all' ;;
+    fe--time) words='' ;;
     fe--expect) words='up settled' ;;
-    fe--stats) words='text json' ;;
+    fe--stats) words='text json prometheus' ;;
     fe--every) words='' ;;
     pair--turns) words='' ;;
     pair--log) words='off state all' ;;
+    pair--time) words='' ;;
     pair--expect) words='up settled' ;;
-    pair--stats) words='text json' ;;
+    pair--stats) words='text json prometheus' ;;
     pair--every) words='' ;;
     *)
         case $COMP_CWORD,${COMP_WORDS[1]} in
@@ -30,10 +37,10 @@ _rasta() {
         *,md4) words='-h --help' ;;
         *,show) words='--code --iv -h --help' ;;
         *,sim) words='-h --help' ;;
-        *,follow) words='--code --iv --only --t-max --messages --ports --json -h --help' ;;
-        *,il) words='--turns --until-end --log --expect --keep --stats --every -h --help' ;;
-        *,fe) words='--turns --until-end --log --expect --keep --stats --every -h --help' ;;
-        *,pair) words='--turns --until-end --log --expect --keep --stats --every -h --help' ;;
+        *,follow) words='--code --iv --only --t-max --messages --ports --json --time --from --to --every -h --help' ;;
+        *,il) words='--turns --until-end --log --time --expect --keep --stats --every -h --help' ;;
+        *,fe) words='--turns --until-end --log --time --expect --keep --stats --every -h --help' ;;
+        *,pair) words='--turns --until-end --log --time --expect --keep --stats --every -h --help' ;;
         *,check) words='-h --help' ;;
         2,help) words='md4 show sim follow il fe pair check' ;;
         2,--completion) words='bash' ;;

@@ -2,58 +2,33 @@
 use Rattle.std.specs.Prelude.{ℕ, ◌+◌, ◌*◌, ◌/◌, ◌==◌, ◌&&◌, ◌||◌, Bool, nat_eq, List, if◌then◌else◌, Option, Some, None, Result, Err}
 use Rattle.capture.specs.Places.{big_at, octet_at}
 use Rattle.capture.specs.Packets.{in_ipv4, in_ipv6}
-use Rattle.capture.specs.declared.frame.TheConstants.{IPV4, IPV6}
+use Rattle.capture.specs.Wrappings.{is_bridged, kind_at, unwrapped}
+use Rattle.capture.specs.declared.wrapping.TheConstants.{IPV4, IPV6, NOTHING}
 use Rattle.capture.specs.declared.frame.Link.{Link}
 use Rattle.capture.specs.declared.frame.Link.TheVariants.{Ethernet, Cooked, Cooked2, Raw, Loopback}
 use Rattle.capture.specs.declared.frame.Found.{Found}
-use Rattle.capture.specs.declared.frame.Packet.{Packet}
+use Rattle.capture.specs.declared.wrapping.Packet.{Packet}
 use Rattle.capture.specs.declared.frame.Passed.{Passed}
-use Rattle.capture.specs.declared.frame.Passed.TheVariants.{Truncated, Other}
+use Rattle.capture.specs.declared.frame.Passed.TheVariants.{Truncated, NoIp, Tunnel}
 
 -- The link header of a LINKTYPE number, if it is known.
 abbrev pub link_of : ℕ → Option Link
 link_of number =
     if nat_eq number 0 || nat_eq number 108 then Some Loopback
     else if nat_eq number 1 then Some Ethernet
-    else if nat_eq number 101 || nat_eq number 228 then Some Raw
+    else if nat_eq number 12 || (nat_eq number 14 || (nat_eq number 101 || nat_eq number 228)) then Some Raw
     else if nat_eq number 113 then Some Cooked
     else if nat_eq number 276 then Some Cooked2
     else None
 
--- A packet at a place, if its EtherType was read.
-abbrev pub packet_with : ℕ → Option ℕ → Option Packet
-packet_with place (Some kind) = Some (record { kind = kind; place = place })
-packet_with place None = None
+-- The packet after further headers, if there was a packet.
+abbrev pub unwrapped_next : List ℕ → Option Packet → Option Packet
+unwrapped_next octets (Some p) = unwrapped octets p
+unwrapped_next octets None = None
 
--- The packet at a place, with the EtherType at another place.
-abbrev pub kind_at : ℕ → ℕ → List ℕ → Option Packet
-kind_at at place octets = packet_with place (big_at at octets)
-
--- The EtherTypes of VLAN tags: 802.1Q, 802.1ad, and the older 0x9100.
-abbrev pub is_tag : ℕ → Bool
-is_tag kind = (kind == 0x8100) || ((kind == 0x88a8) || (kind == 0x9100))
-
--- The packet after a VLAN tag, if there is one.
-abbrev pub behind_tag : List ℕ → Packet → Option Packet
-behind_tag octets p = if is_tag p.kind then kind_at (p.place + 2) (p.place + 4) octets else Some p
-
--- The packet after a further VLAN tag, if there was a packet.
-abbrev pub behind_next : List ℕ → Option Packet → Option Packet
-behind_next octets (Some p) = behind_tag octets p
-behind_next octets None = None
-
--- The packet after up to two VLAN tags.
-abbrev pub tagged : List ℕ → Packet → Option Packet
-tagged octets p = behind_next octets (behind_tag octets p)
-
--- The packet after its VLAN tags, if there was a packet.
-abbrev pub tagged_next : List ℕ → Option Packet → Option Packet
-tagged_next octets (Some p) = tagged octets p
-tagged_next octets None = None
-
--- The EtherType of an IP version; 0 for others.
+-- The EtherType of an IP version; `NOTHING` for others.
 abbrev pub version_kind : ℕ → ℕ
-version_kind version = if nat_eq version 4 then IPV4 else if nat_eq version 6 then IPV6 else 0
+version_kind version = if nat_eq version 4 then IPV4 else if nat_eq version 6 then IPV6 else NOTHING
 
 -- The packet at the start of a raw frame, by the version in its first byte.
 abbrev pub raw_with : Option ℕ → Option Packet
@@ -73,7 +48,7 @@ abbrev pub family_kind : ℕ → ℕ → ℕ
 family_kind high low =
     if is_family high low 2 then IPV4
     else if is_family high low 24 || (is_family high low 28 || is_family high low 30) then IPV6
-    else 0
+    else NOTHING
 
 -- The packet after the family of four bytes.
 abbrev pub loopback_with : Option ℕ → Option ℕ → Option Packet
@@ -86,16 +61,22 @@ loopback_at octets = loopback_with (big_at 0 octets) (big_at 2 octets)
 
 -- The packet of a frame, by its link header.
 abbrev pub packet_of : Link → List ℕ → Option Packet
-packet_of Ethernet octets = tagged_next octets (kind_at 12 14 octets)
-packet_of Cooked octets = tagged_next octets (kind_at 14 16 octets)
-packet_of Cooked2 octets = tagged_next octets (kind_at 0 20 octets)
+packet_of Ethernet octets = unwrapped_next octets (kind_at 12 14 octets)
+packet_of Cooked octets = unwrapped_next octets (kind_at 14 16 octets)
+packet_of Cooked2 octets = unwrapped_next octets (kind_at 0 20 octets)
 packet_of Raw octets = raw_at octets
 packet_of Loopback octets = loopback_at octets
+
+-- Why a packet of another EtherType is passed over.
+abbrev pub no_packet : ℕ → Passed
+no_packet kind = if is_bridged kind then Tunnel else NoIp
 
 -- The datagram in a packet, by its EtherType; any other is passed over.
 abbrev pub in_packet : List ℕ → Packet → Result Found Passed
 in_packet octets p =
-    if p.kind == IPV4 then in_ipv4 octets p.place else if p.kind == IPV6 then in_ipv6 octets p.place else Err Other
+    if p.kind == IPV4 then in_ipv4 octets p.place
+    else if p.kind == IPV6 then in_ipv6 octets p.place
+    else Err (no_packet p.kind)
 
 -- The datagram in the packet that was found; the frame is truncated if there is none.
 abbrev pub found_with : List ℕ → Option Packet → Result Found Passed

@@ -10,6 +10,8 @@ pub mod Laws
 pub mod Ports
 pub mod Places
 pub mod Packets
+pub mod Wrappings
 pub mod Frames
 pub mod Times
 pub mod Recordings
+pub mod Instants

@@ -4,11 +4,12 @@ use Rattle.capture.specs.declared.line.Address.{Address}
 use Rattle.capture.specs.declared.line.Host.{Host}
 use Rattle.capture.specs.declared.line.Host.TheVariants.{V4, V6}
 use Rattle.capture.specs.Places.{big_at, octet_at, four_at, sixteen_at}
-use Rattle.capture.specs.declared.frame.TheConstants.{FRAGMENT, UDP}
+use Rattle.capture.specs.declared.frame.TheConstants.{FRAGMENT, UDP, WITHIN_V4, WITHIN_V6}
 use Rattle.capture.specs.declared.frame.Found.{Found}
 use Rattle.capture.specs.declared.frame.Passed.{Passed}
-use Rattle.capture.specs.declared.frame.Passed.TheVariants.{Truncated, Other, Fragment, Length}
+use Rattle.capture.specs.declared.frame.Passed.TheVariants.{Truncated, NoUdp, Tunnel, Fragment, Length}
 use Rattle.capture.specs.declared.frame.Upper.{Upper}
+use Rattle.capture.specs.declared.frame.V4Header.{V4Header}
 
 -- A datagram of this size at a place; it must be within its packet and within the frame.
 abbrev pub udp_between : ℕ → Address → Address → ℕ → ℕ → ℕ → Result Found Passed
@@ -32,20 +33,57 @@ in_udp octets source destination place end =
 abbrev pub is_fragment : ℕ → Bool
 is_fragment flags = not (nat_eq (flags % 0x4000) 0)
 
--- The datagram of an IPv4 packet, by its header fields.
-abbrev pub ipv4_with : List ℕ → ℕ → Option ℕ → Option ℕ → Option ℕ → Option ℕ → Option (List ℕ) → Option (List ℕ) → Result Found Passed
-ipv4_with octets place (Some first) (Some total) (Some flags) (Some protocol) (Some source) (Some destination) =
-    if not (nat_eq (first / 16) 4) || (nat_lt (first % 16 * 4) 20 || nat_lt total (first % 16 * 4)) then Err Length
-    else if not (nat_eq protocol 17) then Err Other
-    else if is_fragment flags then Err Fragment
-    else in_udp octets (V4 source) (V4 destination) (place + first % 16 * 4) (place + total)
-ipv4_with octets place _ _ _ _ _ _ = Err Truncated
+-- The size of an IPv4 packet by its total length. A length of 0 is that of a packet which the network card completes.
+abbrev pub size_of : ℕ → ℕ
+size_of total = if nat_eq total 0 then 65535 else total
 
--- The datagram of the IPv4 packet at a place: version and header length, total length, flags, protocol, both addresses.
-abbrev pub in_ipv4 : List ℕ → ℕ → Result Found Passed
-in_ipv4 octets place =
-    ipv4_with octets place (octet_at place octets) (big_at (place + 2) octets) (big_at (place + 6) octets) (octet_at (place + 9) octets)
+-- The header of an IPv4 packet, by its fields.
+abbrev pub header_with : ℕ → Option ℕ → Option ℕ → Option ℕ → Option ℕ → Option (List ℕ) → Option (List ℕ) → Result V4Header Passed
+header_with place (Some first) (Some total) (Some flags) (Some protocol) (Some source) (Some destination) =
+    if not (nat_eq (first / 16) 4) || (nat_lt (first % 16 * 4) 20 || nat_lt (size_of total) (first % 16 * 4)) then Err Length
+    else
+    Ok
+    (record {
+      protocol = protocol;
+      is_part = is_fragment flags;
+      source = source;
+      destination = destination;
+      start = place + first % 16 * 4;
+      end = place + size_of total;
+    })
+header_with place _ _ _ _ _ _ = Err Truncated
+
+-- The header of the IPv4 packet at a place: version and header length, total length, flags, protocol, both addresses.
+abbrev pub ipv4_of : List ℕ → ℕ → Result V4Header Passed
+ipv4_of octets place =
+    header_with place (octet_at place octets) (big_at (place + 2) octets) (big_at (place + 6) octets) (octet_at (place + 9) octets)
     (four_at (place + 12) octets) (four_at (place + 16) octets)
+
+-- The protocols that carry a further packet: IP, GRE, ESP, AH, Ethernet, L2TP, MPLS.
+abbrev pub is_tunnel : ℕ → Bool
+is_tunnel protocol =
+    (protocol == 4)
+    || ((protocol == 41) || ((protocol == 47) || ((protocol == 50) || ((protocol == 51) || ((protocol == 97) || ((protocol == 115) || ((protocol == 137) || (protocol == 143))))))))
+
+-- Why a packet of another protocol than UDP is passed over.
+abbrev pub no_datagram : ℕ → Passed
+no_datagram protocol = if is_tunnel protocol then Tunnel else NoUdp
+
+-- The place after the header of an IPv4 packet; a fragment is not read.
+abbrev pub behind_ipv4 : V4Header → Result ℕ Passed
+behind_ipv4 h = if h.is_part then Err Fragment else Ok h.start
+
+-- The datagram after the header of an IPv4 packet.
+abbrev pub udp_of : List ℕ → V4Header → Result Found Passed
+udp_of octets h =
+    if not (h.protocol == UDP) then Err (no_datagram h.protocol)
+    else if h.is_part then Err Fragment
+    else in_udp octets (V4 h.source) (V4 h.destination) h.start h.end
+
+-- The datagram after the header of an IPv4 packet, if the header was read.
+abbrev pub in_behind : List ℕ → Result V4Header Passed → Result Found Passed
+in_behind octets (Ok h) = udp_of octets h
+in_behind octets (Err why) = Err why
 
 -- Headers that are skipped: hop-by-hop options, routing, destination options.
 abbrev pub is_passed : ℕ → Bool
@@ -66,7 +104,7 @@ is_piece part = not (nat_eq (part / 8) 0) || nat_eq (part % 2) 1
 
 -- The reason for a fragment: one of a UDP datagram is reported, one of anything else is passed over.
 abbrev pub piece_of : ℕ → Result Upper Passed
-piece_of kind = if (kind == UDP) || is_passed kind then Err Fragment else Err Other
+piece_of kind = if (kind == UDP) || is_passed kind then Err Fragment else Err (no_datagram kind)
 
 -- The header after a fragment header, if the fragment is a whole packet.
 abbrev pub fragment_with : ℕ → Option ℕ → Option ℕ → Result Upper Passed
@@ -98,7 +136,7 @@ upper_of octets u =
 -- The datagram in the header that was found, if that is UDP.
 abbrev pub upper_with : List ℕ → List ℕ → List ℕ → ℕ → Result Upper Passed → Result Found Passed
 upper_with octets source destination end (Ok u) =
-    if u.kind == UDP then in_udp octets (V6 source) (V6 destination) u.place end else Err Other
+    if u.kind == UDP then in_udp octets (V6 source) (V6 destination) u.place end else Err (no_datagram u.kind)
 upper_with octets source destination end (Err why) = Err why
 
 -- The datagram of an IPv6 packet, by its header fields.
@@ -114,3 +152,25 @@ abbrev pub in_ipv6 : List ℕ → ℕ → Result Found Passed
 in_ipv6 octets place =
     ipv6_with octets place (octet_at place octets) (big_at (place + 4) octets) (octet_at (place + 6) octets)
     (sixteen_at (place + 8) octets) (sixteen_at (place + 24) octets)
+
+-- The datagram in the IPv4 packet that an IPv4 packet carries.
+abbrev pub in_carried : List ℕ → Result ℕ Passed → Result Found Passed
+in_carried octets (Ok place) = in_behind octets (ipv4_of octets place)
+in_carried octets (Err why) = Err why
+
+-- The datagram in the IPv6 packet that an IPv4 packet carries.
+abbrev pub in_carried_v6 : List ℕ → Result ℕ Passed → Result Found Passed
+in_carried_v6 octets (Ok place) = in_ipv6 octets place
+in_carried_v6 octets (Err why) = Err why
+
+-- The datagram in an IPv4 packet: after its header, or in the IP packet that it carries.
+abbrev pub in_header : List ℕ → Result V4Header Passed → Result Found Passed
+in_header octets (Ok h) =
+    if h.protocol == WITHIN_V4 then in_carried octets (behind_ipv4 h)
+    else if h.protocol == WITHIN_V6 then in_carried_v6 octets (behind_ipv4 h)
+    else udp_of octets h
+in_header octets (Err why) = Err why
+
+-- The datagram of the IPv4 packet at a place.
+abbrev pub in_ipv4 : List ℕ → ℕ → Result Found Passed
+in_ipv4 octets place = in_header octets (ipv4_of octets place)

@@ -3,10 +3,10 @@ use Rattle.std.specs.Prelude.{◌≤◌, ℕ, ◌+◌, ◌-◌, ◌*◌, ◌/◌
 use Rattle.std.specs.List.{position}
 use Rattle.capture.specs.Frames.{link_of}
 use Rattle.capture.specs.Places.{four_at, long_at, short_at}
-use Rattle.capture.specs.Times.{is_unit, resolution_of, tick_micros}
+use Rattle.capture.specs.Times.{is_unit, moved_by, offset_of, resolution_of, tick_micros}
 use Rattle.capture.specs.declared.frame.Link.{Link}
 use Rattle.capture.specs.declared.interfaces.Interface.{Interface}
-use Rattle.capture.specs.declared.file.TheConstants.{BLOCK_MAX, INTERFACES, SECTION}
+use Rattle.capture.specs.declared.file.TheConstants.{BLOCK_MAX, INTERFACES, SECTION, SKIPPED_AT_ONCE}
 use Rattle.capture.specs.declared.file.Change.{Change}
 use Rattle.capture.specs.declared.file.Change.TheVariants.{Keep, Clear, Add}
 use Rattle.capture.specs.declared.file.BlockContent.{BlockContent}
@@ -15,7 +15,7 @@ use Rattle.capture.specs.declared.file.FileFault.{FileFault}
 use Rattle.capture.specs.declared.file.FileFault.TheVariants as fault
 use Rattle.capture.specs.declared.file.FileForm.{FileForm}
 use Rattle.capture.specs.declared.file.FilePart.{FilePart}
-use Rattle.capture.specs.declared.file.FilePart.TheVariants.{Start, Head, Record, Body, Section, Order, Opening, Block, Rest}
+use Rattle.capture.specs.declared.file.FilePart.TheVariants.{Start, Head, Record, Body, Section, Order, Opening, Block, Rest, Skipped}
 use Rattle.capture.specs.declared.file.Recording.{Recording}
 use Rattle.capture.specs.declared.file.Step.{Step}
 
@@ -25,7 +25,7 @@ none_described = replicate INTERFACES None
 
 -- The state before the first block.
 abbrev pub opened : Recording
-opened = record { part = Start; interfaces = none_described }
+opened = record { part = Start; interfaces = none_described; last = 0 }
 
 -- How many bytes the next block has.
 abbrev pub wanted : FilePart → ℕ
@@ -38,12 +38,17 @@ wanted (Order size) = 4
 wanted (Opening big size) = size - 12
 wanted (Block big) = 8
 wanted (Rest big kind size) = size - 8
+wanted (Skipped big left size) = if nat_eq left 0 then 4 else min left SKIPPED_AT_ONCE
 
--- A frame is within the bytes of its block, and its start is not after its end.
+-- A frame is within this many bytes, and its start is not after its end.
+abbrev pub IsWithin : ℕ → BlockContent → Type 0
+IsWithin size (event.Frame f) = (f.start ≤ f.end) × (f.end ≤ size)
+IsWithin size event.Nothing = Unit {0}
+IsWithin size event.Text = Unit {0}
+
+-- A frame is within the bytes of its block.
 abbrev pub EndsWithin : List ℕ → BlockContent → Type 0
-EndsWithin octets (event.Frame f) = (f.start ≤ f.end) × (f.end ≤ length octets)
-EndsWithin octets event.Nothing = Unit {0}
-EndsWithin octets event.Text = Unit {0}
+EndsWithin octets content = IsWithin (length octets) content
 
 -- A step to this part, without content.
 abbrev pub part_after : FilePart → Step
@@ -153,10 +158,23 @@ head_of_section big size octets =
     else if not (is_number (short_at big 0 octets) 1) then Err fault.Version
     else Ok (record { part = Block big; event = event.Nothing; change = Clear })
 
+-- The blocks that are read: an interface, and the obsolete, the simple and the enhanced packet.
+abbrev pub is_read : ℕ → Bool
+is_read kind = nat_eq kind 1 || (nat_eq kind 2 || (nat_eq kind 3 || nat_eq kind 6))
+
+-- The length of a block that is not read: at least 12, a multiple of four.
+abbrev pub long_block : ℕ → Bool
+long_block size = nat_le 12 size && nat_eq (size % 4) 0
+
+-- A block that is not read.
+abbrev pub unread_step : Bool → ℕ → Result Step FileFault
+unread_step big size = if long_block size then Ok (part_after (Skipped big (size - 12) size)) else Err fault.Length
+
 -- A block of this type and length; `raw` has the bytes of the length.
 abbrev pub block_with : Bool → Option ℕ → Option (List ℕ) → Option ℕ → Result Step FileFault
 block_with big (Some kind) (Some raw) (Some size) =
     if nat_eq kind SECTION then Ok (part_after (Order raw))
+    else if not (is_read kind) then unread_step big size
     else if not (sized_block 12 size) then Err fault.Length
     else Ok (part_after (Rest big kind size))
 block_with big _ _ _ = Err fault.Length
@@ -165,34 +183,47 @@ block_with big _ _ _ = Err fault.Length
 abbrev pub block_step : Bool → List ℕ → Result Step FileFault
 block_step big octets = block_with big (long_at big 0 octets) (four_at 4 octets) (long_at big 4 octets)
 
+-- More of a block that is not read: the rest of its content, then the length again.
+abbrev pub skip_step : Bool → ℕ → ℕ → List ℕ → Result Step FileFault
+skip_step big left size octets =
+    if not (nat_eq left 0) then Ok (part_after (Skipped big (left - SKIPPED_AT_ONCE) size))
+    else if not (is_number (long_at big 0 octets) size) then Err fault.Trailer
+    else Ok (part_after (Block big))
+
 -- The first place without an interface.
 abbrev pub at_first_free : List (Option Interface) → Option ℕ
 at_first_free interfaces = position (λ (interface : Option Interface). is_none interface) interfaces
 
--- The description of an interface with this link number.
-abbrev pub interface_with : List (Option Interface) → Bool → List ℕ → Option ℕ → Result Step FileFault
-interface_with interfaces big inner (Some link) =
-    if nat_lt (length inner) 8 then Err fault.Length
-    else if not (is_unit (resolution_of big inner)) then Err fault.Resolution
+-- The description of an interface with this link number and this limit of its frames.
+abbrev pub interface_with : List (Option Interface) → Bool → List ℕ → Option ℕ → Option ℕ → Result Step FileFault
+interface_with interfaces big inner (Some link) (Some limit) =
+    if not (is_unit (resolution_of big inner)) then Err fault.Resolution
     else if is_none (at_first_free interfaces) then Err fault.Interfaces
     else
     Ok
     (record {
       part = Block big;
       event = event.Nothing;
-      change = Add (record { link = link_of link; resolution = resolution_of big inner });
+      change =
+          Add
+          (record {
+            link = link_of link;
+            resolution = resolution_of big inner;
+            offset = offset_of big inner;
+            limit = limit;
+          });
     })
-interface_with interfaces big inner None = Err fault.Length
+interface_with interfaces big inner _ _ = Err fault.Length
 
 -- The step of an interface's description.
 abbrev pub interface_step : List (Option Interface) → Bool → List ℕ → Result Step FileFault
-interface_step interfaces big inner = interface_with interfaces big inner (short_at big 0 inner)
+interface_step interfaces big inner = interface_with interfaces big inner (short_at big 0 inner) (long_at big 4 inner)
 
 -- The interface with this number.
 abbrev pub described : List (Option Interface) → ℕ → Option Interface
 described interfaces number = if nat_lt number INTERFACES then slice_index_or interfaces number None else None
 
--- The step of an enhanced packet of this interface.
+-- The step of a packet of this interface, whose frame starts at byte 20.
 abbrev pub frame_on : Option Interface → Bool → ℕ → ℕ → ℕ → ℕ → Result Step FileFault
 frame_on None big high low size original = Err fault.Interface
 frame_on (Some interface) big high low size original =
@@ -203,7 +234,7 @@ frame_on (Some interface) big high low size original =
           event.Frame
           (record {
             link = interface.link;
-            time = tick_micros interface.resolution high low;
+            time = moved_by interface.offset (tick_micros interface.resolution high low);
             start = 20;
             end = 20 + size;
             whole = nat_le original size;
@@ -211,10 +242,15 @@ frame_on (Some interface) big high low size original =
       change = Keep;
     })
 
--- An enhanced packet with these fields.
+-- The step of a packet, of which the block has this many bytes from byte 20 on.
+abbrev pub frame_for : Option Interface → Bool → ℕ → ℕ → ℕ → ℕ → ℕ → Result Step FileFault
+frame_for interface big high low size original room =
+    if nat_lt room size then Err fault.Length else frame_on interface big high low size original
+
+-- A packet with these fields.
 abbrev pub packet_with : List (Option Interface) → Bool → ℕ → Option ℕ → Option ℕ → Option ℕ → Option ℕ → Option ℕ → Result Step FileFault
 packet_with interfaces big long (Some number) (Some high) (Some low) (Some size) (Some original) =
-    if nat_lt (long - 20) size then Err fault.Length else frame_on (described interfaces number) big high low size original
+    frame_for (described interfaces number) big high low size original (long - 20)
 packet_with interfaces big long _ _ _ _ _ = Err fault.Length
 
 -- The step of an enhanced packet: interface, time, recorded size, original size.
@@ -223,34 +259,75 @@ packet_step interfaces big inner =
     packet_with interfaces big (length inner) (long_at big 0 inner) (long_at big 4 inner) (long_at big 8 inner) (long_at big 12 inner)
     (long_at big 16 inner)
 
--- The step of a block by its type; an unknown block is skipped.
-abbrev pub inner_step : List (Option Interface) → Bool → ℕ → List ℕ → Result Step FileFault
-inner_step interfaces big kind inner =
-    if nat_eq kind 1 then interface_step interfaces big inner
-    else if nat_eq kind 6 then packet_step interfaces big inner
+-- The step of an obsolete packet: interface, time, recorded size, original size.
+abbrev pub obsolete_step : List (Option Interface) → Bool → List ℕ → Result Step FileFault
+obsolete_step interfaces big inner =
+    packet_with interfaces big (length inner) (short_at big 0 inner) (long_at big 4 inner) (long_at big 8 inner) (long_at big 12 inner)
+    (long_at big 16 inner)
+
+-- How many bytes of a simple packet are in its block: at most its original size, the limit of its interface if that is not 0, and the room of the block.
+abbrev pub simple_size : ℕ → ℕ → ℕ → ℕ
+simple_size limit original room = if nat_eq limit 0 then min room original else min room (min original limit)
+
+-- The step of a simple packet of this interface, whose frame starts at byte 4 and has the time of the frame before it.
+abbrev pub simple_on : Option Interface → ℕ → Bool → ℕ → ℕ → Result Step FileFault
+simple_on None last big original room = Err fault.Interface
+simple_on (Some interface) last big original room =
+    Ok
+    (record {
+      part = Block big;
+      event =
+          event.Frame
+          (record {
+            link = interface.link;
+            time = last;
+            start = 4;
+            end = 4 + simple_size interface.limit original room;
+            whole = nat_le original (simple_size interface.limit original room);
+          });
+      change = Keep;
+    })
+
+-- A simple packet with this original size.
+abbrev pub simple_with : Option Interface → ℕ → Bool → ℕ → Option ℕ → Result Step FileFault
+simple_with interface last big long (Some original) = simple_on interface last big original (long - 4)
+simple_with interface last big long None = Err fault.Length
+
+-- The step of a simple packet, which is of the first interface.
+abbrev pub simple_step : List (Option Interface) → ℕ → Bool → List ℕ → Result Step FileFault
+simple_step interfaces last big inner = simple_with (described interfaces 0) last big (length inner) (long_at big 0 inner)
+
+-- The step of a block by its type; any other block is skipped.
+abbrev pub inner_step : Recording → Bool → ℕ → List ℕ → Result Step FileFault
+inner_step r big kind inner =
+    if nat_eq kind 1 then interface_step r.interfaces big inner
+    else if nat_eq kind 2 then obsolete_step r.interfaces big inner
+    else if nat_eq kind 3 then simple_step r.interfaces r.last big inner
+    else if nat_eq kind 6 then packet_step r.interfaces big inner
     else Ok (part_after (Block big))
 
 -- The step of the rest of a block, with the length again at its end.
-abbrev pub cut_step : List (Option Interface) → Bool → ℕ → ℕ → List ℕ → Result Step FileFault
-cut_step interfaces big kind size octets =
+abbrev pub cut_step : Recording → Bool → ℕ → ℕ → List ℕ → Result Step FileFault
+cut_step r big kind size octets =
     if not (is_number (long_at big (size - 12) octets) size) || nat_lt (length octets) (size - 12) then Err fault.Trailer
-    else inner_step interfaces big kind (take (size - 12) octets)
+    else inner_step r big kind (take (size - 12) octets)
 
 -- The step of the part that comes next.
-abbrev pub step_at : FilePart → List (Option Interface) → List ℕ → Result Step FileFault
-step_at Start interfaces octets = Ok (start_step octets)
-step_at (Head form) interfaces octets = head_step form octets
-step_at (Record form link) interfaces octets = record_step form link octets
-step_at (Body form link time size whole) interfaces octets = Ok (body_step form link time size whole octets)
-step_at Section interfaces octets = section_step octets
-step_at (Order size) interfaces octets = order_step size octets
-step_at (Opening big size) interfaces octets = head_of_section big size octets
-step_at (Block big) interfaces octets = block_step big octets
-step_at (Rest big kind size) interfaces octets = cut_step interfaces big kind size octets
+abbrev pub step_at : FilePart → Recording → List ℕ → Result Step FileFault
+step_at Start r octets = Ok (start_step octets)
+step_at (Head form) r octets = head_step form octets
+step_at (Record form link) r octets = record_step form link octets
+step_at (Body form link time size whole) r octets = Ok (body_step form link time size whole octets)
+step_at Section r octets = section_step octets
+step_at (Order size) r octets = order_step size octets
+step_at (Opening big size) r octets = head_of_section big size octets
+step_at (Block big) r octets = block_step big octets
+step_at (Rest big kind size) r octets = cut_step r big kind size octets
+step_at (Skipped big left size) r octets = skip_step big left size octets
 
 -- The step that a recording makes with these bytes.
 abbrev pub step_of : Recording → List ℕ → Result Step FileFault
-step_of r octets = step_at r.part r.interfaces octets
+step_of r octets = step_at r.part r octets
 
 -- The content of a step, or its fault.
 abbrev pub event_of : Result Step FileFault → Result BlockContent FileFault
@@ -268,7 +345,14 @@ interfaces_after interfaces Keep = interfaces
 interfaces_after interfaces Clear = none_described
 interfaces_after interfaces (Add interface) = added_at (at_first_free interfaces) interface interfaces
 
+-- The time of the last frame after a block.
+abbrev pub last_after : ℕ → BlockContent → ℕ
+last_after last (event.Frame f) = f.time
+last_after last event.Nothing = last
+last_after last event.Text = last
+
 -- The recording after a step; a fault changes nothing.
 abbrev pub going_on : Recording → Result Step FileFault → Recording
-going_on r (Ok s) = record { part = s.part; interfaces = interfaces_after r.interfaces s.change }
+going_on r (Ok s) =
+    record { part = s.part; interfaces = interfaces_after r.interfaces s.change; last = last_after r.last s.event }
 going_on r (Err fault) = r

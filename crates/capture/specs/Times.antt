@@ -1,42 +1,85 @@
--- The unit of an interface's times, and times in it.
-use Rattle.std.specs.Prelude.{ℕ, ◌+◌, ◌-◌, ◌*◌, ◌/◌, ◌%◌, ◌^◌, ◌&&◌, ◌||◌, Bool, nat_eq, nat_lt, nat_le, min, List, fold, if◌then◌else◌, Option, Some}
-use Rattle.capture.specs.Places.{octet_at, short_at}
+-- The options of an interface: the unit and the offset of its times, and times in them.
+use Rattle.std.specs.Prelude.{ℕ, ◌+◌, ◌-◌, ◌*◌, ◌/◌, ◌%◌, ◌^◌, ◌&&◌, ◌||◌, ◌==◌, Bool, nat_eq, nat_lt, nat_le, min, List, fold, if◌then◌else◌, Option, Some, None}
+use Rattle.capture.specs.Places.{long_at, octet_at, short_at}
+use Rattle.capture.specs.declared.interfaces.TimeOffset.{TimeOffset}
+use Rattle.capture.specs.declared.interfaces.TimeOffset.TheVariants.{Later, Earlier}
 use Rattle.capture.specs.declared.interfaces.Walk.{Walk}
 use Rattle.capture.specs.declared.interfaces.Walk.TheVariants.{At, Found, Ended}
-
--- An option, by its code, length and the first byte of its value. Code 0 ends the options, and code 9 with one byte is the unit of times. After any other,
--- the next option follows the value, which is padded to a multiple of four bytes.
-abbrev pub resolution_with : ℕ → Option ℕ → Option ℕ → Option ℕ → Walk
-resolution_with place (Some code) (Some size) (Some value) =
-    if nat_eq code 0 then Ended
-    else if nat_eq code 9 && nat_eq size 1 then Found value
-    else At (min (place + (4 + (size + 3) / 4 * 4)) (2 ^ 64 - 1))
-resolution_with place _ _ _ = Ended
 
 -- A place further on, limited to 2^64 - 1.
 abbrev pub above : ℕ → ℕ → ℕ
 above place more = min (place + more) (2 ^ 64 - 1)
 
+-- An option, by its code and size. Code 0 ends the options, and the wanted one is found at its value. After any other, the next option follows the value,
+-- which is padded to a multiple of four bytes.
+abbrev pub option_with : ℕ → ℕ → ℕ → Option ℕ → Option ℕ → Walk
+option_with code size place (Some c) (Some s) =
+    if nat_eq c 0 then Ended
+    else if (c == code) && (s == size) then Found (above place 4)
+    else At (above place (4 + (s + 3) / 4 * 4))
+option_with code size place _ _ = Ended
+
 -- The option at a place, in the byte order of the file.
-abbrev pub resolution_seen : Bool → List ℕ → ℕ → Walk
-resolution_seen big inner place =
-    resolution_with place (short_at big place inner) (short_at big (above place 2) inner) (octet_at (above place 4) inner)
+abbrev pub option_seen : Bool → ℕ → ℕ → List ℕ → ℕ → Walk
+option_seen big code size inner place = option_with code size place (short_at big place inner) (short_at big (above place 2) inner)
 
 -- The walk after one more option.
-abbrev pub option_step : Bool → List ℕ → Walk → Walk
-option_step big inner (At place) = resolution_seen big inner place
-option_step big inner (Found resolution) = Found resolution
-option_step big inner Ended = Ended
+abbrev pub option_step : Bool → ℕ → ℕ → List ℕ → Walk → Walk
+option_step big code size inner (At place) = option_seen big code size inner place
+option_step big code size inner (Found place) = Found place
+option_step big code size inner Ended = Ended
 
--- The unit of a walk: microseconds (6) if none was found.
-abbrev pub walked_out : Walk → ℕ
-walked_out (Found resolution) = resolution
-walked_out (At place) = 6
-walked_out Ended = 6
+-- The place that a walk found.
+abbrev pub found_at : Walk → Option ℕ
+found_at (Found place) = Some place
+found_at (At place) = None
+found_at Ended = None
 
--- The unit in the options of a description, from the eighth byte on; microseconds if no option has it.
+-- The place of the value of the first option with this code and size in a description, from the eighth byte on.
+abbrev pub option_of : Bool → ℕ → ℕ → List ℕ → Option ℕ
+option_of big code size inner = found_at (fold (λ walk octet. option_step big code size inner walk) (At 8) inner)
+
+-- A unit that was read; microseconds (6) if there is none.
+abbrev pub unit_or_micros : Option ℕ → ℕ
+unit_or_micros (Some resolution) = resolution
+unit_or_micros None = 6
+
+-- The unit at the place of its option.
+abbrev pub resolution_at : List ℕ → Option ℕ → ℕ
+resolution_at inner (Some place) = unit_or_micros (octet_at place inner)
+resolution_at inner None = 6
+
+-- The unit in the options of a description: the option 9 of one byte.
 abbrev pub resolution_of : Bool → List ℕ → ℕ
-resolution_of big inner = walked_out (fold (λ walk octet. option_step big inner walk) (At 8) inner)
+resolution_of big inner = resolution_at inner (option_of big 9 1 inner)
+
+-- The offset of a signed number of 64 bits in two halves.
+abbrev pub offset_with : ℕ → ℕ → TimeOffset
+offset_with high low =
+    if nat_lt high (2 ^ 31) then Later (high * 2 ^ 32 + low) else Earlier (2 ^ 64 - (high * 2 ^ 32 + low))
+
+-- The offset of eight bytes in this order; 0 if there are too few.
+abbrev pub offset_between : Bool → Option ℕ → Option ℕ → TimeOffset
+offset_between big (Some front) (Some back) = if big then offset_with front back else offset_with back front
+offset_between big _ _ = Later 0
+
+-- The offset in the eight bytes at a place.
+abbrev pub offset_from : Bool → List ℕ → ℕ → TimeOffset
+offset_from big inner place = offset_between big (long_at big place inner) (long_at big (above place 4) inner)
+
+-- The offset at the place of its option.
+abbrev pub offset_at : Bool → List ℕ → Option ℕ → TimeOffset
+offset_at big inner (Some place) = offset_from big inner place
+offset_at big inner None = Later 0
+
+-- The offset in the options of a description: the option 14 of eight bytes.
+abbrev pub offset_of : Bool → List ℕ → TimeOffset
+offset_of big inner = offset_at big inner (option_of big 14 8 inner)
+
+-- A time with an offset, in microseconds.
+abbrev pub moved_by : TimeOffset → ℕ → ℕ
+moved_by (Later seconds) micros = above micros (min (seconds * 1000000) (2 ^ 64 - 1))
+moved_by (Earlier seconds) micros = micros - min (seconds * 1000000) (2 ^ 64 - 1)
 
 -- The units in which times can be read: 10^0 to 10^-19 seconds, and 2^0 to 2^-40.
 abbrev pub is_unit : ℕ → Bool

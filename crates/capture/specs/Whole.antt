@@ -1,5 +1,7 @@
 -- A whole capture, datagram by datagram.
 use Rattle.std.specs.Prelude.{ℕ, ◌==◌, ◌&&◌, Bool, List, fold, length, slice_index_or, is_none, if◌then◌else◌}
+use Rattle.safe_pdu.specs.declared.SafeFault.{SafeFault}
+use Rattle.safe_pdu.specs.declared.SafeFault.TheVariants as fault
 use Rattle.capture.specs.declared.heard.Heard.{Heard}
 use Rattle.capture.specs.declared.heard.Heard.TheVariants as heard
 use Rattle.capture.specs.declared.line.Record.{Record}
@@ -30,6 +32,17 @@ abbrev pub damaged_after : ℕ → Heard → ℕ
 damaged_after damaged (heard.Pdu seq h) = damaged
 damaged_after damaged (heard.NoSafe seq fault) = counted damaged 1
 damaged_after damaged (heard.NoRed fault) = counted damaged 1
+
+-- How many datagrams have a wrong safety code, after one with this fault.
+abbrev pub miscoded_with : ℕ → SafeFault → ℕ
+miscoded_with miscoded fault.Code = counted miscoded 1
+miscoded_with miscoded _ = miscoded
+
+-- How many datagrams have a wrong safety code, after this one.
+abbrev pub miscoded_after : ℕ → Heard → ℕ
+miscoded_after miscoded (heard.Pdu seq h) = miscoded
+miscoded_after miscoded (heard.NoSafe seq why) = miscoded_with miscoded why
+miscoded_after miscoded (heard.NoRed why) = miscoded
 
 -- The PDU needs a further connection and there is no room: one is forgotten.
 abbrev pub forgets : List Connection → Header → Bool

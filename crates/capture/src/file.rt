@@ -3,22 +3,26 @@
 //! The caller reads as many bytes as `wants` returns, and hands them to `take`. After a fault a recording cannot go
 //! on, since the place of the next block is unknown.
 //!
-//! pcap files may have either byte order and either unit of time. Of pcapng, section headers, interfaces and enhanced
-//! packets are read. Other blocks are skipped, simple packets too, since they have no time. The offset of an
-//! interface's times is not read.
+//! pcap files may have either byte order and either unit of time. Of pcapng, section headers, interfaces and packets
+//! (enhanced, simple, and the obsolete block) are read; other blocks are skipped, however long they are. A simple
+//! packet has no time: it gets that of the frame before it.
 
 ghost use Rattle.std.specs.Prelude.{◌≡◌, ◌<◌, ◌≤◌, ◌+◌, ◌^◌, length, IfOk, IfSome};
-ghost use Rattle.capture.specs.Recordings.{EndsWithin, at_first_free, block_step, body_step, cut_step, described, event_of, going_on, head_of_section, head_step, interface_step, interfaces_after, micros_of, opened, order_step, packet_step, part_after, record_step, section_step, size_step, sized_block, start_step, step_of, text_step, wanted};
+ghost use Rattle.capture.specs.Recordings.{EndsWithin, at_first_free, block_step, body_step, cut_step, event_of, going_on, head_of_section, head_step, interface_step, interfaces_after, is_read, last_after, long_block, micros_of, opened, order_step, part_after, record_step, section_step, size_step, sized_block, skip_step, start_step, step_of, text_step, wanted};
 
 use crate::frame::Link;
-use crate::interfaces::{Interface, is_readable, micros, resolution};
+use crate::interfaces::{Interface, is_readable, offset, resolution};
+use crate::packets::{enhanced, obsolete, simple};
 use crate::places::{big, four, long, short};
 
-/// Largest block, in bytes. Recorders cut frames at 262,144.
+/// Largest block that is read, in bytes. Recorders cut frames at 262,144.
 pub const BLOCK_MAX: u32 = 524_288;
 
+/// How many bytes of a block that is not read are skipped at once.
+pub const SKIPPED_AT_ONCE: u32 = 65_536;
+
 /// Largest number of interfaces in a section of a pcapng file.
-pub const INTERFACES: usize = 16;
+pub const INTERFACES: usize = 64;
 
 /// The form of a pcap file, the same for all its records.
 #[derive(Clone, Copy, Debug, PartialEq, Eq)]
@@ -50,6 +54,8 @@ pub enum FilePart {
     Block(bool),
     /// The rest of a block, with the byte order, its type and its length.
     Rest(bool, u32, u32),
+    /// More of a block that is not read, with the byte order, how many bytes of its content are left, and its length.
+    Skipped(bool, u32, u32),
 }
 
 /// A frame in the bytes of its block.
@@ -57,7 +63,7 @@ pub enum FilePart {
 pub struct Framed {
     /// Its link header, if it is known here.
     pub link: Option<Link>,
-    /// When it was recorded, in whole microseconds since 1970.
+    /// When it was recorded, in whole microseconds since 1970; of a frame without a time, that of the one before it.
     pub time: u64,
     /// The place of its first byte in the block.
     pub start: usize,
@@ -126,6 +132,8 @@ pub struct Recording {
     pub part: FilePart,
     /// The interfaces of the section, in order.
     pub interfaces: [Option<Interface>; INTERFACES],
+    /// The time of the last frame, in microseconds; 0 before the first.
+    pub last: u64,
 }
 
 impl Recording {
@@ -137,6 +145,7 @@ impl Recording {
         Recording {
             part: FilePart::Start,
             interfaces: [None; INTERFACES],
+            last: 0,
         }
     }
 
@@ -153,6 +162,13 @@ impl Recording {
             FilePart::Opening(_, size) => size.saturating_sub(12),
             FilePart::Block(_) => 8,
             FilePart::Rest(_, _, size) => size.saturating_sub(8),
+            FilePart::Skipped(_, left, _) => {
+                if left == 0 {
+                    4
+                } else {
+                    left.min(SKIPPED_AT_ONCE)
+                }
+            }
         }
     }
 
@@ -173,8 +189,8 @@ impl Recording {
         requires { length octets.now ≤ 2 ^ 32 }
         // The content is that of the step (`step_of`) that the next part makes with these bytes, or its first fault.
         ensures event { result ≡ event_of (step_of self.old octets.now) }
-        // After a block, the next part and the interfaces are those of the step; after a fault nothing has changed
-        // (`going_on`).
+        // After a block, the next part, the interfaces and the last time are those of the step; after a fault nothing
+        // has changed (`going_on`).
         ensures next { self.new ≡ going_on self.old (step_of self.old octets.now) }
         // A frame is within the bytes of its block, and its start is not after its end.
         ensures within { IfOk result (EndsWithin octets.now) }
@@ -183,6 +199,7 @@ impl Recording {
             Ok(step) => {
                 self.part = step.part;
                 apply(&mut self.interfaces, step.change);
+                self.last = time_after(self.last, &step.event);
                 Ok(step.event)
             }
             Err(fault) => Err(fault),
@@ -209,7 +226,19 @@ fn take_step(recording: &Recording, octets: &[u8]) -> Result<Step, FileFault>
         FilePart::Order(size) => order(&size, octets),
         FilePart::Opening(big, size) => opening(big, size, octets),
         FilePart::Block(big) => block(big, octets),
-        FilePart::Rest(big, kind, size) => rest(&recording.interfaces, big, kind, size, octets),
+        FilePart::Rest(big, kind, size) => rest(recording, big, kind, size, octets),
+        FilePart::Skipped(big, left, size) => skip(big, left, size, octets),
+    }
+}
+
+/// Returns the time of the last frame after a block.
+fn time_after(last: u64, event: &BlockContent) -> u64
+    // The result is the time of the block's frame, and `last` if it has none.
+    ensures { result ≡ last_after last event.now }
+{
+    match event {
+        BlockContent::Frame(framed) => framed.time,
+        BlockContent::Nothing | BlockContent::Text => last,
     }
 }
 
@@ -437,8 +466,8 @@ fn opening(big: bool, size: u32, octets: &[u8]) -> Result<Step, FileFault>
 /// Reads the type and length of a block. The length of a section header is kept as bytes, since the section has its
 /// own byte order.
 fn block(big: bool, octets: &[u8]) -> Result<Step, FileFault>
-    // A section's type leads to its byte order mark. Any other block must have a length of at least 12 (`Length`),
-    // and its rest follows (`block_with`).
+    // A section's type leads to its byte order mark. A block that is read must have a length from 12 to `BLOCK_MAX`,
+    // any other only one of at least 12 (`Length`); its rest follows (`block_with`).
     ensures step { result ≡ block_step big octets.now }
     // The head of a block contains no frame.
     ensures within { IfOk result (λ step. EndsWithin octets.now step.event) }
@@ -455,24 +484,64 @@ fn block(big: bool, octets: &[u8]) -> Result<Step, FileFault>
     if kind == SECTION {
         return Ok(on_to(FilePart::Order(raw)));
     }
+    if !has_content(kind) {
+        if !is_long_enough(size) {
+            return Err(FileFault::Length);
+        }
+        return Ok(on_to(FilePart::Skipped(big, size.saturating_sub(12), size)));
+    }
     if !is_sized(12, size) {
         return Err(FileFault::Length);
     }
     Ok(on_to(FilePart::Rest(big, kind, size)))
 }
 
+/// Returns `true` for the types of blocks that are read.
+fn has_content(kind: u32) -> bool
+    // These are an interface (1), and the obsolete, the simple and the enhanced packet (2, 3, 6).
+    ensures { result ≡ is_read kind }
+{
+    kind == 1 || kind == 2 || kind == 3 || kind == 6
+}
+
+/// Returns `true` if a block that is not read may have this length.
+fn is_long_enough(size: u32) -> bool
+    // The length is at least 12, and a multiple of four.
+    ensures { result ≡ long_block size }
+{
+    12 <= size && size % 4 == 0
+}
+
+/// Skips more of a block that is not read, or checks the length after it.
+fn skip(big: bool, left: u32, size: u32, octets: &[u8]) -> Result<Step, FileFault>
+    // As long as bytes are left, fewer are left afterwards. Then the length at the end must be the same (`Trailer`),
+    // and the next block follows (`skip_step`).
+    ensures step { result ≡ skip_step big left size octets.now }
+    // A block that is not read contains no frame.
+    ensures within { IfOk result (λ step. EndsWithin octets.now step.event) }
+{
+    if left != 0 {
+        let left = left.saturating_sub(SKIPPED_AT_ONCE);
+        return Ok(on_to(FilePart::Skipped(big, left, size)));
+    }
+    if long(big, octets, 0) != Some(size) {
+        return Err(FileFault::Trailer);
+    }
+    Ok(on_to(FilePart::Block(big)))
+}
+
 /// Reads the rest of a block: its content, and the length again.
 fn rest(
-    interfaces: &[Option<Interface>; INTERFACES],
+    recording: &Recording,
     big: bool,
     kind: u32,
     size: u32,
     octets: &[u8],
 ) -> Result<Step, FileFault>
     requires { length octets.now ≤ 2 ^ 32 }
-    // The length at the end must be the same (`Trailer`). An interface and an enhanced packet are read, any other
-    // block is skipped (`inner_step`).
-    ensures step { result ≡ cut_step interfaces.now big kind size octets.now }
+    // The length at the end must be the same (`Trailer`). An interface and the packets are read by their own
+    // definitions (`inner_step`).
+    ensures step { result ≡ cut_step recording.now big kind size octets.now }
     // A frame in the rest of a block is within it.
     ensures within { IfOk result (λ step. EndsWithin octets.now step.event) }
 {
@@ -482,20 +551,22 @@ fn rest(
     }
     let (inner, _) = octets.split_at(end);
     match kind {
-        1 => describe(interfaces, big, inner),
-        6 => enhanced(interfaces, big, inner),
+        1 => describe(&recording.interfaces, big, inner),
+        2 => obsolete(&recording.interfaces, big, inner),
+        3 => simple(&recording.interfaces, recording.last, big, inner),
+        6 => enhanced(&recording.interfaces, big, inner),
         _ => Ok(on_to(FilePart::Block(big))),
     }
 }
 
-/// Reads the description of an interface: its link header, and the unit of its times.
+/// Reads the description of an interface: its link header, its limit, and the unit and offset of its times.
 fn describe(
     interfaces: &[Option<Interface>; INTERFACES],
     big: bool,
     inner: &[u8],
 ) -> Result<Step, FileFault>
-    // Fewer than 8 bytes are `Length`, an unreadable unit is `Resolution`, a seventeenth interface is `Interfaces`;
-    // otherwise it is added (`interface_with`).
+    // Fewer than 8 bytes are `Length`, an unreadable unit is `Resolution`, a 65th interface is `Interfaces`; otherwise
+    // it is added (`interface_with`).
     ensures step { result ≡ interface_step interfaces.now big inner.now }
     // The description of an interface has no content.
     ensures within { IfOk result (λ step. step.event ≡ BlockContent.Nothing) }
@@ -503,9 +574,9 @@ fn describe(
     let Some(link) = short(big, inner, 0) else {
         return Err(FileFault::Length);
     };
-    if inner.len() < 8 {
+    let Some(limit) = long(big, inner, 4) else {
         return Err(FileFault::Length);
-    }
+    };
     let unit = resolution(big, inner);
     if !is_readable(unit) {
         return Err(FileFault::Resolution);
@@ -519,67 +590,10 @@ fn describe(
         change: Change::Add(Interface {
             link: Link::numbered(link as u32),
             resolution: unit,
+            offset: offset(big, inner),
+            limit,
         }),
     })
-}
-
-/// Reads an enhanced packet block: the frame of an interface, with its time.
-fn enhanced(
-    interfaces: &[Option<Interface>; INTERFACES],
-    big: bool,
-    inner: &[u8],
-) -> Result<Step, FileFault>
-    requires { length inner.now ≤ 2 ^ 32 }
-    // Too few bytes, or a frame beyond the block, are `Length`. An interface that is not described is `Interface`.
-    // Otherwise the frame starts at byte 20 (`packet_with`, `frame_on`).
-    ensures step { result ≡ packet_step interfaces.now big inner.now }
-    // The frame of an enhanced packet is within the `inner` bytes.
-    ensures within { IfOk result (λ step. EndsWithin inner.now step.event) }
-{
-    let Some(number) = long(big, inner, 0) else {
-        return Err(FileFault::Length);
-    };
-    let Some(high) = long(big, inner, 4) else {
-        return Err(FileFault::Length);
-    };
-    let Some(low) = long(big, inner, 8) else {
-        return Err(FileFault::Length);
-    };
-    let Some(size) = long(big, inner, 12) else {
-        return Err(FileFault::Length);
-    };
-    let Some(original) = long(big, inner, 16) else {
-        return Err(FileFault::Length);
-    };
-    if size as usize > inner.len() - 20 {
-        return Err(FileFault::Length);
-    }
-    match described_at(interfaces, number) {
-        None => Err(FileFault::Interface),
-        Some(interface) => Ok(Step {
-            part: FilePart::Block(big),
-            event: BlockContent::Frame(Framed {
-                link: interface.link,
-                time: micros(interface.resolution, high, low),
-                start: 20,
-                end: 20 + size as usize,
-                whole: original <= size,
-            }),
-            change: Change::Keep,
-        }),
-    }
-}
-
-/// Returns the interface with this number.
-fn described_at(interfaces: &[Option<Interface>; INTERFACES], number: u32) -> Option<Interface>
-    // The result is the interface at this place; `None` for a number of `INTERFACES` or more (`described`).
-    ensures { result ≡ described interfaces.now number }
-{
-    let place = number as usize;
-    if place < INTERFACES {
-        return interfaces[place];
-    }
-    None
 }
 
 /// Returns the first place without an interface.

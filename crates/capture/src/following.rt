@@ -4,7 +4,7 @@
 //! the window is stale and changes only its count, so a copy on a slow channel is not a restart.
 
 ghost use Rattle.std.specs.Prelude.{◌≡◌, [], IfOk, fold};
-ghost use Rattle.capture.specs.Whole.{connections_after, counted_in, damaged_after, forgotten_after, forgotten_with, gone_after, gone_with, no_totals, remark_of, totals_of, window_counted};
+ghost use Rattle.capture.specs.Whole.{connections_after, counted_in, damaged_after, forgotten_after, forgotten_with, gone_after, gone_with, miscoded_after, miscoded_with, no_totals, remark_of, totals_of, window_counted};
 ghost use Rattle.capture.specs.Numbers.{counted};
 
 use crate::connections::{Connection, Connections, Entry, follow, has_no_room, note_damage};
@@ -25,6 +25,8 @@ pub struct Following {
     pub datagrams: u64,
     /// How many of them were not a PDU.
     pub damaged: u64,
+    /// How many of those have a wrong safety code.
+    pub miscoded: u64,
     /// The sums over the connections that were forgotten.
     pub gone: Totals,
     /// How many connections were forgotten for lack of room.
@@ -72,6 +74,8 @@ impl Following {
         ensures datagrams { IfOk result (λ following. following.datagrams ≡ 0) }
         // No damaged datagram is counted in a new `Following`.
         ensures damaged { IfOk result (λ following. following.damaged ≡ 0) }
+        // No datagram with a wrong safety code is counted in a new `Following`.
+        ensures miscoded { IfOk result (λ following. following.miscoded ≡ 0) }
         // A new `Following` has no sums of forgotten connections.
         ensures gone { IfOk result (λ following. following.gone ≡ no_totals) }
         // A new `Following` has forgotten no connection.
@@ -81,6 +85,7 @@ impl Following {
             connections: Connections::new(alloc)?,
             datagrams: 0,
             damaged: 0,
+            miscoded: 0,
             gone: new_totals(),
             forgotten: 0,
         })
@@ -99,6 +104,8 @@ impl Following {
         ensures datagrams { self.new.datagrams ≡ counted self.old.datagrams 1 }
         // The count of damaged datagrams grows by 1 exactly if the datagram is not a PDU.
         ensures damaged { self.new.damaged ≡ damaged_after self.old.damaged heard.now }
+        // The count of datagrams with a wrong safety code grows by 1 exactly if this one has such a code.
+        ensures miscoded { self.new.miscoded ≡ miscoded_after self.old.miscoded heard.now }
         // If a connection is forgotten, its sums are added to those of the forgotten ones.
         ensures gone { self.new.gone ≡ gone_after self.old.gone self.old.connections heard.now }
         // If a connection is forgotten, the count of forgotten ones grows by 1.
@@ -115,6 +122,7 @@ impl Following {
             }
             Heard::NoSafe(seq, fault) => {
                 self.damaged = self.damaged.saturating_add(1);
+                self.miscoded = count_miscoded(self.miscoded, fault);
                 note_damage(&mut self.connections, record);
                 Remark::NoSafe(seq, fault)
             }
@@ -124,6 +132,17 @@ impl Following {
                 Remark::NoRed(fault)
             }
         }
+    }
+}
+
+/// Returns the count of datagrams with a wrong safety code after one that is not a safety PDU.
+fn count_miscoded(miscoded: u64, fault: SafeFault) -> u64
+    // The count grows by 1 exactly if the `fault` is that of the code (`miscoded_with`).
+    ensures { result ≡ miscoded_with miscoded fault }
+{
+    match fault {
+        SafeFault::Code => miscoded.saturating_add(1),
+        _ => miscoded,
     }
 }
 

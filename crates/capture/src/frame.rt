@@ -1,13 +1,15 @@
-//! The UDP datagram in a recorded frame: Ethernet with VLAN tags (IEEE 802.3, 802.1Q), the cooked headers of Linux,
-//! raw IP and loopback; IPv4 (RFC 791), IPv6 (RFC 8200) and UDP (RFC 768).
+//! The UDP datagram in a recorded frame: Ethernet (IEEE 802.3), the cooked headers of Linux, raw IP and loopback; what
+//! may come before an IP packet (`wrapping`); IPv4 (RFC 791), IPv6 (RFC 8200) and UDP (RFC 768).
 //!
-//! Fragments are not joined. Up to two VLAN tags and up to five IPv6 headers before UDP are skipped.
+//! Fragments are not joined. Up to five headers before an IP packet, one IPv4 packet around it, and up to five IPv6
+//! headers before UDP are skipped.
 
 ghost use Rattle.std.specs.Prelude.{◌≡◌, ◌≤◌, ◌<◌, ◌^◌, ◌+◌, length, IfOk, IfSome};
-ghost use Rattle.capture.specs.Frames.{behind_tag, family_kind, found_in, in_packet, is_family, is_tag, kind_at, link_of, loopback_at, packet_of, raw_at, tagged, version_kind};
-ghost use Rattle.capture.specs.Packets.{behind_fragment, behind_header, behind_options, in_ipv4, in_ipv6, in_udp, is_fragment, is_passed, is_piece, udp_between, upper_of};
+ghost use Rattle.capture.specs.Frames.{family_kind, found_in, in_packet, is_family, link_of, loopback_at, no_packet, packet_of, raw_at, version_kind};
+ghost use Rattle.capture.specs.Packets.{behind_fragment, behind_header, behind_options, behind_ipv4, in_behind, in_ipv4, in_ipv6, in_udp, is_fragment, is_passed, is_piece, is_tunnel, ipv4_of, no_datagram, size_of, udp_between, udp_of, upper_of};
 
 use crate::places::{big, four, octet, sixteen};
+use crate::wrapping::{IPV4, IPV6, NOTHING, Packet, has_frame, kind, unwrap_packet};
 use crate::{Address, Host};
 
 /// The link header of a frame.
@@ -19,7 +21,7 @@ pub enum Link {
     Cooked,
     /// The second cooked header of Linux (SLL2), LINKTYPE 276.
     Cooked2,
-    /// No link header, only an IP packet: LINKTYPE 101 and 228.
+    /// No link header, only an IP packet: LINKTYPE 12, 14, 101 and 228.
     Raw,
     /// An address family in four bytes, LINKTYPE 0 and 108.
     Loopback,
@@ -28,13 +30,13 @@ pub enum Link {
 impl Link {
     /// Returns the link header of a LINKTYPE number, if it is known here.
     pub fn numbered(number: u32) -> Option<Link>
-        // Known are exactly 0, 1, 101, 108, 113, 228 and 276, with the link headers of `link_of`.
+        // Known are exactly 0, 1, 12, 14, 101, 108, 113, 228 and 276, with the link headers of `link_of`.
         ensures { result ≡ link_of number }
     {
         match number {
             0 | 108 => Some(Link::Loopback),
             1 => Some(Link::Ethernet),
-            101 | 228 => Some(Link::Raw),
+            12 | 14 | 101 | 228 => Some(Link::Raw),
             113 => Some(Link::Cooked),
             276 => Some(Link::Cooked2),
             _ => None,
@@ -60,27 +62,16 @@ pub struct Found {
 pub enum Passed {
     /// The frame ends before its headers do.
     Truncated,
-    /// It carries something other than UDP over IP, or has more than five IPv6 headers before it.
-    Other,
+    /// It carries no IP packet.
+    NoIp,
+    /// It carries an IP packet without UDP, or with more than five IPv6 headers before it.
+    NoUdp,
+    /// It carries a packet within another one that is not read, or more than five headers before it.
+    Tunnel,
     /// It is a fragment of a datagram.
     Fragment,
     /// A length in its headers does not fit the others.
     Length,
-}
-
-/// The EtherType of IPv4.
-const IPV4: u16 = 0x0800;
-
-/// The EtherType of IPv6.
-const IPV6: u16 = 0x86dd;
-
-/// The packet after a link header.
-#[derive(Clone, Copy, Debug, PartialEq, Eq)]
-pub(crate) struct Packet {
-    /// Its EtherType.
-    pub kind: u16,
-    /// The place in the frame of its first byte.
-    pub place: usize,
 }
 
 /// Finds the UDP datagram in a frame. `octets` may contain any bytes.
@@ -90,13 +81,15 @@ pub(crate) struct Packet {
 /// /// Returns the first that applies, layer by layer from the front:
 /// ///
 /// /// - `Truncated` if a header is not complete, or the datagram ends after the frame;
-/// /// - `Other` if the packet is not IPv4 or IPv6, or carries something other than UDP;
+/// /// - `NoIp` if there is no IPv4 or IPv6 packet;
+/// /// - `NoUdp` if the packet carries something other than UDP;
+/// /// - `Tunnel` if it carries a packet that is not read;
 /// /// - `Fragment` if the packet is a fragment;
 /// /// - `Length` if the version or a length in a header does not fit.
 pub fn find_datagram(link: Link, octets: &[u8]) -> Result<Found, Passed>
     requires { length octets.now < 2 ^ 32 }
     // The result is the places of `found_in`, or the first reason why there is no datagram. Those are the places of a
-    // UDP payload in IPv4 or in IPv6, after up to five further headers.
+    // UDP payload in IPv4 or in IPv6, after up to five further headers; IPv4 may also carry one more IP packet.
     ensures found { result ≡ found_in link octets.now }
     // The payload ends within the frame, so the caller may cut it out.
     ensures fits { IfOk result (λ found. found.end ≤ length octets.now) }
@@ -112,8 +105,8 @@ pub fn find_datagram(link: Link, octets: &[u8]) -> Result<Found, Passed>
 /// Reads the packet by its EtherType.
 fn read_packet(octets: &[u8], packet: Packet) -> Result<Found, Passed>
     requires near { packet.place < 2 ^ 33 }
-    // IPv4 and IPv6 packets are read by their own definitions; for any other EtherType the result is `Other`
-    // (`in_packet`).
+    // IPv4 and IPv6 packets are read by their own definitions; for any other EtherType the result is `Tunnel` or
+    // `NoIp` (`in_packet`).
     ensures found { result ≡ in_packet octets.now packet }
     // If a datagram is found in the `packet`, it ends within the `octets`.
     ensures fits { IfOk result (λ found. found.end ≤ length octets.now) }
@@ -123,69 +116,38 @@ fn read_packet(octets: &[u8], packet: Packet) -> Result<Found, Passed>
     match packet.kind {
         IPV4 => read_ipv4(octets, packet.place),
         IPV6 => read_ipv6(octets, packet.place),
-        _ => Err(Passed::Other),
+        kind => Err(pass_packet(kind)),
+    }
+}
+
+/// Returns why a packet with this EtherType is passed over.
+fn pass_packet(kind: u16) -> Passed
+    // A packet that may have a further frame in it is a tunnel; any other is no IP packet (`no_packet`).
+    ensures { result ≡ no_packet kind }
+{
+    if has_frame(kind) {
+        Passed::Tunnel
+    } else {
+        Passed::NoIp
     }
 }
 
 /// Returns the packet of a frame; `None` if the link header is not complete.
 fn find_packet(link: Link, octets: &[u8]) -> Option<Packet>
     requires { length octets.now < 2 ^ 32 }
-    // The packet is that of `packet_of`: after the header of this `link`, and after up to two VLAN tags for Ethernet
-    // and the cooked headers.
+    // The packet is that of `packet_of`: after the header of this `link`, and after up to five further headers for
+    // Ethernet and the cooked headers.
     ensures packet { result ≡ packet_of link octets.now }
     // The place of a packet is small, so that sums of places do not overflow.
     ensures near { IfSome result (λ packet. packet.place < 2 ^ 33) }
 {
     match link {
-        Link::Ethernet => untag(octets, kind(octets, 12, 14)?),
-        Link::Cooked => untag(octets, kind(octets, 14, 16)?),
-        Link::Cooked2 => untag(octets, kind(octets, 0, 20)?),
+        Link::Ethernet => unwrap_packet(octets, kind(octets, 12, 14)?),
+        Link::Cooked => unwrap_packet(octets, kind(octets, 14, 16)?),
+        Link::Cooked2 => unwrap_packet(octets, kind(octets, 0, 20)?),
         Link::Raw => raw(octets),
         Link::Loopback => loopback(octets),
     }
-}
-
-/// Returns the packet at `place`, whose EtherType is at `at`.
-fn kind(octets: &[u8], at: usize, place: usize) -> Option<Packet>
-    // There is a packet if the two bytes of the EtherType are there.
-    ensures { result ≡ kind_at at place octets.now }
-{
-    let kind = big(octets, at)?;
-    Some(Packet { kind, place })
-}
-
-/// Skips up to two VLAN tags.
-fn untag(octets: &[u8], packet: Packet) -> Option<Packet>
-    requires near { packet.place ≤ 20 }
-    // The result is the packet after the first two tags, as far as the `packet` has tags (`tagged`).
-    ensures packet { result ≡ tagged octets.now packet }
-    // The place after both tags stays below 2^33.
-    ensures near { IfSome result (λ packet. packet.place < 2 ^ 33) }
-{
-    let inner = untag_once(octets, packet)?;
-    untag_once(octets, inner)
-}
-
-/// Skips a VLAN tag; a packet without one is returned as it is.
-fn untag_once(octets: &[u8], packet: Packet) -> Option<Packet>
-    requires near { packet.place ≤ 24 }
-    // After a tag, the EtherType is 2 bytes further on, and the packet 4 bytes (`behind_tag`).
-    ensures packet { result ≡ behind_tag octets.now packet }
-    // A tag moves the place by at most 4 bytes.
-    ensures near { IfSome result (λ inner. inner.place ≤ packet.place + 4) }
-{
-    if has_tag(packet.kind) {
-        return kind(octets, packet.place + 2, packet.place + 4);
-    }
-    Some(packet)
-}
-
-/// Returns `true` for the EtherTypes of VLAN tags (802.1Q, 802.1ad, and the older 0x9100).
-fn has_tag(kind: u16) -> bool
-    // Exactly 0x8100, 0x88a8 and 0x9100 are tags.
-    ensures { result ≡ is_tag kind }
-{
-    kind == 0x8100 || kind == 0x88a8 || kind == 0x9100
 }
 
 /// Returns the packet of a frame without a link header, by its IP version.
@@ -202,13 +164,13 @@ fn raw(octets: &[u8]) -> Option<Packet>
 
 /// Returns the EtherType of an IP version.
 fn of_version(version: u8) -> u16
-    // The result is that of IPv4 for 4, of IPv6 for 6, and 0 for any other version.
+    // The result is that of IPv4 for 4, of IPv6 for 6, and `NOTHING` for any other version.
     ensures { result ≡ version_kind version }
 {
     match version {
         4 => IPV4,
         6 => IPV6,
-        _ => 0,
+        _ => NOTHING,
     }
 }
 
@@ -227,7 +189,7 @@ fn loopback(octets: &[u8]) -> Option<Packet>
 
 /// Returns the EtherType of an address family.
 fn of_family(high: u16, low: u16) -> u16
-    // Family 2 is IPv4; 24, 28 and 30 are IPv6; for any other the result is 0 (`family_kind`).
+    // Family 2 is IPv4; 24, 28 and 30 are IPv6; for any other the result is `NOTHING` (`family_kind`).
     ensures { result ≡ family_kind high low }
 {
     if stands(high, low, 2) {
@@ -235,7 +197,7 @@ fn of_family(high: u16, low: u16) -> u16
     } else if stands(high, low, 24) || stands(high, low, 28) || stands(high, low, 30) {
         IPV6
     } else {
-        0
+        NOTHING
     }
 }
 
@@ -248,16 +210,75 @@ fn stands(high: u16, low: u16, family: u16) -> bool
     high == 0 && low == family || high == family * 256 && low == 0
 }
 
+/// The header of an IPv4 packet.
+#[derive(Clone, Copy, Debug, PartialEq, Eq)]
+pub(crate) struct V4Header {
+    /// The number of the protocol that it carries.
+    pub protocol: u8,
+    /// It is one of several fragments.
+    pub is_part: bool,
+    /// The address of its sender.
+    pub source: [u8; 4],
+    /// The address that it was sent to.
+    pub destination: [u8; 4],
+    /// The place in the frame of the first byte after the header.
+    pub start: usize,
+    /// The place after the last byte of the packet.
+    pub end: usize,
+}
+
 /// Reads the IPv4 packet at a place.
 fn read_ipv4(octets: &[u8], place: usize) -> Result<Found, Passed>
     requires near { place < 2 ^ 33 }
-    // The header's version and lengths, then the protocol, then the fragment fields are checked, in this order; then
-    // UDP is read (`in_ipv4`).
+    // The header is read; then UDP, or the packet of IPv4 or IPv6 that it carries (`in_ipv4`).
     ensures found { result ≡ in_ipv4 octets.now place }
     // A datagram in an IPv4 packet ends within the `octets`.
     ensures fits { IfOk result (λ found. found.end ≤ length octets.now) }
     // A datagram in an IPv4 packet has its start not after its end.
     ensures order { IfOk result (λ found. found.start ≤ found.end) }
+{
+    let header = read_v4_header(octets, place)?;
+    match header.protocol {
+        WITHIN_V4 => {
+            let start = pass_v4_header(&header)?;
+            read_inner_ipv4(octets, start)
+        }
+        WITHIN_V6 => {
+            let start = pass_v4_header(&header)?;
+            read_ipv6(octets, start)
+        }
+        _ => read_udp_after(octets, &header),
+    }
+}
+
+/// The protocol number of IPv4 within another packet.
+const WITHIN_V4: u8 = 4;
+
+/// The protocol number of IPv6 within another packet.
+const WITHIN_V6: u8 = 41;
+
+/// Reads the IPv4 packet at a place within another IPv4 packet.
+fn read_inner_ipv4(octets: &[u8], place: usize) -> Result<Found, Passed>
+    requires near { place < 2 ^ 33 + 2 ^ 7 }
+    // The header is read, then UDP; one more packet within it is not read (`in_behind`).
+    ensures found { result ≡ in_behind octets.now (ipv4_of octets.now place) }
+    // A datagram in an inner packet ends within the `octets`.
+    ensures fits { IfOk result (λ found. found.end ≤ length octets.now) }
+    // A datagram in an inner packet has its start not after its end.
+    ensures order { IfOk result (λ found. found.start ≤ found.end) }
+{
+    let header = read_v4_header(octets, place)?;
+    read_udp_after(octets, &header)
+}
+
+/// Reads the header of the IPv4 packet at a place.
+fn read_v4_header(octets: &[u8], place: usize) -> Result<V4Header, Passed>
+    requires near { place < 2 ^ 33 + 2 ^ 7 }
+    // A header that is not complete is `Truncated`; another version, or a length that does not fit, is `Length`
+    // (`ipv4_of`).
+    ensures header { result ≡ ipv4_of octets.now place }
+    // The header has at most 60 bytes.
+    ensures near { IfOk result (λ header. header.start ≤ place + 60) }
 {
     let Some(first) = octet(octets, place) else {
         return Err(Passed::Truncated);
@@ -277,23 +298,79 @@ fn read_ipv4(octets: &[u8], place: usize) -> Result<Found, Passed>
     let Some(destination) = four(octets, place + 16) else {
         return Err(Passed::Truncated);
     };
-    let header = first as usize % 16 * 4;
-    if first / 16 != 4 || header < 20 || (total as usize) < header {
+    let size = first as usize % 16 * 4;
+    let total = whole_size(total);
+    if first / 16 != 4 || size < 20 || (total as usize) < size {
         return Err(Passed::Length);
     }
-    if protocol != 17 {
-        return Err(Passed::Other);
-    }
-    if has_parts(flags) {
+    Ok(V4Header {
+        protocol,
+        is_part: has_parts(flags),
+        source,
+        destination,
+        start: place + size,
+        end: place + total as usize,
+    })
+}
+
+/// Returns the size of an IPv4 packet by its total length.
+fn whole_size(total: u16) -> u16
+    // A length of 0 is that of a packet which the network card completes: it has at most 65,535 bytes (`size_of`).
+    ensures { result ≡ size_of total }
+{
+    if total == 0 { 65_535 } else { total }
+}
+
+/// Returns the place of the packet that an IPv4 packet carries.
+fn pass_v4_header(header: &V4Header) -> Result<usize, Passed>
+    // A fragment is `Fragment`; of any other packet the result is the place after the header (`behind_ipv4`).
+    ensures { result ≡ behind_ipv4 header.now }
+{
+    if header.is_part {
         return Err(Passed::Fragment);
     }
-    read_udp(
-        octets,
-        Host::V4(source),
-        Host::V4(destination),
-        place + header,
-        place + total as usize,
-    )
+    Ok(header.start)
+}
+
+/// Reads the UDP datagram after the header of an IPv4 packet.
+fn read_udp_after(octets: &[u8], header: &V4Header) -> Result<Found, Passed>
+    requires near { header.now.start < 2 ^ 34 }
+    // The protocol must be UDP, then the packet must not be a fragment; then UDP is read (`udp_of`).
+    ensures found { result ≡ udp_of octets.now header.now }
+    // A datagram after the `header` ends within the `octets`.
+    ensures fits { IfOk result (λ found. found.end ≤ length octets.now) }
+    // A datagram after the `header` has its start not after its end.
+    ensures order { IfOk result (λ found. found.start ≤ found.end) }
+{
+    if header.protocol != UDP {
+        return Err(pass_protocol(header.protocol));
+    }
+    let start = pass_v4_header(header)?;
+    let (source, destination) = (Host::V4(header.source), Host::V4(header.destination));
+    read_udp(octets, source, destination, start, header.end)
+}
+
+/// Returns why a packet with this protocol is passed over.
+fn pass_protocol(protocol: u8) -> Passed
+    // A protocol that carries a further packet is a tunnel; any other is something without UDP (`no_datagram`).
+    ensures { result ≡ no_datagram protocol }
+{
+    if carries_packet(protocol) {
+        Passed::Tunnel
+    } else {
+        Passed::NoUdp
+    }
+}
+
+/// Returns `true` for the protocols that carry a further packet.
+fn carries_packet(protocol: u8) -> bool
+    // These are IP (4, 41), GRE (47), ESP (50), AH (51), Ethernet (97, 143), L2TP (115) and MPLS (137).
+    ensures { result ≡ is_tunnel protocol }
+{
+    match protocol {
+        4 | 41 | 47 | 50 | 51 | 97 | 115 | 137 | 143 => true,
+        _ => false,
+    }
 }
 
 /// Returns `true` if a packet is a fragment: more follow, or its offset is not 0.
@@ -306,9 +383,9 @@ fn has_parts(flags: u16) -> bool
 
 /// Reads the IPv6 packet at a place.
 fn read_ipv6(octets: &[u8], place: usize) -> Result<Found, Passed>
-    requires near { place < 2 ^ 33 }
-    // The version is checked, up to five headers are skipped, and UDP is read; any other header is `Other`
-    // (`in_ipv6`).
+    requires near { place < 2 ^ 33 + 2 ^ 7 }
+    // The version is checked, up to five headers are skipped, and UDP is read; any other header is `NoUdp` or
+    // `Tunnel` (`in_ipv6`).
     ensures found { result ≡ in_ipv6 octets.now place }
     // A datagram in an IPv6 packet ends within the `octets`.
     ensures fits { IfOk result (λ found. found.end ≤ length octets.now) }
@@ -336,7 +413,7 @@ fn read_ipv6(octets: &[u8], place: usize) -> Result<Found, Passed>
     let start = place + 40;
     let upper = find_upper(octets, Upper { kind, place: start })?;
     if upper.kind != UDP {
-        return Err(Passed::Other);
+        return Err(pass_protocol(upper.kind));
     }
     let (source, destination) = (Host::V6(source), Host::V6(destination));
     read_udp(
@@ -429,8 +506,8 @@ fn pass_options(octets: &[u8], place: usize) -> Result<Upper, Passed>
 /// Skips the header of a fragment that is a whole packet (RFC 6946).
 fn pass_fragment(octets: &[u8], place: usize) -> Result<Upper, Passed>
     requires near { place < 2 ^ 34 }
-    // A real fragment is `Fragment` if UDP or a skipped header follows, otherwise `Other`. A whole packet goes on 8
-    // bytes later (`behind_fragment`).
+    // A real fragment is `Fragment` if UDP or a skipped header follows, otherwise `NoUdp` or `Tunnel`. A whole packet
+    // goes on 8 bytes later (`behind_fragment`).
     ensures upper { result ≡ behind_fragment octets.now place }
     // A fragment header moves the place by at most 2,048 bytes.
     ensures near { IfOk result (λ next. next.place ≤ place + 2048) }
@@ -450,7 +527,7 @@ fn pass_fragment(octets: &[u8], place: usize) -> Result<Upper, Passed>
     if kind == UDP || is_option(kind) {
         return Err(Passed::Fragment);
     }
-    Err(Passed::Other)
+    Err(pass_protocol(kind))
 }
 
 /// Returns `true` if a fragment is one of several: more follow, or its offset is not 0.

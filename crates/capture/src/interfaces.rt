@@ -1,10 +1,10 @@
-//! The interfaces of a pcapng file, and the unit of their times.
+//! The interfaces of a pcapng file, and the unit and offset of their times.
 
 ghost use Rattle.std.specs.Prelude.{◌≡◌};
-ghost use Rattle.capture.specs.Times.{binary_micros, decimal_micros, is_unit, option_step, resolution_of, resolution_seen, ten_to, tick_micros, walked_out};
+ghost use Rattle.capture.specs.Times.{binary_micros, decimal_micros, found_at, is_unit, moved_by, offset_from, offset_of, offset_with, option_of, option_seen, option_step, resolution_of, ten_to, tick_micros};
 
 use crate::frame::Link;
-use crate::places::{octet, short};
+use crate::places::{long, octet, short};
 
 /// An interface that a pcapng file describes.
 #[derive(Clone, Copy, Debug, PartialEq, Eq)]
@@ -14,6 +14,19 @@ pub struct Interface {
     /// The unit of its times (`if_tsresol`): below 128 a power of ten, from 128 on a power of two; 6 (microseconds)
     /// if no option names it.
     pub resolution: u8,
+    /// What is added to its times (`if_tsoffset`).
+    pub offset: TimeOffset,
+    /// The largest number of bytes that are kept of a frame; 0 if there is no limit.
+    pub limit: u32,
+}
+
+/// What is added to the times of an interface, in seconds.
+#[derive(Clone, Copy, Debug, PartialEq, Eq)]
+pub enum TimeOffset {
+    /// The times are later by this number of seconds.
+    Later(u64),
+    /// The times are earlier by this number of seconds.
+    Earlier(u64),
 }
 
 /// How far the options of an interface were read.
@@ -21,11 +34,26 @@ pub struct Interface {
 pub(crate) enum Walk {
     /// The next option is at this place.
     At(usize),
-    /// The option with the unit of times was found.
-    Found(u8),
+    /// The value of the wanted option is at this place.
+    Found(usize),
     /// There are no more options.
     Ended,
 }
+
+/// The code and the size of a wanted option.
+#[derive(Clone, Copy, Debug, PartialEq, Eq)]
+pub(crate) struct Wanted {
+    /// Its code.
+    pub code: u16,
+    /// The size of its value in bytes.
+    pub size: u16,
+}
+
+/// The option `if_tsresol`.
+const RESOLUTION: Wanted = Wanted { code: 9, size: 1 };
+
+/// The option `if_tsoffset`.
+const OFFSET: Wanted = Wanted { code: 14, size: 8 };
 
 /// Returns the unit of times from the options after the first eight bytes of a description; 6 if no option has it.
 pub(crate) fn resolution(big: bool, inner: &[u8]) -> u8
@@ -33,41 +61,110 @@ pub(crate) fn resolution(big: bool, inner: &[u8]) -> u8
     // one (`resolution_of`).
     ensures { result ≡ resolution_of big inner.now }
 {
+    match find_option(big, inner, RESOLUTION) {
+        None => 6,
+        Some(place) => match octet(inner, place) {
+            None => 6,
+            Some(resolution) => resolution,
+        },
+    }
+}
+
+/// Returns the offset of times from the options after the first eight bytes of a description; 0 if no option has it.
+pub(crate) fn offset(big: bool, inner: &[u8]) -> TimeOffset
+    // The result is the value of the first option 14 of eight bytes, from the eighth byte on; 0 if the options end
+    // before one (`offset_of`).
+    ensures { result ≡ offset_of big inner.now }
+{
+    match find_option(big, inner, OFFSET) {
+        None => TimeOffset::Later(0),
+        Some(place) => offset_at(big, inner, place),
+    }
+}
+
+/// Returns the offset in the eight bytes at a place.
+fn offset_at(big: bool, inner: &[u8], place: usize) -> TimeOffset
+    // The first four bytes are the upper half of a big-endian number, and the lower half of any other; too few bytes
+    // are an offset of 0 (`offset_from`).
+    ensures { result ≡ offset_from big inner.now place }
+{
+    let Some(front) = long(big, inner, place) else {
+        return TimeOffset::Later(0);
+    };
+    let Some(back) = long(big, inner, place.saturating_add(4)) else {
+        return TimeOffset::Later(0);
+    };
+    if big {
+        offset_between(front, back)
+    } else {
+        offset_between(back, front)
+    }
+}
+
+/// Returns the offset of a signed number of 64 bits in two halves.
+fn offset_between(high: u32, low: u32) -> TimeOffset
+    // With the upper bit set, the number is negative, and the offset is its distance from 2^64.
+    ensures { result ≡ offset_with high low }
+{
+    let number = high as u64 * 4_294_967_296 + low as u64;
+    if high < 2_147_483_648 {
+        TimeOffset::Later(number)
+    } else {
+        TimeOffset::Earlier(u64::MAX - number + 1)
+    }
+}
+
+/// Returns the time of a frame with the offset of its interface, in microseconds.
+pub(crate) fn shift(offset: TimeOffset, micros: u64) -> u64
+    // The seconds of the `offset` are added or subtracted; the result is limited to 0 and 2^64 - 1 (`moved_by`).
+    ensures { result ≡ moved_by offset micros }
+{
+    match offset {
+        TimeOffset::Later(seconds) => micros.saturating_add(seconds.saturating_mul(1_000_000)),
+        TimeOffset::Earlier(seconds) => micros.saturating_sub(seconds.saturating_mul(1_000_000)),
+    }
+}
+
+/// Returns the place of the value of the first wanted option, from the eighth byte on.
+fn find_option(big: bool, inner: &[u8], wanted: Wanted) -> Option<usize>
+    // The options are read one by one until the wanted one is found or they end (`option_of`).
+    ensures { result ≡ option_of big wanted.code wanted.size inner.now }
+{
     // Each option has at least four bytes, so there are no more options than bytes.
     let walk = inner
         .iter()
-        .fold(Walk::At(8), |walk, _| option(big, inner, walk));
-    unit_found(walk)
+        .fold(Walk::At(8), |walk, _| option(big, inner, wanted, walk));
+    place_found(walk)
 }
 
-/// Returns the unit that was found, or microseconds.
-fn unit_found(walk: Walk) -> u8
-    // The result is the unit found; it is 6 if no option had one (`walked_out`).
-    ensures { result ≡ walked_out walk }
+/// Returns the place of the option that was found.
+fn place_found(walk: Walk) -> Option<usize>
+    // The result is the place found, and `None` if the walk found no option.
+    ensures { result ≡ found_at walk }
 {
     match walk {
-        Walk::Found(resolution) => resolution,
-        Walk::At(_) | Walk::Ended => 6,
+        Walk::Found(place) => Some(place),
+        Walk::At(_) | Walk::Ended => None,
     }
 }
 
 /// Reads one more option: code, length, and a value padded to a multiple of four bytes.
-fn option(big: bool, inner: &[u8], walk: Walk) -> Walk
-    // A walk that has ended or has found the unit does not change; otherwise the option at its place is read
+fn option(big: bool, inner: &[u8], wanted: Wanted, walk: Walk) -> Walk
+    // A walk that has ended or has found the option does not change; otherwise the option at its place is read
     // (`option_step`).
-    ensures { result ≡ option_step big inner.now walk }
+    ensures { result ≡ option_step big wanted.code wanted.size inner.now walk }
 {
     match walk {
-        Walk::At(place) => option_at(big, inner, place),
+        Walk::At(place) => option_at(big, inner, wanted, place),
         Walk::Found(_) | Walk::Ended => walk,
     }
 }
 
 /// Reads the option at a place.
-fn option_at(big: bool, inner: &[u8], place: usize) -> Walk
-    // Code 0, or too few bytes, ends the options; code 9 with one byte is the unit. Any other option is skipped
-    // together with its padding (`resolution_seen`).
-    ensures { result ≡ resolution_seen big inner.now place }
+fn option_at(big: bool, inner: &[u8], wanted: Wanted, place: usize) -> Walk
+    // Code 0, or too few bytes, ends the options; the wanted code with the wanted size is found. Any other option is
+    // skipped together with its padding (`option_seen`).
+    ensures { result ≡ option_seen big wanted.code wanted.size inner.now place }
 {
     let Some(code) = short(big, inner, place) else {
         return Walk::Ended;
@@ -75,14 +172,11 @@ fn option_at(big: bool, inner: &[u8], place: usize) -> Walk
     let Some(size) = short(big, inner, place.saturating_add(2)) else {
         return Walk::Ended;
     };
-    let Some(value) = octet(inner, place.saturating_add(4)) else {
-        return Walk::Ended;
-    };
     if code == 0 {
         return Walk::Ended;
     }
-    if code == 9 && size == 1 {
-        return Walk::Found(value);
+    if code == wanted.code && size == wanted.size {
+        return Walk::Found(place.saturating_add(4));
     }
     let filled = (size as usize + 3) / 4 * 4;
     Walk::At(place.saturating_add(4 + filled))
@@ -115,7 +209,7 @@ fn decimal(power: u8, ticks: u64) -> u64
 }
 
 /// Returns a power of ten, up to the 13th.
-fn ten_to_the(power: u8) -> u64
+pub(crate) fn ten_to_the(power: u8) -> u64
     // The result is 10 to the `power`; from 13 on it is always 10^13.
     ensures { result ≡ ten_to power }
 {

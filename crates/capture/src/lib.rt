@@ -13,14 +13,17 @@ mod file;
 mod following;
 mod frame;
 mod heard;
+mod instants;
 mod interfaces;
 mod law;
 mod line;
+mod packets;
 mod places;
 mod ports;
 mod sessions;
 mod window;
 mod words;
+mod wrapping;
 
 pub use connections::{CONNECTIONS, Connection, Connections, Entry, Route, follow};
 pub use direction::{
@@ -29,11 +32,13 @@ pub use direction::{
 };
 pub use file::{
     BLOCK_MAX, BlockContent, FileFault, FileForm, FilePart, Framed, INTERFACES, Recording,
+    SKIPPED_AT_ONCE,
 };
 pub use following::{Following, Remark, Totals, sum_up};
 pub use frame::{Found, Link, Passed, find_datagram};
 pub use heard::{Header, Heard, hear};
-pub use interfaces::Interface;
+pub use instants::{Instant, Span, is_between, read_instant};
+pub use interfaces::{Interface, TimeOffset};
 pub use law::sums_law;
 pub use line::{Address, Buffer, Host, LineFault, PAYLOAD_ROOM, Record, read_line};
 pub use ports::{PortRange, Ports, RANGES, is_followed, read_ports};

@@ -12,7 +12,7 @@ use Rattle.capture.specs.declared.line.LineFault.TheVariants.{Long}
 use Rattle.capture.specs.Numbers.{counted}
 use Rattle.capture_text.specs.FaultText.{fault_text}
 use Rattle.capture_text.specs.Steps.{without_end}
-use Rattle.capture_text.specs.Capture.{Read, line_printed, line_told, lines_printed, lines_told, text_printed, text_told, with_line, with_lines, with_long, with_text}
+use Rattle.capture_text.specs.Capture.{Read, line_printed, line_told, lines_printed, lines_told, read_printed, sums_printed, text_printed, text_told, with_line, with_lines, with_long, with_read, with_sums, with_text}
 
 -- The first line is the text up to and with the first line feed.
 step_at : (b : Bool) (front xs : List ℕ) (x : ℕ)
@@ -53,14 +53,19 @@ by_length f x line = ⊎_elim
     (λ short. ap (λ l. cond (is_long l) x (f l)) (short_front line short))
     (cases_Bool (is_long line))
 
+after_alike : (a : Asked) (r : Read) (line : List ℕ) → with_read a r (cut line) ≡ with_read a r line
+after_alike a r line = by_length (λ l. with_text a r (without_end l)) (with_long r) line
+
 printed_alike : (a : Asked) (r : Read) (line : List ℕ) → line_printed a r (cut line) ≡ line_printed a r line
-printed_alike a r line = by_length (λ l. text_printed a r (without_end l)) [] line
+printed_alike a r line =
+    ap (λ l. l ++ sums_printed a (with_read a r (cut line))) (by_length (λ l. text_printed a r (without_end l)) [] line)
+    ∙ ap (λ s. read_printed a r line ++ sums_printed a s) (after_alike a r line)
 
 told_alike : (a : Asked) (r : Read) (line : List ℕ) → line_told a r (cut line) ≡ line_told a r line
 told_alike a r line = by_length (λ l. text_told a r (without_end l)) (fault_text (counted r.lines 1) Long) line
 
 read_alike : (a : Asked) (r : Read) (line : List ℕ) → with_line a r (cut line) ≡ with_line a r line
-read_alike a r line = by_length (λ l. with_text a r (without_end l)) (with_long r) line
+read_alike a r line = ap (with_sums a) (after_alike a r line)
 
 -- If the bytes are known: the remaining lines lead from the state, text and faults so far to those of all lines.
 abbrev pub Leads : Asked → Option (List ℕ) → Option (List ℕ) → Read → Read → Option (List ℕ) → Option (List ℕ) → Option (List ℕ)

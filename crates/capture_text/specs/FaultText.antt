@@ -1,10 +1,11 @@
 -- The line that is printed for a line or frame that is not a datagram.
-use Rattle.std.specs.Prelude.{ℕ, ◌==◌, ◌&&◌, ◌||◌, Bool, nat_eq, List, [], ◌∷◌, codes, slice_index, if◌then◌else◌, Option, Some, None}
+use Rattle.std.specs.Prelude.{ℕ, ◌==◌, ◌&&◌, ◌||◌, Bool, true, false, not, nat_eq, List, [], ◌∷◌, codes, slice_index, if◌then◌else◌, Option, Some, None}
 use Rattle.std.specs.Fmt.{decimal}
 use Rattle.capture.specs.declared.file.FileFault.{FileFault}
 use Rattle.capture.specs.declared.file.FileFault.TheVariants as file
 use Rattle.capture.specs.declared.line.LineFault.{LineFault}
 use Rattle.capture.specs.declared.line.LineFault.TheVariants.{Fields, Time, Source, Destination, Long, Payload}
+use Rattle.capture.specs.Numbers.{counted}
 use Rattle.pdu_text.specs.Lines.{joined}
 use Rattle.capture_text.specs.declared.running.ForeignForm.{ForeignForm}
 use Rattle.capture_text.specs.declared.running.ForeignForm.TheVariants.{Gzip, Zstd, Snoop, ModifiedPcap}
@@ -82,3 +83,21 @@ forgotten_text forgotten =
 -- The line about forgotten connections, if there are any.
 abbrev pub forgotten_told : ℕ → List ℕ
 forgotten_told forgotten = if nat_eq forgotten 0 then [] else forgotten_text forgotten
+
+-- The line about datagrams that all have a wrong safety code.
+unfoldable pub miscoded_text : ℕ → List ℕ
+miscoded_text miscoded =
+    joined (codes "datagrams: all " ∷ decimal miscoded ∷ codes " have another safety code; choose it by --code or --iv\n" ∷ [])
+
+-- All datagrams have a wrong safety code.
+abbrev pub are_miscoded : ℕ → ℕ → Bool
+are_miscoded datagrams miscoded = not (nat_eq miscoded 0) && nat_eq miscoded datagrams
+
+-- The line about datagrams that all have a wrong safety code, if they have.
+abbrev pub miscoded_told : ℕ → ℕ → List ℕ
+miscoded_told datagrams miscoded = if are_miscoded datagrams miscoded then miscoded_text miscoded else []
+
+-- How many faults a capture had: unreadable lines, forgotten connections, and datagrams with a wrong safety code if all have one.
+abbrev pub faults_in : ℕ → ℕ → Bool → ℕ → ℕ
+faults_in unreadable forgotten true miscoded = counted (counted unreadable forgotten) miscoded
+faults_in unreadable forgotten false miscoded = counted unreadable forgotten

@@ -18,6 +18,7 @@ use Rattle.capture.specs.Sessions.{session_sums}
 use Rattle.pdu_text.specs.Lines.{joined}
 use Rattle.capture_text.specs.declared.summary.CaptureCounts.{CaptureCounts}
 use Rattle.capture_text.specs.declared.summary.Scale.{Scale}
+use Rattle.capture_text.specs.Passing.{passed_json}
 use Rattle.capture_text.specs.Pieces.{address_text}
 use Rattle.capture_text.specs.Sentence.{longest_in, lost_on_all, oldest_in, up_of}
 use Rattle.capture_text.specs.SummaryText.{datagrams_of}
@@ -223,16 +224,20 @@ connections_json (c ∷ cs) = connection_json c ++ more_json cs
 
 -- The first time and T_max, at the start of the object.
 unfoldable pub scale_json : Scale → List ℕ
-scale_json s = codes "{\"first\":" ++ time_json s.first ++ joined (codes ",\"t_max\":" ∷ decimal s.t_max ∷ codes ",\"all\":{\"datagrams\":" ∷ [])
+scale_json s = codes "{\"first\":" ++ time_json s.clock.first ++ joined (codes ",\"t_max\":" ∷ decimal s.t_max ∷ codes ",\"all\":{\"datagrams\":" ∷ [])
 
--- The counts over the whole capture, and the start of the list of connections.
+-- The counts over the whole capture.
 unfoldable pub counts_json : CaptureCounts → List ℕ
 counts_json c =
     joined
     (codes ",\"damaged\":" ∷ decimal c.damaged ∷ codes ",\"forgotten\":" ∷ decimal c.forgotten ∷ codes ",\"unreadable\":"
-    ∷ decimal c.unreadable ∷ codes "},\"connections\":[" ∷ [])
+    ∷ decimal c.unreadable ∷ codes ",\"frames\":" ∷ decimal c.frames ∷ [])
+
+-- The sums of all connections, and the start of their list.
+unfoldable pub all_json : Totals → CaptureCounts → List ℕ
+all_json t c =
+    decimal c.datagrams ++ numbers_json t ++ counts_json c ++ passed_json c.passed ++ codes "},\"connections\":["
 
 -- The whole object.
 unfoldable pub sums_json : Scale → List Connection → Totals → CaptureCounts → List ℕ
-sums_json s cs t c =
-    scale_json s ++ decimal c.datagrams ++ numbers_json t ++ counts_json c ++ connections_json cs ++ codes "]}\n"
+sums_json s cs t c = scale_json s ++ all_json t c ++ connections_json cs ++ codes "]}\n"

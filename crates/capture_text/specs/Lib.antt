@@ -1,3 +1,4 @@
+pub mod Dates
 pub mod Pieces
 pub mod Reasons
 pub mod RemarkText
@@ -10,7 +11,9 @@ pub mod SummaryText
 pub mod Json
 pub mod FaultText
 pub mod Telegrams
+pub mod Passing
 pub mod Steps
 pub mod FrameSteps
 pub mod Lines
 pub mod Capture
+pub mod Stops

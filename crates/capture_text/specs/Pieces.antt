@@ -4,6 +4,11 @@ use Rattle.std.specs.Fmt.{decimal}
 use Rattle.std.specs.Net.Addr.{segments_of}
 use Rattle.std.specs.Net.Text.{ipv6_text}
 use Rattle.pdu_text.specs.Lines.{joined}
+use Rattle.capture_text.specs.Dates.{date_of}
+use Rattle.capture_text.specs.declared.dates.Date.{Date}
+use Rattle.capture_text.specs.declared.pieces.Clock.{Clock}
+use Rattle.capture_text.specs.declared.pieces.TimeForm.{TimeForm}
+use Rattle.capture_text.specs.declared.pieces.TimeForm.TheVariants.{Since, Epoch, Utc}
 use Rattle.capture.specs.declared.line.Address.{Address}
 use Rattle.capture.specs.declared.line.Host.{Host}
 use Rattle.capture.specs.declared.line.Host.TheVariants.{V4, V6}
@@ -21,9 +26,36 @@ unfoldable pub duration_text : ℕ → List ℕ
 duration_text micros = joined (decimal (micros / 1000000) ∷ codes "." ∷ six_digits (micros % 1000000) ∷ [])
 
 -- The time since the first one, after a minus sign if it is earlier.
-unfoldable pub since_text : ℕ → ℕ → List ℕ
-since_text first time =
+unfoldable pub difference_text : ℕ → ℕ → List ℕ
+difference_text first time =
     if nat_lt time first then codes "-" ++ duration_text (first - time) else duration_text (time - first)
+
+-- Month, day and time of day after a year: two digits for each but six for the microseconds, as in ISO 8601, in UTC.
+abbrev pub moment_digits : Date → ℕ → List ℕ
+moment_digits d micros =
+    45 ∷ digit 10 d.month ∷ digit 1 d.month ∷ 45 ∷ digit 10 d.day ∷ digit 1 d.day ∷ 84 ∷ digit 10 (micros / 1000000 / 3600)
+    ∷ digit 1 (micros / 1000000 / 3600) ∷ 58 ∷ digit 10 (micros / 1000000 / 60 % 60) ∷ digit 1 (micros / 1000000 / 60 % 60) ∷ 58
+    ∷ digit 10 (micros / 1000000 % 60) ∷ digit 1 (micros / 1000000 % 60) ∷ 46 ∷ digit 100000 (micros % 1000000)
+    ∷ digit 10000 (micros % 1000000) ∷ digit 1000 (micros % 1000000) ∷ digit 100 (micros % 1000000) ∷ digit 10 (micros % 1000000)
+    ∷ digit 1 (micros % 1000000) ∷ 90 ∷ []
+
+-- A date and a time of day in UTC.
+unfoldable pub moment_text : Date → ℕ → List ℕ
+moment_text d micros = joined (decimal d.year ∷ moment_digits d micros ∷ [])
+
+-- A time as date and time of day in UTC.
+unfoldable pub utc_text : ℕ → List ℕ
+utc_text micros = moment_text (date_of (micros / 86400000000)) (micros % 86400000000)
+
+-- A time in this form.
+abbrev pub time_in : TimeForm → ℕ → ℕ → List ℕ
+time_in Since first time = difference_text first time
+time_in Epoch first time = duration_text time
+time_in Utc first time = utc_text time
+
+-- A time in the form of a clock.
+abbrev pub since_text : Clock → ℕ → List ℕ
+since_text c time = time_in c.form c.first time
 
 -- The remark on an age or a wait that reached T_max.
 abbrev pub reached_text : ℕ → ℕ → List ℕ

@@ -12,12 +12,13 @@ use Rattle.capture.specs.declared.heard.Header.{Header}
 use Rattle.capture.specs.declared.line.Record.{Record}
 use Rattle.pdu_text.specs.Lines.{joined}
 use Rattle.capture_text.specs.declared.summary.Scale.{Scale}
+use Rattle.capture_text.specs.declared.pieces.Clock.{Clock}
 use Rattle.capture_text.specs.Pieces.{address_text, channel_text, ends_text, since_text}
 use Rattle.capture_text.specs.RemarkText.{remarks_text}
 
 -- The time of a datagram, and its line in the capture.
-unfoldable pub head_text : ℕ → ℕ → Record → List ℕ
-head_text first line r = joined (since_text first r.time ∷ codes " line " ∷ decimal line ∷ codes " " ∷ [])
+unfoldable pub head_text : Clock → ℕ → Record → List ℕ
+head_text clock line r = joined (since_text clock r.time ∷ codes " line " ∷ decimal line ∷ codes " " ∷ [])
 
 -- The redundancy number, type and header fields of a PDU.
 unfoldable pub fields_text : ℕ → Header → List ℕ
@@ -67,4 +68,4 @@ remark_text t_max r (NoRed fault) = no_red_text r fault
 
 -- The whole line of a datagram.
 unfoldable pub record_text : Scale → ℕ → Record → Remark → List ℕ
-record_text s line r m = joined (head_text s.first line r ∷ remark_text s.t_max r m ∷ codes "\n" ∷ [])
+record_text s line r m = joined (head_text s.clock line r ∷ remark_text s.t_max r m ∷ codes "\n" ∷ [])

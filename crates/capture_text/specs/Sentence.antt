@@ -12,6 +12,7 @@ use Rattle.capture.specs.Numbers.{counted}
 use Rattle.capture.specs.Sessions.{session_sums}
 use Rattle.pdu_text.specs.Lines.{joined}
 use Rattle.capture_text.specs.declared.summary.Scale.{Scale}
+use Rattle.capture_text.specs.declared.pieces.Clock.{Clock}
 use Rattle.capture_text.specs.Pieces.{reached_text, since_text}
 use Rattle.capture_text.specs.TableText.{lost_text}
 
@@ -42,8 +43,8 @@ up_of d e =
     else None
 
 -- The time of the last PDU.
-unfoldable pub last_heard_text : ℕ → ℕ → List ℕ
-last_heard_text first last = codes ", last PDU at " ++ since_text first last
+unfoldable pub last_heard_text : Clock → ℕ → List ℕ
+last_heard_text clock last = codes ", last PDU at " ++ since_text clock last
 
 -- How many sessions a connection had, how many came up, and how many nobody answered.
 unfoldable pub came_text : ℕ → SessionTotals → List ℕ
@@ -91,4 +92,4 @@ nearness_text t_max c = near_text t_max (longest_in c)
 -- The whole sentence.
 unfoldable pub sentence_text : Scale → Connection → List ℕ
 sentence_text s c =
-    name_text c.low c.high ++ course_text c ++ last_heard_text s.first c.last ++ losses_text c ++ nearness_text s.t_max c
+    name_text c.low c.high ++ course_text c ++ last_heard_text s.clock c.last ++ losses_text c ++ nearness_text s.t_max c

@@ -1,5 +1,5 @@
 -- The step of a capture's line, and what is printed of it.
-use Rattle.std.specs.Prelude.{ℕ, Bool, false, List, [], ◌++◌, length, if◌then◌else◌, Option, Some, None, Result, Ok, Err}
+use Rattle.std.specs.Prelude.{ℕ, ◌+◌, ◌-◌, ◌*◌, ◌/◌, ◌^◌, ◌||◌, Bool, true, false, List, [], ◌++◌, length, not, nat_le, min, max, if◌then◌else◌, Option, Some, None, is_none, Result, Ok, Err}
 use Rattle.capture.specs.declared.connections.Connection.{Connection}
 use Rattle.capture.specs.declared.following.Remark.{Remark}
 use Rattle.capture.specs.declared.following.Totals.{Totals}
@@ -9,8 +9,9 @@ use Rattle.capture.specs.declared.line.Record.{Record}
 use Rattle.capture.specs.Hearing.{heard_of}
 use Rattle.capture.specs.Lines.{Line}
 use Rattle.capture.specs.Numbers.{counted}
+use Rattle.capture.specs.Instants.{is_within}
 use Rattle.capture.specs.Ports.{is_chosen}
-use Rattle.capture.specs.Whole.{connections_after, damaged_after, forgotten_after, gone_after, remark_of, totals_of}
+use Rattle.capture.specs.Whole.{connections_after, damaged_after, forgotten_after, gone_after, miscoded_after, remark_of, totals_of}
 use Rattle.std.specs.Io.BufRead.{ends_with_byte, strip_last}
 use Rattle.capture_text.specs.Choice.{is_asked}
 use Rattle.capture_text.specs.FaultText.{fault_text}
@@ -19,6 +20,11 @@ use Rattle.capture_text.specs.RecordText.{record_text}
 use Rattle.capture_text.specs.SummaryText.{summary_text}
 use Rattle.capture_text.specs.Telegrams.{telegram_lines}
 use Rattle.capture_text.specs.declared.course.Asked.{Asked}
+use Rattle.capture_text.specs.declared.course.Unfollowed.{Unfollowed}
+use Rattle.capture_text.specs.declared.course.Unfollowed.TheVariants.{Chosen, Fault}
+use Rattle.capture_text.specs.declared.frames.Skipped.{Skipped}
+use Rattle.capture_text.specs.declared.frames.Skipped.TheVariants.{Port, Time, NoIp, NoUdp, Tunnel}
+use Rattle.capture_text.specs.declared.passed.PassedOver.{PassedOver}
 use Rattle.capture_text.specs.declared.course.OutputForm.{OutputForm}
 use Rattle.capture_text.specs.declared.course.OutputForm.TheVariants.{Lines, Json}
 use Rattle.capture_text.specs.declared.summary.CaptureCounts.{CaptureCounts}
@@ -28,14 +34,39 @@ use Rattle.capture_text.specs.declared.summary.Scale.{Scale}
 abbrev pub record_of : Line → Record
 record_of l = record { time = l.time; source = l.source; destination = l.destination; size = length l.payload }
 
--- A datagram with its decoding; nothing if it has no chosen port.
-abbrev pub heard_chosen : Asked → Record → List ℕ → Option (Record × Heard)
-heard_chosen a r octets = if is_chosen a.ports r then Some (r, heard_of a.rule octets) else None
+-- The time of the first datagram.
+abbrev pub first_of : Option ℕ → ℕ → ℕ
+first_of None time = time
+first_of (Some first) time = first
 
--- The decoded datagram of a line, or the fault of the line.
-abbrev pub heard_line : Asked → Result Line LineFault → Result (Option (Record × Heard)) LineFault
-heard_line a (Ok l) = Ok (heard_chosen a (record_of l) l.payload)
-heard_line a (Err fault) = Err fault
+-- Why a datagram is passed over: it has no chosen port, or its time is not asked for.
+abbrev pub skipped_by : Asked → Option ℕ → Record → Option Skipped
+skipped_by a first r =
+    if not (is_chosen a.ports r) then Some Port
+    else if is_within a.span (first_of first r.time) r.time then None
+    else Some (Time r.time)
+
+-- The time of the first datagram after something that is passed over; the first datagram need not be followed.
+abbrev pub first_skipped : Option ℕ → Skipped → Option ℕ
+first_skipped first (Time time) = Some (first_of first time)
+first_skipped first Port = first
+first_skipped first NoIp = first
+first_skipped first NoUdp = first
+first_skipped first Tunnel = first
+
+-- A datagram with its decoding, or why it is passed over.
+abbrev pub heard_if : Option Skipped → Asked → Record → List ℕ → Result (Record × Heard) Unfollowed
+heard_if None a r octets = Ok (r, heard_of a.rule octets)
+heard_if (Some why) a r octets = Err (Chosen why)
+
+-- A datagram with its decoding, if it is followed.
+abbrev pub heard_chosen : Asked → Option ℕ → Record → List ℕ → Result (Record × Heard) Unfollowed
+heard_chosen a first r octets = heard_if (skipped_by a first r) a r octets
+
+-- The decoded datagram of a line, or why none is followed.
+abbrev pub heard_line : Asked → Option ℕ → Result Line LineFault → Result (Record × Heard) Unfollowed
+heard_line a first (Ok l) = heard_chosen a first (record_of l) l.payload
+heard_line a first (Err fault) = Err (Fault fault)
 
 -- The payload of a line; empty if it is not a datagram.
 abbrev pub payload_in : Result Line LineFault → List ℕ
@@ -43,45 +74,39 @@ payload_in (Ok l) = l.payload
 payload_in (Err fault) = []
 
 -- The remark on the datagram of a line.
-abbrev pub found_in : List Connection → ℕ → Result (Option (Record × Heard)) LineFault → Result (Option (Record × Remark)) LineFault
-found_in cs number (Ok (Some h)) = Ok (Some (h.0, remark_of cs number h.0 h.1))
-found_in cs number (Ok None) = Ok None
-found_in cs number (Err fault) = Err fault
+abbrev pub found_in : List Connection → ℕ → Result (Record × Heard) Unfollowed → Result (Record × Remark) Unfollowed
+found_in cs number (Ok h) = Ok (h.0, remark_of cs number h.0 h.1)
+found_in cs number (Err why) = Err why
 
 -- The connections after a line; one that is not a datagram, or is passed over, changes nothing.
-abbrev pub connections_behind : List Connection → ℕ → Result (Option (Record × Heard)) LineFault → List Connection
-connections_behind cs number (Ok (Some h)) = connections_after cs number h.0 h.1
-connections_behind cs number (Ok None) = cs
-connections_behind cs number (Err fault) = cs
+abbrev pub connections_behind : List Connection → ℕ → Result (Record × Heard) Unfollowed → List Connection
+connections_behind cs number (Ok h) = connections_after cs number h.0 h.1
+connections_behind cs number (Err why) = cs
 
 -- The count of datagrams after a line.
-abbrev pub datagrams_behind : ℕ → Result (Option (Record × Heard)) LineFault → ℕ
-datagrams_behind datagrams (Ok (Some h)) = counted datagrams 1
-datagrams_behind datagrams (Ok None) = datagrams
-datagrams_behind datagrams (Err fault) = datagrams
+abbrev pub datagrams_behind : ℕ → Result (Record × Heard) Unfollowed → ℕ
+datagrams_behind datagrams (Ok h) = counted datagrams 1
+datagrams_behind datagrams (Err why) = datagrams
 
 -- The sums of forgotten connections after a line.
-abbrev pub gone_behind : Totals → List Connection → Result (Option (Record × Heard)) LineFault → Totals
-gone_behind gone cs (Ok (Some h)) = gone_after gone cs h.1
-gone_behind gone cs (Ok None) = gone
-gone_behind gone cs (Err fault) = gone
+abbrev pub gone_behind : Totals → List Connection → Result (Record × Heard) Unfollowed → Totals
+gone_behind gone cs (Ok h) = gone_after gone cs h.1
+gone_behind gone cs (Err why) = gone
 
 -- The count of damaged datagrams after a line.
-abbrev pub damaged_behind : ℕ → Result (Option (Record × Heard)) LineFault → ℕ
-damaged_behind damaged (Ok (Some h)) = damaged_after damaged h.1
-damaged_behind damaged (Ok None) = damaged
-damaged_behind damaged (Err fault) = damaged
+abbrev pub damaged_behind : ℕ → Result (Record × Heard) Unfollowed → ℕ
+damaged_behind damaged (Ok h) = damaged_after damaged h.1
+damaged_behind damaged (Err why) = damaged
+
+-- The count of datagrams with a wrong safety code after a line.
+abbrev pub miscoded_behind : ℕ → Result (Record × Heard) Unfollowed → ℕ
+miscoded_behind miscoded (Ok h) = miscoded_after miscoded h.1
+miscoded_behind miscoded (Err why) = miscoded
 
 -- The count of forgotten connections after a line.
-abbrev pub forgotten_behind : ℕ → List Connection → Result (Option (Record × Heard)) LineFault → ℕ
-forgotten_behind forgotten cs (Ok (Some h)) = forgotten_after forgotten cs h.1
-forgotten_behind forgotten cs (Ok None) = forgotten
-forgotten_behind forgotten cs (Err fault) = forgotten
-
--- The time of the first datagram.
-abbrev pub first_of : Option ℕ → ℕ → ℕ
-first_of None time = time
-first_of (Some first) time = first
+abbrev pub forgotten_behind : ℕ → List Connection → Result (Record × Heard) Unfollowed → ℕ
+forgotten_behind forgotten cs (Ok h) = forgotten_after forgotten cs h.1
+forgotten_behind forgotten cs (Err why) = forgotten
 
 -- The telegrams of a datagram, if they are asked for.
 abbrev pub asked_telegrams : Asked → List ℕ → List ℕ
@@ -98,7 +123,7 @@ is_line_told a m = is_told_in a.form a m
 
 -- What times and waits are measured by.
 abbrev pub scale_from : Asked → ℕ → Scale
-scale_from a first = record { first = first; t_max = a.t_max }
+scale_from a first = record { clock = record { first = first; form = a.time }; t_max = a.t_max }
 
 -- The line of a datagram and its telegrams, as far as they are asked for.
 abbrev pub told_text : Asked → ℕ → ℕ → Record → Remark → List ℕ → List ℕ
@@ -106,33 +131,73 @@ told_text a first number r m octets =
     if is_line_told a m then record_text (scale_from a first) number r m ++ asked_telegrams a octets else []
 
 -- What is printed of a line.
-abbrev pub found_text : Asked → Option ℕ → ℕ → List ℕ → Result (Option (Record × Remark)) LineFault → List ℕ
-found_text a first number octets (Ok (Some f)) = told_text a (first_of first f.0.time) number f.0 f.1 octets
-found_text a first number octets (Ok None) = []
-found_text a first number octets (Err fault) = []
+abbrev pub found_text : Asked → Option ℕ → ℕ → List ℕ → Result (Record × Remark) Unfollowed → List ℕ
+found_text a first number octets (Ok f) = told_text a (first_of first f.0.time) number f.0 f.1 octets
+found_text a first number octets (Err why) = []
 
 -- The time of the first datagram after a line.
-abbrev pub first_behind : Option ℕ → Result (Option (Record × Remark)) LineFault → Option ℕ
-first_behind first (Ok (Some f)) = Some (first_of first f.0.time)
-first_behind first (Ok None) = first
-first_behind first (Err fault) = first
+abbrev pub first_behind : Option ℕ → Result (Record × Remark) Unfollowed → Option ℕ
+first_behind first (Ok f) = Some (first_of first f.0.time)
+first_behind first (Err (Chosen why)) = first_skipped first why
+first_behind first (Err (Fault fault)) = first
+
+-- The time of the last datagram after a line.
+abbrev pub latest_behind : ℕ → Result (Record × Remark) Unfollowed → ℕ
+latest_behind latest (Ok f) = f.0.time
+latest_behind latest (Err why) = latest
+
+-- Sums are due at a time.
+abbrev pub is_due : Option ℕ → ℕ → Bool
+is_due None time = false
+is_due (Some due) time = nat_le due time
+
+-- The microseconds of a period in seconds, at least one.
+abbrev pub period_of : ℕ → ℕ
+period_of seconds = max seconds 1 * 1000000
+
+-- The next time after whole periods since the first datagram.
+abbrev pub next_period : ℕ → ℕ → ℕ → ℕ
+next_period seconds first time =
+    counted first (min (((time - first) / period_of seconds + 1) * period_of seconds) (2 ^ 64 - 1))
+
+-- When sums are due next, after a datagram at this time.
+abbrev pub due_with : ℕ → Option ℕ → ℕ → ℕ → Option ℕ
+due_with seconds due first time =
+    if is_due due time || is_none due then Some (next_period seconds first time) else due
+
+-- When sums are due next: without a period, or before the first datagram, they are not.
+abbrev pub due_next : Option ℕ → Option ℕ → Option ℕ → ℕ → Option ℕ
+due_next (Some seconds) due (Some first) time = due_with seconds due first time
+due_next _ due _ time = None
+
+-- What is printed if it is due.
+abbrev pub due_text : Bool → List ℕ → List ℕ
+due_text true text = text
+due_text false text = []
 
 -- The count of unreadable lines after a line.
-abbrev pub unreadable_behind : ℕ → Result (Option (Record × Remark)) LineFault → ℕ
-unreadable_behind unreadable (Ok (Some f)) = unreadable
-unreadable_behind unreadable (Ok None) = unreadable
-unreadable_behind unreadable (Err fault) = counted unreadable 1
+abbrev pub unreadable_behind : ℕ → Result (Record × Remark) Unfollowed → ℕ
+unreadable_behind unreadable (Ok f) = unreadable
+unreadable_behind unreadable (Err (Fault fault)) = counted unreadable 1
+unreadable_behind unreadable (Err (Chosen why)) = unreadable
 
 -- The fault of a line that is not a datagram.
-abbrev pub fault_in : Result (Option (Record × Remark)) LineFault → Option LineFault
-fault_in (Ok (Some f)) = None
-fault_in (Ok None) = None
-fault_in (Err fault) = Some fault
+abbrev pub fault_in : Result (Record × Remark) Unfollowed → Option LineFault
+fault_in (Ok f) = None
+fault_in (Err (Fault fault)) = Some fault
+fault_in (Err (Chosen why)) = None
 
 -- The counts of a course.
-abbrev pub counts_of : ℕ → ℕ → ℕ → ℕ → CaptureCounts
-counts_of datagrams damaged forgotten unreadable =
-    record { datagrams = datagrams; damaged = damaged; forgotten = forgotten; unreadable = unreadable }
+abbrev pub counts_of : ℕ → ℕ → ℕ → ℕ → ℕ → PassedOver → CaptureCounts
+counts_of datagrams damaged forgotten unreadable frames passed =
+    record {
+      datagrams = datagrams;
+      damaged = damaged;
+      forgotten = forgotten;
+      unreadable = unreadable;
+      frames = frames;
+      passed = passed;
+    }
 
 -- The sums in this form.
 abbrev pub sums_in : OutputForm → Scale → List Connection → Totals → CaptureCounts → List ℕ

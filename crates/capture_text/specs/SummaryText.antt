@@ -16,7 +16,9 @@ use Rattle.capture.specs.Numbers.{counted, open_window}
 use Rattle.capture_text.specs.declared.summary.Scale.{Scale}
 use Rattle.capture_text.specs.declared.summary.CaptureCounts.{CaptureCounts}
 use Rattle.pdu_text.specs.Lines.{joined}
-use Rattle.capture_text.specs.Pieces.{address_text, channel_text, duration_text, ends_text, reached_text, since_text}
+use Rattle.capture_text.specs.Pieces.{address_text, channel_text, duration_text, ends_text, reached_text, since_text, utc_text}
+use Rattle.capture_text.specs.declared.pieces.Clock.{Clock}
+use Rattle.capture_text.specs.Passing.{passed_lines}
 use Rattle.capture_text.specs.Reasons.{leaving_words}
 use Rattle.capture_text.specs.Sentence.{sentence_text}
 use Rattle.capture_text.specs.TableText.{sessions_text}
@@ -59,8 +61,8 @@ longest_text t_max longest =
     joined (codes " waits " ∷ decimal longest ∷ codes " of " ∷ decimal t_max ∷ reached_text t_max longest ∷ [])
 
 -- The time of the last PDU.
-abbrev pub last_text : ℕ → ℕ → List ℕ
-last_text first last = if nat_eq last 0 then codes " not heard" else codes " last " ++ since_text first last
+abbrev pub last_text : Clock → ℕ → List ℕ
+last_text clock last = if nat_eq last 0 then codes " not heard" else codes " last " ++ since_text clock last
 
 -- The disconnect of a direction.
 abbrev pub ending_text : Option Leaving → List ℕ
@@ -70,7 +72,7 @@ ending_text (Some leaving) = codes " DiscReq" ++ leaving_words leaving
 -- The tally of a direction; silence lasts up to this time.
 unfoldable pub tally_text : Scale → ℕ → Tally → List ℕ
 tally_text s until t =
-    kinds_text t ++ silence_text (silence_of t until) ++ oldest_text s.t_max t.oldest ++ longest_text s.t_max t.longest ++ last_text s.first t.last ++ ending_text t.leaving
+    kinds_text t ++ silence_text (silence_of t until) ++ oldest_text s.t_max t.oldest ++ longest_text s.t_max t.longest ++ last_text s.clock t.last ++ ending_text t.leaving
 
 -- The line of a direction.
 unfoldable pub direction_text : Scale → ℕ → ℕ → ℕ → Direction → List ℕ
@@ -127,7 +129,7 @@ half_text s from to c d = direction_text s c.last from to d ++ places_text from 
 -- The lines of a connection: both directions, then its sessions and its sentence.
 unfoldable pub connection_text : Scale → Connection → List ℕ
 connection_text s c =
-    half_text s c.low c.high c c.from_low ++ half_text s c.high c.low c c.from_high ++ sessions_text s.first c.low c.high c.sessions ++ sentence_text s c
+    half_text s c.low c.high c c.from_low ++ half_text s c.high c.low c c.from_high ++ sessions_text s.clock c.low c.high c.sessions ++ sentence_text s c
 
 -- The lines of all connections; the one with the latest PDU is the last.
 abbrev pub connections_text : Scale → List Connection → List ℕ
@@ -157,6 +159,14 @@ counts_text c =
 unfoldable pub all_text : Totals → CaptureCounts → List ℕ
 all_text t c = came_text c.datagrams ++ totals_text t ++ counts_text c ++ codes "\n"
 
+-- The date and time of the first datagram.
+unfoldable pub date_text : ℕ → List ℕ
+date_text first = codes "sum first datagram at " ++ utc_text first ++ codes "\n"
+
+-- The line of the first datagram, if its time is known.
+abbrev pub first_lines : ℕ → List ℕ
+first_lines first = if nat_eq first 0 then [] else date_text first
+
 -- All lines of the sums.
 abbrev pub summary_text : Scale → List Connection → Totals → CaptureCounts → List ℕ
-summary_text s cs t c = connections_text s cs ++ all_text t c
+summary_text s cs t c = first_lines s.clock.first ++ connections_text s cs ++ passed_lines c.passed ++ all_text t c

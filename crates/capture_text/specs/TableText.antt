@@ -10,6 +10,7 @@ use Rattle.capture.specs.declared.sessions.Sessions.{Sessions}
 use Rattle.capture.specs.Numbers.{counted}
 use Rattle.capture.specs.Sessions.{alone_in, is_unanswered_in, lost_in_session}
 use Rattle.pdu_text.specs.Lines.{joined}
+use Rattle.capture_text.specs.declared.pieces.Clock.{Clock}
 use Rattle.capture_text.specs.Pieces.{since_text}
 use Rattle.capture_text.specs.Reasons.{leaving_words}
 
@@ -23,17 +24,17 @@ abbrev pub asker_of : ℕ → ℕ → Asking → ℕ
 asker_of low high a = if a.by_low then low else high
 
 -- The ConnReq of a session: end and time.
-unfoldable pub asking_text : ℕ → ℕ → ℕ → List ℕ
-asking_text first end time = joined (codes ", " ∷ decimal end ∷ codes " asked at " ∷ []) ++ since_text first time
+unfoldable pub asking_text : Clock → ℕ → ℕ → List ℕ
+asking_text clock end time = joined (codes ", " ∷ decimal end ∷ codes " asked at " ∷ []) ++ since_text clock time
 
 -- The ConnReq of a session, or that it was not recorded.
-abbrev pub asked_text : ℕ → ℕ → ℕ → Option Asking → List ℕ
-asked_text first low high None = codes ", its ConnReq was not recorded"
-asked_text first low high (Some a) = asking_text first (asker_of low high a) a.time
+abbrev pub asked_text : Clock → ℕ → ℕ → Option Asking → List ℕ
+asked_text clock low high None = codes ", its ConnReq was not recorded"
+asked_text clock low high (Some a) = asking_text clock (asker_of low high a) a.time
 
 -- The time at which a session came up.
-unfoldable pub came_up_text : ℕ → ℕ → List ℕ
-came_up_text first time = codes ", came up at " ++ since_text first time
+unfoldable pub came_up_text : Clock → ℕ → List ℕ
+came_up_text clock time = codes ", came up at " ++ since_text clock time
 
 -- A session that did not come up: if nobody answered, that.
 abbrev pub down_text : Bool → List ℕ
@@ -41,14 +42,14 @@ down_text true = codes ", nobody answered"
 down_text false = codes ", was not seen to come up"
 
 -- The time at which a session came up, or that it did not.
-abbrev pub outcome_text : ℕ → Option ℕ → Bool → List ℕ
-outcome_text first (Some time) unanswered = came_up_text first time
-outcome_text first None unanswered = down_text unanswered
+abbrev pub outcome_text : Clock → Option ℕ → Bool → List ℕ
+outcome_text clock (Some time) unanswered = came_up_text clock time
+outcome_text clock None unanswered = down_text unanswered
 
 -- How a session began: number, ConnReq, ConnResp.
-unfoldable pub beginning_text : ℕ → ℕ → ℕ → Session → List ℕ
-beginning_text first low high x =
-    number_text x.number low high ++ asked_text first low high x.asked ++ outcome_text first x.up (is_unanswered_in x)
+unfoldable pub beginning_text : Clock → ℕ → ℕ → Session → List ℕ
+beginning_text clock low high x =
+    number_text x.number low high ++ asked_text clock low high x.asked ++ outcome_text clock x.up (is_unanswered_in x)
 
 -- Whose leaving was the first.
 abbrev pub own_text : Bool → List ℕ
@@ -56,14 +57,14 @@ own_text true = codes " after the other"
 own_text false = codes " by itself"
 
 -- The DiscReq of an end: who, when, own or after that of the other end, reason.
-unfoldable pub leaving_text : ℕ → ℕ → Parting → List ℕ
-leaving_text first end p =
-    joined (codes ", " ∷ decimal end ∷ codes " left at " ∷ []) ++ since_text first p.time ++ own_text p.follows ++ leaving_words p.leaving
+unfoldable pub leaving_text : Clock → ℕ → Parting → List ℕ
+leaving_text clock end p =
+    joined (codes ", " ∷ decimal end ∷ codes " left at " ∷ []) ++ since_text clock p.time ++ own_text p.follows ++ leaving_words p.leaving
 
 -- The DiscReq of an end, if it sent one.
-abbrev pub left_text : ℕ → ℕ → Option Parting → List ℕ
-left_text first end None = []
-left_text first end (Some p) = leaving_text first end p
+abbrev pub left_text : Clock → ℕ → Option Parting → List ℕ
+left_text clock end None = []
+left_text clock end (Some p) = leaving_text clock end p
 
 -- Neither end left.
 abbrev pub is_kept : Session → Bool
@@ -75,8 +76,8 @@ kept_text true = codes ", nobody left"
 kept_text false = []
 
 -- How a session ended.
-unfoldable pub ended_text : ℕ → ℕ → ℕ → Session → List ℕ
-ended_text first low high x = left_text first low x.low.left ++ left_text first high x.high.left ++ kept_text (is_kept x)
+unfoldable pub ended_text : Clock → ℕ → ℕ → Session → List ℕ
+ended_text clock low high x = left_text clock low x.low.left ++ left_text clock high x.high.left ++ kept_text (is_kept x)
 
 -- The longest wait of each end.
 unfoldable pub waited_text : ℕ → ℕ → ℕ → ℕ → List ℕ
@@ -109,21 +110,21 @@ happened_text low high x =
     waited_text low high x.low.longest x.high.longest ++ lost_text (lost_in_session x) (alone_in x) ++ again_text (resent_in x) (repeats_in x)
 
 -- The line of a session.
-unfoldable pub session_text : ℕ → ℕ → ℕ → Session → List ℕ
-session_text first low high x =
-    beginning_text first low high x ++ ended_text first low high x ++ happened_text low high x
+unfoldable pub session_text : Clock → ℕ → ℕ → Session → List ℕ
+session_text clock low high x =
+    beginning_text clock low high x ++ ended_text clock low high x ++ happened_text low high x
 
 -- The line of a kept session, if the place has one.
-abbrev pub slot_text : ℕ → ℕ → ℕ → Option Session → List ℕ
-slot_text first low high None = []
-slot_text first low high (Some x) = session_text first low high x
+abbrev pub slot_text : Clock → ℕ → ℕ → Option Session → List ℕ
+slot_text clock low high None = []
+slot_text clock low high (Some x) = session_text clock low high x
 
 -- The lines of kept sessions.
-abbrev pub slots_text : ℕ → ℕ → ℕ → List (Option Session) → List ℕ
-slots_text first low high xs = flat_map (λ x. slot_text first low high x) xs
+abbrev pub slots_text : Clock → ℕ → ℕ → List (Option Session) → List ℕ
+slots_text clock low high xs = flat_map (λ x. slot_text clock low high x) xs
 
 -- The lines of all kept sessions of a connection, the oldest one first, then that of the current one.
-unfoldable pub sessions_text : ℕ → ℕ → ℕ → Sessions → List ℕ
-sessions_text first low high ss =
-    slots_text first low high (drop (ss.current.number % SESSIONS) ss.past) ++ slots_text first low high (take (ss.current.number % SESSIONS) ss.past)
-    ++ session_text first low high ss.current
+unfoldable pub sessions_text : Clock → ℕ → ℕ → Sessions → List ℕ
+sessions_text clock low high ss =
+    slots_text clock low high (drop (ss.current.number % SESSIONS) ss.past) ++ slots_text clock low high (take (ss.current.number % SESSIONS) ss.past)
+    ++ session_text clock low high ss.current

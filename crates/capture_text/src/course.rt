@@ -7,16 +7,19 @@ ghost use Rattle.capture.specs.Lines.{line_of};
 ghost use Rattle.capture.specs.Numbers.{counted};
 ghost use Rattle.capture.specs.Whole.{connections_after, damaged_after, forgotten_after, gone_after, no_totals, remark_of};
 ghost use Rattle.capture_text.specs.FaultText.{fault_text, fault_word};
-ghost use Rattle.capture_text.specs.Steps.{asked_telegrams, connections_behind, counts_of, course_text, damaged_behind, datagrams_behind, fault_in, first_behind, first_of, forgotten_behind, found_in, found_text, gone_behind, heard_chosen, heard_line, is_line_told, payload_in, told_text, unreadable_behind};
+ghost use Rattle.capture_text.specs.Passing.{no_passed, passed_behind};
+ghost use Rattle.capture_text.specs.Steps.{asked_telegrams, connections_behind, counts_of, course_text, damaged_behind, due_next, due_text, datagrams_behind, fault_in, first_behind, first_of, forgotten_behind, found_in, found_text, gone_behind, heard_chosen, heard_line, is_due, is_line_told, latest_behind, miscoded_behind, next_period, payload_in, scale_from, told_text, unreadable_behind};
 
 use crate::choice::{Remarkable, is_wanted};
+use crate::frames::{Skipped, first_with, skip};
 use crate::json::write_json;
+use crate::passed::PassedOver;
+use crate::pieces::{Clock, TimeForm};
 use crate::record::write_record;
 use crate::summary::{CaptureCounts, Scale, write_summary};
 use crate::telegrams::write_telegrams;
 use capture::{
-    Buffer, Following, Heard, LineFault, PAYLOAD_ROOM, Ports, Record, Remark, hear, is_followed,
-    read_line,
+    Buffer, Following, Heard, LineFault, PAYLOAD_ROOM, Ports, Record, Remark, Span, hear, read_line,
 };
 use safe_pdu::CodeRule;
 use std::alloc::{AllocError, Global};
@@ -47,6 +50,21 @@ pub struct Asked {
     pub ports: Option<Ports>,
     /// The form of the output.
     pub form: OutputForm,
+    /// The form of times in lines.
+    pub time: TimeForm,
+    /// Only datagrams in this time are followed and counted.
+    pub span: Span,
+    /// The sums so far are also printed each time that these seconds have passed in the recording; at least 1.
+    pub every: Option<u32>,
+}
+
+/// Why no datagram of a line is followed.
+#[derive(Clone, Copy, Debug, PartialEq, Eq)]
+pub(crate) enum Unfollowed {
+    /// The line is not a datagram.
+    Fault(LineFault),
+    /// Its datagram is passed over.
+    Chosen(Skipped),
 }
 
 /// The state of a capture that is being read.
@@ -60,6 +78,12 @@ pub struct Course {
     pub lines: u64,
     /// How many of them were not a datagram.
     pub unreadable: u64,
+    /// How many of them were passed over, by kind.
+    pub passed: PassedOver,
+    /// The time of the last datagram that was followed, in microseconds; 0 before it.
+    pub latest: u64,
+    /// The time from which on sums are due, in microseconds; `None` before the first datagram.
+    pub due: Option<u64>,
 }
 
 impl Course {
@@ -75,6 +99,8 @@ impl Course {
         ensures datagrams { IfOk result (λ course. course.following.datagrams ≡ 0) }
         // A new `Course` has counted no damaged datagram.
         ensures damaged { IfOk result (λ course. course.following.damaged ≡ 0) }
+        // A new `Course` has counted no datagram with a wrong safety code.
+        ensures miscoded { IfOk result (λ course. course.following.miscoded ≡ 0) }
         // A new `Course` has no sums of forgotten connections.
         ensures gone { IfOk result (λ course. course.following.gone ≡ no_totals) }
         // A new `Course` has forgotten no connection.
@@ -85,19 +111,28 @@ impl Course {
         ensures lines { IfOk result (λ course. course.lines ≡ 0) }
         // A new `Course` has no unreadable line.
         ensures unreadable { IfOk result (λ course. course.unreadable ≡ 0) }
+        // A new `Course` has passed over nothing.
+        ensures passed { IfOk result (λ course. course.passed ≡ no_passed) }
+        // A new `Course` has no time of a last datagram.
+        ensures latest { IfOk result (λ course. course.latest ≡ 0) }
+        // A new `Course` has no time at which sums are due.
+        ensures due { IfOk result (λ course. course.due ≡ None) }
     {
         Ok(Course {
             following: Following::new(alloc)?,
             first: None,
             lines: 0,
             unreadable: 0,
+            passed: PassedOver::new(),
+            latest: 0,
+            due: None,
         })
     }
 
     /// Adds a line without its line feed, and writes what is printed of it. Returns the fault of a line that is not a
     /// datagram.
     ///
-    /// A datagram without a chosen port counts only as a line. `buffer` is for the payload.
+    /// A datagram that is passed over counts only as a line and by its kind. `buffer` is for the payload.
     ///
     /// # Errors
     ///
@@ -111,47 +146,60 @@ impl Course {
     ) -> io::Result<Option<LineFault>>
         // The count of lines grows by 1 for every line.
         ensures lines { self.new.lines ≡ counted self.old.lines 1 }
-        // The first datagram that is followed sets the time; no other line changes it (`first_behind`).
+        // The first datagram of a chosen port sets the time; no other line changes it (`first_behind`).
         ensures first { self.new.first ≡ first_behind self.old.first
             (found_in self.old.following.connections (counted self.old.lines 1)
-            (heard_line asked.now (line_of line.now))) }
+            (heard_line asked.now self.old.first (line_of line.now))) }
         // The count of unreadable lines grows by 1 exactly if the line is not a datagram; one without a chosen port
         // is not counted here (`heard_line`).
         ensures unreadable { self.new.unreadable ≡ unreadable_behind self.old.unreadable
             (found_in self.old.following.connections (counted self.old.lines 1)
-            (heard_line asked.now (line_of line.now))) }
+            (heard_line asked.now self.old.first (line_of line.now))) }
         // A followed datagram changes the connections as `connections_after` says; any other line changes none.
         ensures connections { self.new.following.connections
             ≡ connections_behind self.old.following.connections (counted self.old.lines 1)
-            (heard_line asked.now (line_of line.now)) }
+            (heard_line asked.now self.old.first (line_of line.now)) }
         // The count of datagrams grows by 1 exactly if the datagram of the line is followed (`datagrams_behind`).
         ensures datagrams { self.new.following.datagrams
-            ≡ datagrams_behind self.old.following.datagrams (heard_line asked.now (line_of line.now)) }
+            ≡ datagrams_behind self.old.following.datagrams (heard_line asked.now self.old.first (line_of line.now)) }
         // If a connection is forgotten for the datagram, its sums are added to those of the forgotten ones
         // (`gone_behind`).
         ensures gone { self.new.following.gone
             ≡ gone_behind self.old.following.gone self.old.following.connections
-            (heard_line asked.now (line_of line.now)) }
+            (heard_line asked.now self.old.first (line_of line.now)) }
         // The count of damaged datagrams grows by 1 exactly if a followed datagram is not a PDU.
         ensures damaged { self.new.following.damaged
-            ≡ damaged_behind self.old.following.damaged (heard_line asked.now (line_of line.now)) }
+            ≡ damaged_behind self.old.following.damaged (heard_line asked.now self.old.first (line_of line.now)) }
+        // The count of datagrams with a wrong safety code grows by 1 exactly if a followed datagram has one.
+        ensures miscoded { self.new.following.miscoded
+            ≡ miscoded_behind self.old.following.miscoded (heard_line asked.now self.old.first (line_of line.now)) }
         // If a connection is forgotten for the datagram, the count of forgotten ones grows by 1 (`forgotten_behind`).
         ensures forgotten { self.new.following.forgotten
             ≡ forgotten_behind self.old.following.forgotten self.old.following.connections
-            (heard_line asked.now (line_of line.now)) }
+            (heard_line asked.now self.old.first (line_of line.now)) }
+        // A datagram without a chosen port, or at another time than is asked for, is counted as passed over; any other
+        // line is not.
+        ensures passed { self.new.passed ≡ passed_behind self.old.passed (heard_line asked.now self.old.first (line_of line.now)) }
+        // A datagram that is followed sets the time of the last one; no other line changes it (`latest_behind`).
+        ensures latest { self.new.latest ≡ latest_behind self.old.latest
+            (found_in self.old.following.connections (counted self.old.lines 1)
+            (heard_line asked.now self.old.first (line_of line.now))) }
+        // The time at which sums are due stays.
+        ensures due { self.new.due ≡ self.old.due }
         // The result is the fault of a line that is not a datagram, and `None` for any other line.
         ensures fault { IfOk result (λ fault. fault ≡ fault_in
             (found_in self.old.following.connections (counted self.old.lines 1)
-            (heard_line asked.now (line_of line.now)))) }
+            (heard_line asked.now self.old.first (line_of line.now)))) }
         // On success the line of a followed datagram is appended, if its remark is chosen and the form is lines; then
         // its telegrams, if they are asked for. For any other line nothing is appended.
         ensures written { OnOk result (Appends (W.contents writer.old) (W.contents writer.new)
             (found_text asked.now self.old.first (counted self.old.lines 1) (payload_in (line_of line.now))
             (found_in self.old.following.connections (counted self.old.lines 1)
-            (heard_line asked.now (line_of line.now))))) }
+            (heard_line asked.now self.old.first (line_of line.now))))) }
     {
         self.lines = self.lines.saturating_add(1);
-        let (size, heard) = hear_line(asked, line, buffer);
+        let (size, heard) = hear_line(asked, self.first, line, buffer);
+        pass_line(&mut self.passed, &heard);
         let found = follow(&mut self.following, self.lines, heard);
         self.tell(asked, found, &buffer[..size], writer)
     }
@@ -160,6 +208,12 @@ impl Course {
     pub fn pass_long(&mut self)
         // A line that is too long changes nothing in the connections and their counts.
         ensures following { self.new.following ≡ self.old.following }
+        // A line that is too long does not set the time of the last datagram.
+        ensures latest { self.new.latest ≡ self.old.latest }
+        // A line that is too long does not change when sums are due.
+        ensures due { self.new.due ≡ self.old.due }
+        // A line that is too long is not counted as passed over.
+        ensures passed { self.new.passed ≡ self.old.passed }
         // A line that is too long does not set the time of the first datagram.
         ensures first { self.new.first ≡ self.old.first }
         // A line that is too long is counted as a line.
@@ -176,12 +230,18 @@ impl Course {
     fn tell<W: Write>(
         &mut self,
         asked: &Asked,
-        found: Result<Option<(Record, Remark)>, LineFault>,
+        found: Result<(Record, Remark), Unfollowed>,
         datagram: &[u8],
         writer: &mut W,
     ) -> io::Result<Option<LineFault>>
         // Printing changes nothing in the connections and their counts.
         ensures following { self.new.following ≡ self.old.following }
+        // A datagram that was `found` sets the time of the last one.
+        ensures latest { self.new.latest ≡ latest_behind self.old.latest found }
+        // Printing does not change when sums are due.
+        ensures due { self.new.due ≡ self.old.due }
+        // Printing does not count what is passed over.
+        ensures passed { self.new.passed ≡ self.old.passed }
         // Printing does not count a line.
         ensures lines { self.new.lines ≡ self.old.lines }
         // A datagram that was `found` sets the time of the first one, if that is not set.
@@ -196,18 +256,57 @@ impl Course {
             (found_text asked.now self.old.first self.old.lines datagram.now found)) }
     {
         match found {
-            Ok(None) => Ok(None),
-            Ok(Some((record, remark))) => {
+            Ok((record, remark)) => {
                 let first = start(self.first, record.time);
                 self.first = Some(first);
+                self.latest = record.time;
                 write_wanted(writer, asked, first, self.lines, &record, &remark, datagram)?;
                 Ok(None)
             }
-            Err(fault) => {
+            Err(Unfollowed::Chosen(why)) => {
+                self.first = first_with(self.first, why);
+                Ok(None)
+            }
+            Err(Unfollowed::Fault(fault)) => {
                 self.unreadable = self.unreadable.saturating_add(1);
                 Ok(Some(fault))
             }
         }
+    }
+
+    /// Writes the sums so far, if they are due, and sets when they are due next.
+    ///
+    /// # Errors
+    ///
+    /// The error of the writer. What was written before it stays, and the next time is set.
+    pub fn sum_if_due<W: Write>(&mut self, asked: &Asked, writer: &mut W) -> io::Result<()>
+        // The sums are due next after whole periods since the first datagram, if they were due (`due_next`).
+        ensures due { self.new.due ≡ due_next asked.now.every self.old.due self.old.first self.old.latest }
+        // The sums change nothing in the connections and their counts.
+        ensures following { self.new.following ≡ self.old.following }
+        // The sums do not change the time of the first datagram.
+        ensures first { self.new.first ≡ self.old.first }
+        // The sums do not change the time of the last datagram.
+        ensures latest { self.new.latest ≡ self.old.latest }
+        // The sums are not counted as a line.
+        ensures lines { self.new.lines ≡ self.old.lines }
+        // The sums are not counted as unreadable.
+        ensures unreadable { self.new.unreadable ≡ self.old.unreadable }
+        // The sums are not counted as passed over.
+        ensures passed { self.new.passed ≡ self.old.passed }
+        // On success all sums so far are appended if they are due; otherwise nothing is (`due_text`).
+        ensures written { OnOk result (Appends (W.contents writer.old) (W.contents writer.new)
+            (due_text (is_due self.old.due self.old.latest)
+            (course_text asked.now self.old.first self.old.following.gone self.old.following.connections
+            (counts_of self.old.following.datagrams self.old.following.damaged self.old.following.forgotten
+            self.old.unreadable self.old.lines self.old.passed)))) }
+    {
+        let is_due = has_passed(self.due, self.latest);
+        self.due = next_due(asked.every, self.due, self.first, self.latest);
+        if is_due {
+            return self.sum(asked, writer);
+        }
+        Ok(())
     }
 
     /// Writes the sums over all lines so far, as lines or as one JSON object.
@@ -221,17 +320,16 @@ impl Course {
         ensures { OnOk result (Appends (W.contents writer.old) (W.contents writer.new)
             (course_text asked.now self.now.first self.now.following.gone self.now.following.connections
             (counts_of self.now.following.datagrams self.now.following.damaged self.now.following.forgotten
-            self.now.unreadable))) }
+            self.now.unreadable self.now.lines self.now.passed))) }
     {
-        let scale = Scale {
-            first: start(self.first, 0),
-            t_max: asked.t_max,
-        };
+        let scale = scale(asked, start(self.first, 0));
         let counts = CaptureCounts {
             datagrams: self.following.datagrams,
             damaged: self.following.damaged,
             forgotten: self.following.forgotten,
             unreadable: self.unreadable,
+            frames: self.lines,
+            passed: self.passed,
         };
         let connections = self.following.connections.as_slice();
         let gone = self.following.gone;
@@ -240,6 +338,41 @@ impl Course {
             OutputForm::Json => write_json(writer, scale, gone, connections, counts),
         }
     }
+}
+
+/// Returns `true` if sums are due at a time.
+fn has_passed(due: Option<u64>, time: u64) -> bool
+    // Sums are due from their time on; before the first datagram they are not (`is_due`).
+    ensures { result ≡ is_due due time }
+{
+    match due {
+        None => false,
+        Some(due) => due <= time,
+    }
+}
+
+/// Returns when sums are due next, after a datagram at a time.
+fn next_due(every: Option<u32>, due: Option<u64>, first: Option<u64>, time: u64) -> Option<u64>
+    // Without a period, and before the first datagram, no sums are due. The time stays if it has not passed; otherwise
+    // it is the next one after whole periods since the first datagram (`due_next`).
+    ensures { result ≡ due_next every due first time }
+{
+    let seconds = every?;
+    let first = first?;
+    if has_passed(due, time) || due.is_none() {
+        return Some(after_periods(seconds, first, time));
+    }
+    due
+}
+
+/// Returns the next time after whole periods of so many seconds since the first datagram.
+fn after_periods(seconds: u32, first: u64, time: u64) -> u64
+    // The result is after the `time`, limited to 2^64 - 1 (`next_period`).
+    ensures { result ≡ next_period seconds first time }
+{
+    let period = seconds.max(1) as u64 * 1_000_000;
+    let periods = time.saturating_sub(first) / period + 1;
+    first.saturating_add(periods.saturating_mul(period))
 }
 
 /// Returns the time of the first datagram, or this time.
@@ -256,12 +389,12 @@ pub(crate) fn start(first: Option<u64>, time: u64) -> u64
 /// Reads a line, and returns the size of its payload and its decoded datagram.
 fn hear_line(
     asked: &Asked,
+    first: Option<u64>,
     line: &[u8],
     buffer: &mut Buffer,
-) -> (usize, Result<Option<(Record, Heard)>, LineFault>)
-    // The second result is the decoded datagram of the line if it is followed, or the fault of the line
-    // (`heard_line`).
-    ensures heard { result.1 ≡ heard_line asked.now (line_of line.now) }
+) -> (usize, Result<(Record, Heard), Unfollowed>)
+    // The second result is the decoded datagram of the line, or the reason why none is followed (`heard_line`).
+    ensures heard { result.1 ≡ heard_line asked.now first (line_of line.now) }
     // The first bytes of the `buffer`, as many as the first result, are the payload of the line.
     ensures payload { take result.0 buffer.new ≡ payload_in (line_of line.now) }
     // The size of the payload is at most `PAYLOAD_ROOM`.
@@ -269,31 +402,47 @@ fn hear_line(
 {
     match read_line(line, buffer) {
         Ok(record) => {
-            let heard = hear_chosen(asked, &record, &buffer[..record.size]);
-            (record.size, Ok(heard))
+            let heard = hear_chosen(asked, first, &record, &buffer[..record.size]);
+            (record.size, heard)
         }
-        Err(fault) => (0, Err(fault)),
+        Err(fault) => (0, Err(Unfollowed::Fault(fault))),
     }
 }
 
-/// Decodes a datagram if one of its ports is chosen.
-fn hear_chosen(asked: &Asked, record: &Record, octets: &[u8]) -> Option<(Record, Heard)>
-    // The result is the decoded datagram if it `is_chosen`, otherwise `None`.
-    ensures { result ≡ heard_chosen asked.now «record».now octets.now }
+/// Counts a line whose datagram is passed over.
+fn pass_line(passed: &mut PassedOver, heard: &Result<(Record, Heard), Unfollowed>)
+    // Only a datagram that is passed over is counted, by its kind (`passed_behind`).
+    ensures { passed.new ≡ passed_behind passed.old heard.now }
 {
-    if is_followed(&asked.ports, record) {
-        return Some((*record, hear(octets, &asked.rule)));
+    match heard {
+        Ok(_) | Err(Unfollowed::Fault(_)) => {}
+        Err(Unfollowed::Chosen(why)) => passed.count_skipped(*why),
     }
-    None
+}
+
+/// Decodes a datagram if it is followed.
+fn hear_chosen(
+    asked: &Asked,
+    first: Option<u64>,
+    record: &Record,
+    octets: &[u8],
+) -> Result<(Record, Heard), Unfollowed>
+    // The result is the decoded datagram if it is followed, or the reason why it is passed over (`heard_chosen`).
+    ensures { result ≡ heard_chosen asked.now first «record».now octets.now }
+{
+    match skip(asked, first, record) {
+        None => Ok((*record, hear(octets, &asked.rule))),
+        Some(why) => Err(Unfollowed::Chosen(why)),
+    }
 }
 
 /// Adds the datagram of a line to the connections.
 fn follow(
     following: &mut Following,
     number: u64,
-    heard: Result<Option<(Record, Heard)>, LineFault>,
-) -> Result<Option<(Record, Remark)>, LineFault>
-    // The result is the remark on a datagram that is followed; a fault stays a fault (`found_in`).
+    heard: Result<(Record, Heard), Unfollowed>,
+) -> Result<(Record, Remark), Unfollowed>
+    // The result is the remark on a datagram that is followed; the reason for any other stays (`found_in`).
     ensures found { result ≡ found_in following.old.connections number heard }
     // Only a datagram that is followed changes the connections.
     ensures connections { following.new.connections
@@ -302,6 +451,8 @@ fn follow(
     ensures datagrams { following.new.datagrams ≡ datagrams_behind following.old.datagrams heard }
     // Only a followed datagram that is not a PDU adds to the count of damaged ones.
     ensures damaged { following.new.damaged ≡ damaged_behind following.old.damaged heard }
+    // Only a followed datagram with a wrong safety code adds to their count.
+    ensures miscoded { following.new.miscoded ≡ miscoded_behind following.old.miscoded heard }
     // If the datagram makes a connection forgotten, its sums are kept.
     ensures gone { following.new.gone
         ≡ gone_behind following.old.gone following.old.connections heard }
@@ -310,12 +461,11 @@ fn follow(
         ≡ forgotten_behind following.old.forgotten following.old.connections heard }
 {
     match heard {
-        Ok(Some((record, heard))) => {
+        Ok((record, heard)) => {
             let remark = following.hear(number, &record, &heard);
-            Ok(Some((record, remark)))
+            Ok((record, remark))
         }
-        Ok(None) => Ok(None),
-        Err(fault) => Err(fault),
+        Err(why) => Err(why),
     }
 }
 
@@ -337,12 +487,22 @@ pub(crate) fn write_wanted<W: Write>(
     if !is_told(asked, remark) {
         return Ok(());
     }
-    let scale = Scale {
-        first,
-        t_max: asked.t_max,
-    };
-    write_record(writer, scale, number, record, remark)?;
+    write_record(writer, scale(asked, first), number, record, remark)?;
     write_asked(writer, asked, datagram)
+}
+
+/// Returns how times, ages and waits are printed.
+fn scale(asked: &Asked, first: u64) -> Scale
+    // Times are printed in the form that is `asked` for, by the time of the `first` datagram.
+    ensures { result ≡ scale_from asked.now first }
+{
+    Scale {
+        clock: Clock {
+            first,
+            form: asked.time,
+        },
+        t_max: asked.t_max,
+    }
 }
 
 /// Returns `true` if the line of a datagram is printed.

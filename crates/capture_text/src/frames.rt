@@ -4,14 +4,15 @@ ghost use Rattle.std.specs.Prelude.{◌≡◌, Some, ◌≤◌, ◌^◌, ◌<◌
 ghost use Rattle.std.specs.Io.KnownBytes.{Appends};
 ghost use Rattle.capture.specs.Hearing.{heard_of};
 ghost use Rattle.capture.specs.Numbers.{counted};
-ghost use Rattle.capture.specs.Whole.{connections_after, damaged_after, forgotten_after, gone_after, remark_of};
+ghost use Rattle.capture.specs.Whole.{connections_after, damaged_after, forgotten_after, gone_after, miscoded_after, remark_of};
 ghost use Rattle.capture.specs.Frames.{found_in};
 ghost use Rattle.capture_text.specs.FaultText.{frame_text, frame_word};
-ghost use Rattle.capture_text.specs.FrameSteps.{connections_seen, damaged_seen, datagrams_seen, fault_seen, first_seen, forgotten_seen, frame_seen, gone_seen, payload_at, record_found, seen_found, seen_passed, seen_text, unreadable_seen, IsWithin};
-ghost use Rattle.capture_text.specs.Steps.{first_of, told_text};
+ghost use Rattle.capture_text.specs.FrameSteps.{connections_seen, damaged_seen, datagrams_seen, fault_seen, first_seen, forgotten_seen, frame_seen, gone_seen, latest_seen, miscoded_seen, payload_at, record_found, seen_chosen, seen_found, seen_passed, seen_text, unreadable_seen, IsWithin};
+ghost use Rattle.capture_text.specs.Passing.{passed_within};
+ghost use Rattle.capture_text.specs.Steps.{first_of, first_skipped, skipped_by, told_text};
 
 use crate::course::{Asked, Course, start, write_wanted};
-use capture::{Found, Link, Passed, Ports, Record, find_datagram, hear, is_followed};
+use capture::{Found, Link, Passed, Record, find_datagram, hear, is_between, is_followed};
 use std::io;
 use std::io::Write;
 
@@ -28,13 +29,28 @@ pub enum FrameFault {
     Length,
 }
 
+/// Why a frame or a line is passed over without a fault.
+#[derive(Clone, Copy, Debug, PartialEq, Eq)]
+pub(crate) enum Skipped {
+    /// Its datagram has no chosen port.
+    Port,
+    /// Its datagram came at this time, in microseconds, which is not asked for.
+    Time(u64),
+    /// It carries no IP packet.
+    NoIp,
+    /// Its packet carries something other than UDP.
+    NoUdp,
+    /// Its packet carries another one that is not read.
+    Tunnel,
+}
+
 /// The datagram of a frame.
 #[derive(Clone, Copy, Debug, PartialEq, Eq)]
 pub(crate) enum Seen {
     /// A datagram, with the places of its payload in the frame.
     Datagram(Record, usize, usize),
-    /// Something other than UDP over IP, or a datagram without a chosen port.
-    Other,
+    /// Something that is not followed.
+    Other(Skipped),
     /// A datagram that is not read.
     Unread(FrameFault),
 }
@@ -58,42 +74,58 @@ impl Course {
         requires { length octets.now < 2 ^ 32 }
         // The count of lines grows by 1 for every frame.
         ensures lines { self.new.lines ≡ counted self.old.lines 1 }
-        // The first frame with a followed datagram sets the time; no other frame changes it (`frame_seen`).
-        ensures first { self.new.first ≡ first_seen self.old.first (frame_seen asked.now.ports link time octets.now) }
+        // The first frame with a datagram of a chosen port sets the time; no other frame changes it (`frame_seen`).
+        ensures first { self.new.first ≡ first_seen self.old.first (frame_seen asked.now self.old.first link time octets.now) }
         // The count of unreadable frames grows by 1 exactly if the datagram is not read; one without a chosen port is
         // not counted here.
         ensures unreadable { self.new.unreadable
-            ≡ unreadable_seen self.old.unreadable (frame_seen asked.now.ports link time octets.now) }
+            ≡ unreadable_seen self.old.unreadable (frame_seen asked.now self.old.first link time octets.now) }
         // A followed datagram changes the connections as `connections_after` says; any other frame changes none.
         ensures connections { self.new.following.connections
             ≡ connections_seen asked.now.rule self.old.following.connections (counted self.old.lines 1) octets.now
-            (frame_seen asked.now.ports link time octets.now) }
+            (frame_seen asked.now self.old.first link time octets.now) }
         // The count of datagrams grows by 1 exactly if the datagram of the frame is followed.
         ensures datagrams { self.new.following.datagrams
-            ≡ datagrams_seen self.old.following.datagrams (frame_seen asked.now.ports link time octets.now) }
+            ≡ datagrams_seen self.old.following.datagrams (frame_seen asked.now self.old.first link time octets.now) }
         // The count of damaged datagrams grows by 1 exactly if the frame has a followed datagram that is not a PDU.
         ensures damaged { self.new.following.damaged
             ≡ damaged_seen asked.now.rule self.old.following.damaged octets.now
-            (frame_seen asked.now.ports link time octets.now) }
+            (frame_seen asked.now self.old.first link time octets.now) }
+        // The count of datagrams with a wrong safety code grows by 1 exactly if the frame has a followed one.
+        ensures miscoded { self.new.following.miscoded
+            ≡ miscoded_seen asked.now.rule self.old.following.miscoded octets.now
+            (frame_seen asked.now self.old.first link time octets.now) }
         // If a connection is forgotten for the datagram, its sums are added to those of the forgotten ones.
         ensures gone { self.new.following.gone
             ≡ gone_seen asked.now.rule self.old.following.gone self.old.following.connections octets.now
-            (frame_seen asked.now.ports link time octets.now) }
+            (frame_seen asked.now self.old.first link time octets.now) }
         // If a connection is forgotten for the datagram, the count of forgotten ones grows by 1.
         ensures forgotten { self.new.following.forgotten
             ≡ forgotten_seen asked.now.rule self.old.following.forgotten self.old.following.connections octets.now
-            (frame_seen asked.now.ports link time octets.now) }
+            (frame_seen asked.now self.old.first link time octets.now) }
+        // A frame without a followed datagram adds 1 to the count of its kind; any other changes none (`passed_within`).
+        ensures passed { self.new.passed ≡ passed_within self.old.passed (frame_seen asked.now self.old.first link time octets.now) }
+        // A datagram that is followed sets the time of the last one; no other frame changes it (`latest_seen`).
+        ensures latest { self.new.latest
+            ≡ latest_seen self.old.latest (frame_seen asked.now self.old.first link time octets.now) }
+        // A frame does not change when sums are due.
+        ensures due { self.new.due ≡ self.old.due }
         // The result is the fault of a frame that is not read, and `None` for any other frame.
-        ensures fault { IfOk result (λ fault. fault ≡ fault_seen (frame_seen asked.now.ports link time octets.now)) }
+        ensures fault { IfOk result (λ fault. fault ≡ fault_seen (frame_seen asked.now self.old.first link time octets.now)) }
         // On success the line and telegrams of a followed datagram are appended, as far as they are asked for; for
         // any other frame, nothing is (`seen_text`).
         ensures written { OnOk result (Appends (W.contents writer.old) (W.contents writer.new)
             (seen_text asked.now self.old.first self.old.following.connections (counted self.old.lines 1) octets.now
-            (frame_seen asked.now.ports link time octets.now))) }
+            (frame_seen asked.now self.old.first link time octets.now))) }
     {
         self.lines = self.lines.saturating_add(1);
-        match look(&asked.ports, link, time, octets) {
-            Seen::Other => Ok(None),
+        let seen = look(asked, self.first, link, time, octets);
+        self.passed.count_frame(&seen);
+        match seen {
+            Seen::Other(why) => {
+                self.first = first_with(self.first, why);
+                Ok(None)
+            }
             Seen::Unread(fault) => {
                 self.unreadable = self.unreadable.saturating_add(1);
                 Ok(Some(fault))
@@ -115,6 +147,12 @@ impl Course {
     ) -> io::Result<()>
         // The datagram itself is not counted as a line.
         ensures lines { self.new.lines ≡ self.old.lines }
+        // The time of the last datagram is that of this one.
+        ensures latest { self.new.latest ≡ «record».now.time }
+        // The datagram does not change when sums are due.
+        ensures due { self.new.due ≡ self.old.due }
+        // The datagram is not counted as passed over.
+        ensures passed { self.new.passed ≡ self.old.passed }
         // The datagram is not counted as unreadable.
         ensures unreadable { self.new.unreadable ≡ self.old.unreadable }
         // The time of the first datagram is set if there was none.
@@ -128,6 +166,9 @@ impl Course {
         // The datagram is counted as damaged exactly if it is not a PDU.
         ensures damaged { self.new.following.damaged
             ≡ damaged_after self.old.following.damaged (heard_of asked.now.rule payload.now) }
+        // The datagram is counted as one with a wrong safety code exactly if it has one.
+        ensures miscoded { self.new.following.miscoded
+            ≡ miscoded_after self.old.following.miscoded (heard_of asked.now.rule payload.now) }
         // The sums of a connection that is forgotten for the datagram are kept.
         ensures gone { self.new.following.gone
             ≡ gone_after self.old.following.gone self.old.following.connections
@@ -147,31 +188,72 @@ impl Course {
         let remark = self.following.hear(number, record, &heard);
         let first = start(self.first, record.time);
         self.first = Some(first);
+        self.latest = record.time;
         write_wanted(writer, asked, first, number, record, &remark, payload)
     }
 }
 
 /// Finds the datagram of a frame.
-fn look(ports: &Option<Ports>, link: Option<Link>, time: u64, octets: &[u8]) -> Seen
+fn look(asked: &Asked, first: Option<u64>, link: Option<Link>, time: u64, octets: &[u8]) -> Seen
     requires { length octets.now < 2 ^ 32 }
-    // An unknown link header is a fault. A datagram that is found is kept if one of its ports is chosen, and is
-    // otherwise passed over (`frame_seen`).
-    ensures seen { result ≡ frame_seen ports.now link time octets.now }
+    // An unknown link header is a fault. A datagram that is found is kept if one of its ports is chosen and its time
+    // is asked for, and is otherwise passed over (`frame_seen`).
+    ensures seen { result ≡ frame_seen asked.now first link time octets.now }
     // The places of a payload are within the frame.
     ensures within { IsWithin (length octets.now) result }
 {
     match link {
         None => Seen::Unread(FrameFault::Link),
         Some(link) => match find_datagram(link, octets) {
-            Ok(found) => {
-                let record = record_of(time, &found);
-                if is_followed(ports, &record) {
-                    return Seen::Datagram(record, found.start, found.end);
-                }
-                Seen::Other
-            }
+            Ok(found) => choose(
+                asked,
+                first,
+                record_of(time, &found),
+                found.start,
+                found.end,
+            ),
             Err(why) => pass(why),
         },
+    }
+}
+
+/// Returns a datagram that was found if it is followed, or why it is passed over.
+fn choose(asked: &Asked, first: Option<u64>, record: Record, start: usize, end: usize) -> Seen
+    requires { start ≤ end }
+    // A datagram is followed if one of its ports is chosen and its time is asked for (`seen_chosen`).
+    ensures seen { result ≡ seen_chosen asked.now first «record» start end }
+    // The places of a chosen payload are those that were found.
+    ensures within { IsWithin end result }
+{
+    match skip(asked, first, &record) {
+        None => Seen::Datagram(record, start, end),
+        Some(why) => Seen::Other(why),
+    }
+}
+
+/// Returns why a datagram is passed over; `None` if it is followed.
+pub(crate) fn skip(asked: &Asked, first: Option<u64>, record: &Record) -> Option<Skipped>
+    // A datagram without a chosen port is passed over, then one whose time is not asked for (`skipped_by`).
+    ensures { result ≡ skipped_by asked.now first «record».now }
+{
+    if !is_followed(&asked.ports, record) {
+        return Some(Skipped::Port);
+    }
+    let time = record.time;
+    if is_between(&asked.span, start(first, time), time) {
+        return None;
+    }
+    Some(Skipped::Time(time))
+}
+
+/// Returns the time of the first datagram after something that is passed over.
+pub(crate) fn first_with(first: Option<u64>, why: Skipped) -> Option<u64>
+    // A datagram whose time is not asked for can be the first one; anything else is not (`first_skipped`).
+    ensures { result ≡ first_skipped first why }
+{
+    match why {
+        Skipped::Time(time) => Some(start(first, time)),
+        Skipped::Port | Skipped::NoIp | Skipped::NoUdp | Skipped::Tunnel => first,
     }
 }
 
@@ -197,7 +279,9 @@ fn pass(why: Passed) -> Seen
     ensures within { IsWithin 0 result }
 {
     match why {
-        Passed::Other => Seen::Other,
+        Passed::NoIp => Seen::Other(Skipped::NoIp),
+        Passed::NoUdp => Seen::Other(Skipped::NoUdp),
+        Passed::Tunnel => Seen::Other(Skipped::Tunnel),
         Passed::Truncated => Seen::Unread(FrameFault::Truncated),
         Passed::Fragment => Seen::Unread(FrameFault::Fragment),
         Passed::Length => Seen::Unread(FrameFault::Length),

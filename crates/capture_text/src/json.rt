@@ -1,10 +1,12 @@
 //! The sums as one JSON object.
 
 ghost use Rattle.std.specs.Prelude.{◌≡◌, ◌<◌, OnOk, None, Some};
+ghost use Rattle.std.specs.Fmt.{decimal};
 ghost use Rattle.std.specs.Io.KnownBytes.{Appends};
 ghost use Rattle.capture.specs.Whole.{totals_of};
-ghost use Rattle.capture_text.specs.Json.{ages_json, both_json, came_json, channel_json, channels_json, coming_json, comma, connection_json, connections_json, counts_json, damaged_json, direction_json, directions_json, ends_json, greatest_json, high_json, kinds_json, known_channel_json, leaving_json, listed_channel_json, listed_json, losses_json, lost_json, low_json, more_json, name_json, near_json, numbers_json, opened_at_json, opened_json, opening_json, openings_json, others_json, parting_json, place_json, place_number_json, reasons_json, route_json, scale_json, sums_json, time_json, times_json, totals_in, up_json, whole_json, window_json};
+ghost use Rattle.capture_text.specs.Json.{ages_json, all_json, both_json, came_json, channel_json, channels_json, coming_json, comma, connection_json, connections_json, counts_json, damaged_json, direction_json, directions_json, ends_json, greatest_json, high_json, kinds_json, known_channel_json, leaving_json, listed_channel_json, listed_json, losses_json, lost_json, low_json, more_json, name_json, near_json, numbers_json, opened_at_json, opened_json, opening_json, openings_json, others_json, parting_json, place_json, place_number_json, reasons_json, route_json, scale_json, sums_json, time_json, times_json, totals_in, up_json, whole_json, window_json};
 
+use crate::passed::write_passed_json;
 use crate::pieces::write_address;
 use crate::sentence::{longest, oldest, on_all, up};
 use crate::summary::{CaptureCounts, Scale, datagrams};
@@ -39,14 +41,33 @@ pub fn write_json<W: Write>(
     ensures { OnOk result (Appends (W.contents writer.old) (W.contents writer.new)
         (sums_json scale connections.now (totals_of gone connections.now) counts)) }
 {
-    let datagrams = counts.datagrams;
     write_scale(writer, scale)?;
-    write!(writer, "{datagrams}")?;
-    write_numbers(writer, sum_up(gone, connections))?;
-    write_counts(writer, counts)?;
+    write_all(writer, sum_up(gone, connections), counts)?;
     write_connections(writer, connections)?;
     write_text(writer, "]}\n")?;
     Ok(())
+}
+
+/// Writes the sums of all connections, ends their object and opens the list of connections.
+#[tactic(auto, unfolding(crate::specs::Json::all_json))]
+fn write_all<W: Write>(writer: &mut W, totals: Totals, counts: CaptureCounts) -> io::Result<()>
+    // On success the datagrams, the `totals`, the `counts` and what was passed over are appended (`all_json`).
+    ensures { OnOk result (Appends (W.contents writer.old) (W.contents writer.new) (all_json totals counts)) }
+{
+    write_count(writer, counts.datagrams)?;
+    write_numbers(writer, totals)?;
+    write_counts(writer, counts)?;
+    write_passed_json(writer, &counts.passed)?;
+    write_text(writer, "},\"connections\":[")?;
+    Ok(())
+}
+
+/// Writes a number.
+fn write_count<W: Write>(writer: &mut W, count: u64) -> io::Result<()>
+    // On success the digits of `count` are appended.
+    ensures { OnOk result (Appends (W.contents writer.old) (W.contents writer.new) (decimal count)) }
+{
+    write!(writer, "{count}")
 }
 
 /// Writes the first time and T_max, and opens the object of all sums.
@@ -57,7 +78,7 @@ fn write_scale<W: Write>(writer: &mut W, scale: Scale) -> io::Result<()>
 {
     let t_max = scale.t_max;
     write_text(writer, "{\"first\":")?;
-    write_time(writer, scale.first)?;
+    write_time(writer, scale.clock.first)?;
     write!(writer, ",\"t_max\":{t_max},\"all\":{{\"datagrams\":")
 }
 
@@ -103,18 +124,19 @@ fn write_others<W: Write>(writer: &mut W, totals: Totals) -> io::Result<()>
     )
 }
 
-/// Writes the counts, ends the sums and opens the list of connections.
+/// Writes the counts over the whole capture.
 #[tactic(auto, unfolding(crate::specs::Json::counts_json))]
 fn write_counts<W: Write>(writer: &mut W, counts: CaptureCounts) -> io::Result<()>
-    // On success damaged, forgotten and unreadable ones of `counts` are appended.
+    // On success the damaged, forgotten and unreadable ones of `counts`, and all lines or frames are appended.
     ensures { OnOk result (Appends (W.contents writer.old) (W.contents writer.new) (counts_json counts)) }
 {
     let damaged = counts.damaged;
     let forgotten = counts.forgotten;
     let unreadable = counts.unreadable;
+    let frames = counts.frames;
     write!(
         writer,
-        ",\"damaged\":{damaged},\"forgotten\":{forgotten},\"unreadable\":{unreadable}}},\"connections\":["
+        ",\"damaged\":{damaged},\"forgotten\":{forgotten},\"unreadable\":{unreadable},\"frames\":{frames}"
     )
 }
 

@@ -7,8 +7,10 @@
 
 mod choice;
 mod course;
+mod dates;
 mod frames;
 mod json;
+mod passed;
 mod pieces;
 mod reading;
 mod reasons;
@@ -25,6 +27,8 @@ pub use choice::{Remarkable, is_wanted};
 pub use course::{Asked, Course, OutputForm, write_fault};
 pub use frames::{FrameFault, write_frame_fault};
 pub use json::write_json;
+pub use passed::PassedOver;
+pub use pieces::{Clock, TimeForm};
 pub use record::write_record;
 pub use remarks::write_remarks;
 pub use running::{FollowStatus, run};

@@ -1,19 +1,52 @@
 //! The times, addresses and channels in lines.
 
-ghost use Rattle.std.specs.Prelude.{◌≡◌, OnOk};
+ghost use Rattle.std.specs.Prelude.{◌≡◌, ◌<◌, OnOk};
 ghost use Rattle.std.specs.Io.KnownBytes.{Appends};
-ghost use Rattle.capture_text.specs.Pieces.{address_text, channel_text, duration_text, ends_text, reached_text, since_text, six_digits, v4_text, v6_text};
+ghost use Rattle.capture_text.specs.Pieces.{address_text, channel_text, difference_text, duration_text, ends_text, moment_digits, moment_text, reached_text, since_text, six_digits, utc_text, v4_text, v6_text};
 
+use crate::dates::{Date, date_of_day};
 use capture::{Address, Host};
 use std::io;
 use std::io::Write;
 use std::net::Ipv6Addr;
 
+/// The form of a time in a line.
+#[derive(Clone, Copy, Debug, PartialEq, Eq)]
+pub enum TimeForm {
+    /// Seconds since the first datagram.
+    Since,
+    /// Seconds since 1970.
+    Epoch,
+    /// Date and time of day in UTC.
+    Utc,
+}
+
+/// How times are printed.
+#[derive(Clone, Copy, Debug, PartialEq, Eq)]
+pub struct Clock {
+    /// The time of the first datagram, in microseconds since 1970; 0 if it is unknown.
+    pub first: u64,
+    /// The form of a time.
+    pub form: TimeForm,
+}
+
+/// Writes a time.
+pub(crate) fn write_since<W: Write>(writer: &mut W, clock: Clock, time: u64) -> io::Result<()>
+    // On success the `time` is appended in the form of the `clock` (`since_text`).
+    ensures { OnOk result (Appends (W.contents writer.old) (W.contents writer.new) (since_text clock time)) }
+{
+    match clock.form {
+        TimeForm::Since => write_difference(writer, clock.first, time),
+        TimeForm::Epoch => write_duration(writer, time),
+        TimeForm::Utc => write_utc(writer, time),
+    }
+}
+
 /// Writes a time as seconds since the first one.
-#[tactic(auto, unfolding(crate::specs::Pieces::since_text))]
-pub(crate) fn write_since<W: Write>(writer: &mut W, first: u64, time: u64) -> io::Result<()>
+#[tactic(auto, unfolding(crate::specs::Pieces::difference_text))]
+fn write_difference<W: Write>(writer: &mut W, first: u64, time: u64) -> io::Result<()>
     // On success the difference of `time` and `first` is appended, after a minus sign if `time` is earlier.
-    ensures { OnOk result (Appends (W.contents writer.old) (W.contents writer.new) (since_text first time)) }
+    ensures { OnOk result (Appends (W.contents writer.old) (W.contents writer.new) (difference_text first time)) }
 {
     if time < first {
         writer.write_all(b"-")?;
@@ -32,6 +65,67 @@ pub(crate) fn write_duration<W: Write>(writer: &mut W, micros: u64) -> io::Resul
     write!(writer, "{seconds}.")?;
     let digits = spell(micros % 1_000_000);
     writer.write_all(&digits)
+}
+
+/// Writes a time as date and time of day in UTC.
+#[tactic(auto, unfolding(crate::specs::Pieces::utc_text))]
+pub(crate) fn write_utc<W: Write>(writer: &mut W, micros: u64) -> io::Result<()>
+    // On success the date of the day and the time of day are appended (`utc_text`).
+    ensures { OnOk result (Appends (W.contents writer.old) (W.contents writer.new) (utc_text micros)) }
+{
+    write_moment(
+        writer,
+        date_of_day(micros / 86_400_000_000),
+        micros % 86_400_000_000,
+    )
+}
+
+/// Writes a date and a time of day, in microseconds since midnight.
+#[tactic(auto, unfolding(crate::specs::Pieces::moment_text))]
+fn write_moment<W: Write>(writer: &mut W, date: Date, micros: u64) -> io::Result<()>
+    requires { micros < 86400000000 }
+    // On success the year and the rest of the `date` and the time are appended (`moment_text`).
+    ensures { OnOk result (Appends (W.contents writer.old) (W.contents writer.new) (moment_text date micros)) }
+{
+    let year = date.year;
+    write!(writer, "{year}")?;
+    let digits = spell_moment(date, micros);
+    writer.write_all(&digits)
+}
+
+/// Returns month, day and time of day with their marks, after a year.
+fn spell_moment(date: Date, micros: u64) -> [u8; 23]
+    requires { micros < 86400000000 }
+    // The result has two digits for each number but six for the microseconds, and ends with a `Z` (`moment_digits`).
+    ensures { result ≡ moment_digits date micros }
+{
+    let seconds = micros / 1_000_000;
+    let rest = micros % 1_000_000;
+    [
+        45,
+        (48 + date.month / 10 % 10) as u8,
+        (48 + date.month / 1 % 10) as u8,
+        45,
+        (48 + date.day / 10 % 10) as u8,
+        (48 + date.day / 1 % 10) as u8,
+        84,
+        (48 + seconds / 3_600 / 10 % 10) as u8,
+        (48 + seconds / 3_600 / 1 % 10) as u8,
+        58,
+        (48 + seconds / 60 % 60 / 10 % 10) as u8,
+        (48 + seconds / 60 % 60 / 1 % 10) as u8,
+        58,
+        (48 + seconds % 60 / 10 % 10) as u8,
+        (48 + seconds % 60 / 1 % 10) as u8,
+        46,
+        (48 + rest / 100_000 % 10) as u8,
+        (48 + rest / 10_000 % 10) as u8,
+        (48 + rest / 1_000 % 10) as u8,
+        (48 + rest / 100 % 10) as u8,
+        (48 + rest / 10 % 10) as u8,
+        (48 + rest / 1 % 10) as u8,
+        90,
+    ]
 }
 
 /// Returns the last six decimal digits of a number.

@@ -4,7 +4,7 @@ ghost use Rattle.std.specs.Prelude.{◌≡◌, OnOk};
 ghost use Rattle.std.specs.Io.KnownBytes.{Appends};
 ghost use Rattle.capture_text.specs.RecordText.{fault_text, fields_text, head_text, no_red_text, no_safe_text, number_text, pdu_text, record_text, red_fault_text, remark_text, safe_fault_text, way_text};
 
-use crate::pieces::{channel_name, write_address, write_ends, write_since};
+use crate::pieces::{Clock, channel_name, write_address, write_ends, write_since};
 use crate::remarks::write_remarks;
 use crate::summary::Scale;
 use capture::{Header, Record, Remark, Remarks};
@@ -14,7 +14,7 @@ use safe_pdu::SafeFault;
 use std::io;
 use std::io::Write;
 
-/// Writes the line of a datagram: its time as seconds since the first one, its line in the capture, and its header
+/// Writes the line of a datagram: its time, its line in the capture, and its header
 /// fields with remarks by this T_max, or its fault.
 ///
 /// # Errors
@@ -34,7 +34,7 @@ pub fn write_record<W: Write>(
     ensures { OnOk result (Appends (W.contents writer.old) (W.contents writer.new)
         (record_text scale line «record».now remark.now)) }
 {
-    write_head(writer, scale.first, line, record)?;
+    write_head(writer, scale.clock, line, record)?;
     write_remark(writer, scale.t_max, record, remark)?;
     write_text(writer, "\n")?;
     Ok(())
@@ -42,12 +42,12 @@ pub fn write_record<W: Write>(
 
 /// Writes the head of a line: time and number.
 #[tactic(auto, unfolding(crate::specs::RecordText::head_text))]
-fn write_head<W: Write>(writer: &mut W, first: u64, line: u64, record: &Record) -> io::Result<()>
-    // On success the time since `first` and the number of the `line` are appended.
+fn write_head<W: Write>(writer: &mut W, clock: Clock, line: u64, record: &Record) -> io::Result<()>
+    // On success the time by this `clock` and the number of the `line` are appended.
     ensures { OnOk result (Appends (W.contents writer.old) (W.contents writer.new)
-        (head_text first line «record».now)) }
+        (head_text clock line «record».now)) }
 {
-    write_since(writer, first, record.time)?;
+    write_since(writer, clock, record.time)?;
     write!(writer, " line {line} ")
 }
 

@@ -4,16 +4,19 @@
 //! the reader under a `Take` holds afterwards. No clause says when a run stops with a fault. `tests/compare_follow`
 //! has a capture of 200,000 lines.
 
-ghost use Rattle.std.specs.Prelude.{◌≡◌, ◌≤◌, ◌<◌, ◌^◌, [], length, OnOk, IfOk, IfSome};
+ghost use Rattle.std.specs.Prelude.{◌≡◌, ◌≤◌, ◌<◌, ◌^◌, [], length, is_ok, OnOk, IfOk, IfSome};
 ghost use Rattle.std.specs.Io.Buffered.{reader_remaining};
 ghost use Rattle.std.specs.Io.BufRead.{DropsThrough, take_through};
 ghost use Rattle.std.specs.Io.KnownBytes.{Appends};
+ghost use Rattle.std.specs.IoError.{error_kind};
 ghost use Rattle.capture.specs.Numbers.{counted};
-ghost use Rattle.capture_text.specs.Capture.{broken_off, end_told, ended_at, frame_printed, frame_told, is_whole_at, line_printed, line_told, lines_printed, lines_told, read_by, text_printed, text_told, with_frame, with_line, with_lines, with_long, with_text};
-ghost use Rattle.capture_text.specs.FaultText.{fault_text, file_fault_word, foreign_of, foreign_word, forgotten_told, frame_text, has_front, recording_text};
+ghost use Rattle.capture.specs.Recordings.{event_of, going_on, step_of};
+ghost use Rattle.capture_text.specs.Capture.{block_printed, block_told, broken_off, end_told, ended_at, frame_printed, frame_told, is_whole_at, line_printed, line_told, lines_printed, lines_told, read_by, read_printed, shown_printed, sums_printed, text_printed, text_told, with_block, with_frame, with_line, with_lines, with_long, with_read, with_sums, with_text};
+ghost use Rattle.capture_text.specs.FaultText.{are_miscoded, fault_text, faults_in, file_fault_word, foreign_of, foreign_word, forgotten_told, frame_text, has_front, miscoded_text, miscoded_told, recording_text};
 ghost use Rattle.capture_text.specs.FrameSteps.{payload_at};
 ghost use Rattle.capture_text.specs.Lines.{cut, lines_of};
 ghost use Rattle.capture_text.specs.Steps.{without_end};
+ghost use Rattle.capture_text.specs.Stops.{output_stop};
 
 use crate::course::{Asked, Course, write_fault};
 use crate::frames::{FrameFault, write_frame_fault};
@@ -30,12 +33,15 @@ use std::io::{BufRead, BufReader, BufWriter, ErrorKind, Read, Write};
 pub enum FollowStatus {
     /// Every line was a datagram.
     Done,
-    /// A line was not a datagram, a recording could not go on, or a connection was forgotten; each was reported.
+    /// A line was not a datagram, a recording could not go on, a connection was forgotten, or all datagrams have a
+    /// wrong safety code; each was reported.
     Unreadable,
     /// An allocation failed.
     Memory,
     /// The reader failed.
     File,
+    /// Nobody reads standard output any more: its reader has closed it.
+    Unread,
     /// An output failed.
     Output,
 }
@@ -54,11 +60,14 @@ pub(crate) enum ForeignForm {
 }
 
 /// Why a run stops early.
-enum Stop {
+#[derive(Clone, Copy, Debug, PartialEq, Eq)]
+pub(crate) enum Stop {
     /// An allocation failed.
     Memory,
     /// The reader failed.
     File,
+    /// Nobody reads standard output any more.
+    Unread,
     /// An output failed.
     Output,
 }
@@ -80,11 +89,12 @@ pub fn run<R: Read + Drop, O: Write, E: Write>(
         Ok(_) => FollowStatus::Unreadable,
         Err(Stop::Memory) => FollowStatus::Memory,
         Err(Stop::File) => FollowStatus::File,
+        Err(Stop::Unread) => FollowStatus::Unread,
         Err(Stop::Output) => FollowStatus::Output,
     }
 }
 
-/// Follows the capture and returns how many lines were not a datagram, and how many connections were forgotten.
+/// Follows the capture and returns how many faults it had (`faults_of`).
 fn follow_input<R: Read + Drop, O: Write, E: Write>(
     alloc: Global,
     reader: R,
@@ -104,7 +114,7 @@ fn follow_input<R: Read + Drop, O: Write, E: Write>(
             follow_frames(
                 alloc,
                 &mut rest,
-                recording,
+                &mut recording,
                 asked,
                 &mut course,
                 &mut writer,
@@ -122,11 +132,63 @@ fn follow_input<R: Read + Drop, O: Write, E: Write>(
     }
     match course.sum(asked, &mut writer) {
         Ok(()) => {}
-        Err(_) => return Err(Stop::Output),
+        Err(error) => return Err(stop_at_output(&error)),
     }
     flush(&mut writer)?;
     tell_forgotten(&course, err)?;
-    Ok(course.unreadable.saturating_add(course.following.forgotten))
+    tell_miscoded(&course, err)?;
+    Ok(faults_of(&course))
+}
+
+/// Returns how many lines were not a datagram, connections were forgotten, and datagrams have a wrong safety code if
+/// all have one.
+fn faults_of(course: &Course) -> u64
+    // The three counts are added, limited to 2^64 - 1 (`faults_in`).
+    ensures { result ≡ faults_in course.now.unreadable course.now.following.forgotten
+        (are_miscoded course.now.following.datagrams course.now.following.miscoded) course.now.following.miscoded }
+{
+    let faults = course.unreadable.saturating_add(course.following.forgotten);
+    if has_another_code(course) {
+        return faults.saturating_add(course.following.miscoded);
+    }
+    faults
+}
+
+/// Returns `true` if all datagrams have a wrong safety code.
+fn has_another_code(course: &Course) -> bool
+    // There must be a datagram with a wrong code, and as many of them as datagrams (`are_miscoded`).
+    ensures { result ≡ are_miscoded course.now.following.datagrams course.now.following.miscoded }
+{
+    let miscoded = course.following.miscoded;
+    miscoded != 0 && miscoded == course.following.datagrams
+}
+
+/// Reports that all datagrams have a wrong safety code.
+fn tell_miscoded<E: Write>(course: &Course, err: &mut E) -> Result<(), Stop>
+    // On success one line with their number is appended to `err` if all datagrams have a wrong code; otherwise nothing
+    // is (`miscoded_told`).
+    ensures { OnOk result (Appends (E.contents err.old) (E.contents err.new)
+        (miscoded_told course.now.following.datagrams course.now.following.miscoded)) }
+{
+    if has_another_code(course) {
+        return write_miscoded(course.following.miscoded, err);
+    }
+    Ok(())
+}
+
+/// Writes the line about datagrams that all have a wrong safety code.
+#[tactic(auto, unfolding(crate::specs::FaultText::miscoded_text))]
+fn write_miscoded<E: Write>(miscoded: u64, err: &mut E) -> Result<(), Stop>
+    // On success the line with the number of datagrams is appended to `err`.
+    ensures { OnOk result (Appends (E.contents err.old) (E.contents err.new) (miscoded_text miscoded)) }
+{
+    match writeln!(
+        err,
+        "datagrams: all {miscoded} have another safety code; choose it by --code or --iv"
+    ) {
+        Ok(()) => Ok(()),
+        Err(_) => Err(Stop::Output),
+    }
 }
 
 /// Returns the form of a file that is not followed, by its first four bytes.
@@ -250,7 +312,7 @@ fn next_line<R: BufRead, A: Allocator>(reader: &mut R, line: &mut Vec<u8, A>) ->
     }
 }
 
-/// Adds a line, or the prefix of one that is too long. Its text goes to `writer`, its fault to `err`.
+/// Adds a line, or the prefix of one that is too long, and prints the sums if they are due.
 fn follow_line<W: Write, E: Write>(
     course: &mut Course,
     asked: &Asked,
@@ -259,13 +321,50 @@ fn follow_line<W: Write, E: Write>(
     writer: &mut W,
     err: &mut E,
 ) -> Result<(), Stop>
-    // The state is that after this line: a long one counts as unreadable, any other is added without its line end
-    // (`with_line`).
-    ensures read { read_by course.new ≡ with_line asked.now (read_by course.old) line.now }
-    // On success the text of the line is appended to `writer`; for a long one, nothing is.
+    // On success the state is that after this line, with the next time of sums (`with_line`).
+    ensures read { OnOk result (read_by course.new ≡ with_line asked.now (read_by course.old) line.now) }
+    // On success the text of the line and the sums, if they are due, are appended to `writer`.
     ensures printed { OnOk result (Appends (W.contents writer.old) (W.contents writer.new)
         (line_printed asked.now (read_by course.old) line.now)) }
     // On success the fault of the line, if any, is appended to `err`; a long line has one.
+    ensures told { OnOk result (Appends (E.contents err.old) (E.contents err.new)
+        (line_told asked.now (read_by course.old) line.now)) }
+{
+    take_any(course, asked, line, buffer, writer, err)?;
+    write_due(course, asked, writer)?;
+    Ok(())
+}
+
+/// Prints the sums if they are due.
+fn write_due<W: Write>(course: &mut Course, asked: &Asked, writer: &mut W) -> Result<(), Stop>
+    // The state has the next time of sums; nothing else changes (`with_sums`).
+    ensures read { read_by course.new ≡ with_sums asked.now (read_by course.old) }
+    // On success the sums are appended to `writer` if they are due.
+    ensures printed { OnOk result (Appends (W.contents writer.old) (W.contents writer.new)
+        (sums_printed asked.now (read_by course.old))) }
+{
+    match course.sum_if_due(asked, writer) {
+        Ok(()) => Ok(()),
+        Err(error) => Err(stop_at_output(&error)),
+    }
+}
+
+/// Adds a line, or the prefix of one that is too long. Its text goes to `writer`, its fault to `err`.
+fn take_any<W: Write, E: Write>(
+    course: &mut Course,
+    asked: &Asked,
+    line: &[u8],
+    buffer: &mut Buffer,
+    writer: &mut W,
+    err: &mut E,
+) -> Result<(), Stop>
+    // The state is that after this line: a long one counts as unreadable, any other is added without its line end
+    // (`with_read`).
+    ensures read { read_by course.new ≡ with_read asked.now (read_by course.old) line.now }
+    // On success the text of the line is appended to `writer`; for a long one, nothing is.
+    ensures printed { OnOk result (Appends (W.contents writer.old) (W.contents writer.new)
+        (read_printed asked.now (read_by course.old) line.now)) }
+    // On success the fault of the line is appended to `err`, and for a long one that it is too long.
     ensures told { OnOk result (Appends (E.contents err.old) (E.contents err.new)
         (line_told asked.now (read_by course.old) line.now)) }
 {
@@ -275,17 +374,16 @@ fn follow_line<W: Write, E: Write>(
     take_text(course, asked, without_feed(line), buffer, writer, err)
 }
 
-/// Follows the frames of a recording to its end or its first fault.
+/// Follows the blocks of a recording to its end or its first fault.
 fn follow_frames<R: Read + Drop, W: Write, E: Write, A: Allocator + Copy>(
     alloc: A,
     reader: &mut BufReader<R, A>,
-    recording: Recording,
+    recording: &mut Recording,
     asked: &Asked,
     course: &mut Course,
     writer: &mut W,
     err: &mut E,
 ) -> Result<(), Stop> {
-    let mut recording = recording;
     let mut block = Vec::new(alloc);
     for _ in 0..u64::MAX {
         if reader.buffer().is_empty() {
@@ -297,15 +395,51 @@ fn follow_frames<R: Read + Drop, W: Write, E: Write, A: Allocator + Copy>(
         if size < wanted {
             return end(course, recording.part, size, err);
         }
-        match recording.take(block.as_slice()) {
-            Ok(BlockContent::Frame(framed)) => {
-                take_framed(course, asked, &framed, block.as_slice(), writer, err)?;
-            }
-            Ok(_) => {}
-            Err(fault) => return give_up(course, name_of_file_fault(fault), err),
+        let goes_on = take_block(course, recording, asked, block.as_slice(), writer, err)?;
+        if !goes_on {
+            return Ok(());
         }
     }
     Ok(())
+}
+
+/// Adds a block of a recording, prints the sums if they are due, and returns whether the recording goes on. A block
+/// with a fault is reported, and ends it.
+fn take_block<W: Write, E: Write>(
+    course: &mut Course,
+    recording: &mut Recording,
+    asked: &Asked,
+    block: &[u8],
+    writer: &mut W,
+    err: &mut E,
+) -> Result<bool, Stop>
+    requires { length block.now < 2 ^ 32 }
+    // After the block, the recording is that of its step; after a fault it has not changed (`going_on`).
+    ensures next { recording.new ≡ going_on recording.old (step_of recording.old block.now) }
+    // On success the state is that after the frame of the block and the sums; after a fault of the block the recording
+    // counts as unreadable (`with_block`).
+    ensures read { OnOk result (read_by course.new
+        ≡ with_block asked.now (read_by course.old) block.now (event_of (step_of recording.old block.now))) }
+    // On success the text of the frame's datagram and the sums, if they are due, are appended to `writer`.
+    ensures printed { OnOk result (Appends (W.contents writer.old) (W.contents writer.new)
+        (block_printed asked.now (read_by course.old) block.now (event_of (step_of recording.old block.now)))) }
+    // On success the fault of the frame or the block, if any, is appended to `err` (`block_told`).
+    ensures told { OnOk result (Appends (E.contents err.old) (E.contents err.new)
+        (block_told asked.now (read_by course.old) block.now (event_of (step_of recording.old block.now)))) }
+    // The recording goes on exactly if the block has no fault.
+    ensures goes_on { IfOk result (λ goes_on. goes_on ≡ is_ok (event_of (step_of recording.old block.now))) }
+{
+    match recording.take(block) {
+        Ok(BlockContent::Frame(framed)) => {
+            take_shown(course, asked, &framed, block, writer, err)?;
+            Ok(true)
+        }
+        Ok(BlockContent::Nothing | BlockContent::Text) => Ok(true),
+        Err(fault) => {
+            give_up(course, name_of_file_fault(fault), err)?;
+            Ok(false)
+        }
+    }
 }
 
 /// Adds a line without its line feed. Its text goes to `writer`, its fault to `err`.
@@ -329,7 +463,7 @@ fn take_text<W: Write, E: Write>(
     match course.take_line(asked, line, buffer, writer) {
         Ok(None) => Ok(()),
         Ok(Some(fault)) => tell(err, course.lines, fault),
-        Err(_) => Err(Stop::Output),
+        Err(error) => Err(stop_at_output(&error)),
     }
 }
 
@@ -343,6 +477,17 @@ fn take_long<E: Write>(course: &mut Course, err: &mut E) -> Result<(), Stop>
 {
     course.pass_long();
     tell(err, course.lines, LineFault::Long)
+}
+
+/// Returns why a failed output stops a run.
+fn stop_at_output(error: &io::Error) -> Stop
+    // An output that its reader has closed is `Unread`; any other failure is `Output` (`output_stop`).
+    ensures { result ≡ output_stop (error_kind error.now) }
+{
+    match error.kind() {
+        ErrorKind::BrokenPipe => Stop::Unread,
+        _ => Stop::Output,
+    }
 }
 
 /// Returns why a failed reading stops a run.
@@ -411,8 +556,38 @@ fn flush<W: Write>(writer: &mut W) -> Result<(), Stop>
 {
     match writer.flush() {
         Ok(()) => Ok(()),
-        Err(_) => Err(Stop::Output),
+        Err(error) => Err(stop_at_output(&error)),
     }
+}
+
+/// Adds the frame of a block, and prints the sums if they are due.
+fn take_shown<W: Write, E: Write>(
+    course: &mut Course,
+    asked: &Asked,
+    framed: &Framed,
+    block: &[u8],
+    writer: &mut W,
+    err: &mut E,
+) -> Result<(), Stop>
+    requires order { framed.now.start ≤ framed.now.end }
+    requires within { framed.now.end ≤ length block.now }
+    requires size { length block.now < 2 ^ 32 }
+    // On success the state is that after this frame, with the next time of sums.
+    ensures read { OnOk result (read_by course.new
+        ≡ with_sums asked.now (with_frame asked.now (read_by course.old) framed.now.link framed.now.time
+        (payload_at framed.now.start framed.now.end block.now))) }
+    // On success `take_shown` has appended the text of the datagram and the sums, if they are due, to `writer`.
+    ensures printed { OnOk result (Appends (W.contents writer.old) (W.contents writer.new)
+        (shown_printed asked.now (read_by course.old) framed.now.link framed.now.time
+        (payload_at framed.now.start framed.now.end block.now))) }
+    // On success the fault of the frame, if it has one, is appended to `err`.
+    ensures told { OnOk result (Appends (E.contents err.old) (E.contents err.new)
+        (frame_told asked.now (read_by course.old) framed.now.link framed.now.time
+        (payload_at framed.now.start framed.now.end block.now))) }
+{
+    take_framed(course, asked, framed, block, writer, err)?;
+    write_due(course, asked, writer)?;
+    Ok(())
 }
 
 /// Adds the frame of a block, and reports why its datagram is not read.
@@ -444,7 +619,7 @@ fn take_framed<W: Write, E: Write>(
     match course.take_frame(asked, framed.link, framed.time, octets, writer) {
         Ok(None) => Ok(()),
         Ok(Some(fault)) => tell_frame(err, course.lines, fault),
-        Err(_) => Err(Stop::Output),
+        Err(error) => Err(stop_at_output(&error)),
     }
 }
 
@@ -487,7 +662,8 @@ fn is_whole(part: FilePart, size: usize) -> bool
         | FilePart::Section
         | FilePart::Order(_)
         | FilePart::Opening(_, _)
-        | FilePart::Rest(_, _, _) => false,
+        | FilePart::Rest(_, _, _)
+        | FilePart::Skipped(_, _, _) => false,
     }
 }
 

@@ -4,7 +4,7 @@ ghost use Rattle.std.specs.Prelude.{◌≡◌, OnOk, None, Some};
 ghost use Rattle.std.specs.Io.KnownBytes.{Appends};
 ghost use Rattle.capture_text.specs.Sentence.{came_text, course_text, gone_text, has_answered, has_asked, is_answered, last_heard_text, longest_in, losses_text, lost_on_all, name_text, near_text, nearness_text, oldest_in, sentence_text, up_of};
 
-use crate::pieces::{reached, write_since};
+use crate::pieces::{Clock, reached, write_since};
 use crate::summary::Scale;
 use crate::table::write_lost;
 use capture::{Connection, Direction, SessionOpening, SessionTotals, add_up_sessions};
@@ -28,7 +28,7 @@ pub(crate) fn write_sentence<W: Write>(
 {
     write_name(writer, connection.low, connection.high)?;
     write_course(writer, connection)?;
-    write_last_heard(writer, scale.first, connection.last)?;
+    write_last_heard(writer, scale.clock, connection.last)?;
     write_losses(writer, connection)?;
     write_nearness(writer, scale.t_max, connection)?;
     Ok(())
@@ -149,12 +149,12 @@ fn responds(opening: Option<SessionOpening>) -> bool
 
 /// Writes the time of the last PDU of a connection.
 #[tactic(auto, unfolding(crate::specs::Sentence::last_heard_text))]
-fn write_last_heard<W: Write>(writer: &mut W, first: u64, last: u64) -> io::Result<()>
-    // On success the time of the `last` PDU since `first` is appended.
-    ensures { OnOk result (Appends (W.contents writer.old) (W.contents writer.new) (last_heard_text first last)) }
+fn write_last_heard<W: Write>(writer: &mut W, clock: Clock, last: u64) -> io::Result<()>
+    // On success the time of the `last` PDU by this `clock` is appended.
+    ensures { OnOk result (Appends (W.contents writer.old) (W.contents writer.new) (last_heard_text clock last)) }
 {
     write_text(writer, ", last PDU at ")?;
-    write_since(writer, first, last)?;
+    write_since(writer, clock, last)?;
     Ok(())
 }
 

@@ -3,10 +3,11 @@
 ghost use Rattle.std.specs.Prelude.{◌≡◌, ◌<◌, OnOk};
 ghost use Rattle.std.specs.Io.KnownBytes.{Appends};
 ghost use Rattle.capture.specs.Whole.{totals_of};
-ghost use Rattle.capture_text.specs.SummaryText.{all_text, came_text, connection_text, connections_text, counts_text, damaged_text, datagrams_of, datagrams_text, direction_text, ending_text, half_text, kinds_text, known_channel_text, last_text, longest_text, maybe_channel_text, numbers_text, oldest_text, opening_text, other_totals_text, others_text, place_text, places_text, route_text, silence_text, sum_text, summary_text, tally_text, totals_text};
+ghost use Rattle.capture_text.specs.SummaryText.{all_text, came_text, connection_text, connections_text, counts_text, damaged_text, date_text, datagrams_of, datagrams_text, direction_text, ending_text, first_lines, half_text, kinds_text, known_channel_text, last_text, longest_text, maybe_channel_text, numbers_text, oldest_text, opening_text, other_totals_text, others_text, place_text, places_text, route_text, silence_text, sum_text, summary_text, tally_text, totals_text};
 
+use crate::passed::{PassedOver, write_passed};
 use crate::pieces::{
-    channel_name, reached, write_address, write_duration, write_ends, write_since,
+    Clock, channel_name, reached, write_address, write_duration, write_ends, write_since, write_utc,
 };
 use crate::reasons::write_reasons;
 use crate::sentence::write_sentence;
@@ -23,8 +24,8 @@ use std::io::Write;
 /// The values that times and ages are measured by.
 #[derive(Clone, Copy, Debug, PartialEq, Eq)]
 pub struct Scale {
-    /// The time of the first datagram, in microseconds.
-    pub first: u64,
+    /// How times are printed.
+    pub clock: Clock,
     /// T_max in milliseconds.
     pub t_max: u32,
 }
@@ -40,10 +41,15 @@ pub struct CaptureCounts {
     pub forgotten: u64,
     /// Lines or frames that were not a datagram.
     pub unreadable: u64,
+    /// Lines or frames that were read.
+    pub frames: u64,
+    /// Lines or frames that were passed over, by kind.
+    pub passed: PassedOver,
 }
 
-/// Writes the sums: for each connection a line for each direction, with one for each of its channels, one for each of
-/// its last sessions, and a sentence; then a line for all, with the forgotten ones (`gone`).
+/// Writes the sums: the date of the first datagram; for each connection a line for each direction, with one for each of
+/// its channels, one for each of its last sessions, and a sentence; then one for what was passed over, if anything was, and a line for all, with the
+/// forgotten ones (`gone`).
 ///
 /// # Errors
 ///
@@ -55,13 +61,38 @@ pub fn write_summary<W: Write>(
     connections: &[Entry],
     counts: CaptureCounts,
 ) -> io::Result<()>
-    // On success the lines of each connection, with its directions, channels, sessions and sentence, are appended,
-    // then one line for all (`summary_text`).
+    // On success the date of the first datagram is appended, then the lines of each connection, with its directions,
+    // channels, sessions and sentence, what was passed over, and one line for all (`summary_text`).
     ensures { OnOk result (Appends (W.contents writer.old) (W.contents writer.new)
         (summary_text scale connections.now (totals_of gone connections.now) counts)) }
 {
+    write_first(writer, scale.clock.first)?;
     write_connections(writer, scale, connections)?;
+    write_passed(writer, &counts.passed)?;
     write_all(writer, sum_up(gone, connections), counts)?;
+    Ok(())
+}
+
+/// Writes when the first datagram came.
+fn write_first<W: Write>(writer: &mut W, first: u64) -> io::Result<()>
+    // On success one line with the date and time in UTC is appended; if the time is unknown, nothing is.
+    ensures { OnOk result (Appends (W.contents writer.old) (W.contents writer.new) (first_lines first)) }
+{
+    if first == 0 {
+        return Ok(());
+    }
+    write_date(writer, first)
+}
+
+/// Writes the line of the date and time of the first datagram.
+#[tactic(auto, unfolding(crate::specs::SummaryText::date_text))]
+fn write_date<W: Write>(writer: &mut W, first: u64) -> io::Result<()>
+    // On success the words of the line, the date and time in UTC, and a line feed are appended.
+    ensures { OnOk result (Appends (W.contents writer.old) (W.contents writer.new) (date_text first)) }
+{
+    write_text(writer, "sum first datagram at ")?;
+    write_utc(writer, first)?;
+    write_text(writer, "\n")?;
     Ok(())
 }
 
@@ -96,7 +127,7 @@ fn write_connection<W: Write>(
     let back = (connection.high, connection.low);
     write_half(writer, scale, ends, connection, &connection.from_low)?;
     write_half(writer, scale, back, connection, &connection.from_high)?;
-    write_sessions(writer, scale.first, ends, &connection.sessions)?;
+    write_sessions(writer, scale.clock, ends, &connection.sessions)?;
     write_sentence(writer, scale, connection)?;
     Ok(())
 }
@@ -217,7 +248,7 @@ fn write_tally<W: Write>(writer: &mut W, scale: Scale, until: u64, tally: &Tally
     write_silence(writer, silence(tally, until))?;
     write_oldest(writer, scale.t_max, tally.oldest)?;
     write_longest(writer, scale.t_max, tally.longest)?;
-    write_last(writer, scale.first, tally.last)?;
+    write_last(writer, scale.clock, tally.last)?;
     write_ending(writer, tally.leaving)?;
     Ok(())
 }
@@ -269,15 +300,15 @@ fn write_longest<W: Write>(writer: &mut W, t_max: u32, longest: u32) -> io::Resu
 }
 
 /// Writes the time of the last PDU.
-fn write_last<W: Write>(writer: &mut W, first: u64, last: u64) -> io::Result<()>
-    // On success the time of the `last` PDU since `first` is appended, or that none came since the opening.
-    ensures { OnOk result (Appends (W.contents writer.old) (W.contents writer.new) (last_text first last)) }
+fn write_last<W: Write>(writer: &mut W, clock: Clock, last: u64) -> io::Result<()>
+    // On success the time of the `last` PDU by this `clock` is appended, or that none came since the opening.
+    ensures { OnOk result (Appends (W.contents writer.old) (W.contents writer.new) (last_text clock last)) }
 {
     if last == 0 {
         return write_text(writer, " not heard");
     }
     write_text(writer, " last ")?;
-    write_since(writer, first, last)
+    write_since(writer, clock, last)
 }
 
 /// Writes the disconnect of a direction.

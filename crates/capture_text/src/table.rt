@@ -4,7 +4,7 @@ ghost use Rattle.std.specs.Prelude.{◌≡◌, OnOk, None, Some};
 ghost use Rattle.std.specs.Io.KnownBytes.{Appends};
 ghost use Rattle.capture_text.specs.TableText.{again_text, asked_text, asker_of, asking_text, beginning_text, came_up_text, down_text, ended_text, happened_text, is_kept, kept_text, leaving_text, left_text, lost_text, number_text, outcome_text, own_text, repeats_in, resent_in, session_text, sessions_text, slot_text, slots_text, waited_text};
 
-use crate::pieces::write_since;
+use crate::pieces::{Clock, write_since};
 use crate::reasons::write_reasons;
 use capture::{Asking, Parting, Session, Sessions, is_unanswered, lost_alone, lost_everywhere};
 use pdu_text::write_text;
@@ -15,35 +15,35 @@ use std::io::Write;
 #[tactic(auto, unfolding(crate::specs::TableText::sessions_text))]
 pub(crate) fn write_sessions<W: Write>(
     writer: &mut W,
-    first: u64,
+    clock: Clock,
     ends: (u32, u32),
     sessions: &Sessions,
 ) -> io::Result<()>
     // On success the lines of the kept sessions are appended in order of their numbers, then that of the current one
     // (`sessions_text`).
     ensures { OnOk result (Appends (W.contents writer.old) (W.contents writer.new)
-        (sessions_text first ends.0 ends.1 sessions.now)) }
+        (sessions_text clock ends.0 ends.1 sessions.now)) }
 {
     let oldest = (sessions.current.number % 64) as usize;
-    write_slots(writer, first, ends, &sessions.past[oldest..])?;
-    write_slots(writer, first, ends, &sessions.past[..oldest])?;
-    write_session(writer, first, ends, &sessions.current)?;
+    write_slots(writer, clock, ends, &sessions.past[oldest..])?;
+    write_slots(writer, clock, ends, &sessions.past[..oldest])?;
+    write_session(writer, clock, ends, &sessions.current)?;
     Ok(())
 }
 
 /// Writes the lines of kept sessions.
 fn write_slots<W: Write>(
     writer: &mut W,
-    first: u64,
+    clock: Clock,
     ends: (u32, u32),
     slots: &[Option<Session>],
 ) -> io::Result<()>
     // On success the line of each place that has a session is appended, in the order of `slots`.
     ensures { OnOk result (Appends (W.contents writer.old) (W.contents writer.new)
-        (slots_text first ends.0 ends.1 slots.now)) }
+        (slots_text clock ends.0 ends.1 slots.now)) }
 {
     for slot in slots {
-        write_slot(writer, first, ends, slot)?;
+        write_slot(writer, clock, ends, slot)?;
     }
     Ok(())
 }
@@ -51,17 +51,17 @@ fn write_slots<W: Write>(
 /// Writes the line of a kept session, if the place has one.
 fn write_slot<W: Write>(
     writer: &mut W,
-    first: u64,
+    clock: Clock,
     ends: (u32, u32),
     slot: &Option<Session>,
 ) -> io::Result<()>
     // On success the line is appended if there is a session in this `slot`.
     ensures { OnOk result (Appends (W.contents writer.old) (W.contents writer.new)
-        (slot_text first ends.0 ends.1 slot.now)) }
+        (slot_text clock ends.0 ends.1 slot.now)) }
 {
     match slot {
         None => Ok(()),
-        Some(session) => write_session(writer, first, ends, session),
+        Some(session) => write_session(writer, clock, ends, session),
     }
 }
 
@@ -69,16 +69,16 @@ fn write_slot<W: Write>(
 #[tactic(auto, unfolding(crate::specs::TableText::session_text))]
 fn write_session<W: Write>(
     writer: &mut W,
-    first: u64,
+    clock: Clock,
     ends: (u32, u32),
     session: &Session,
 ) -> io::Result<()>
     // On success the line is appended: how the session began, how it ended, and what happened in it.
     ensures { OnOk result (Appends (W.contents writer.old) (W.contents writer.new)
-        (session_text first ends.0 ends.1 session.now)) }
+        (session_text clock ends.0 ends.1 session.now)) }
 {
-    write_beginning(writer, first, ends, session)?;
-    write_ended(writer, first, ends, session)?;
+    write_beginning(writer, clock, ends, session)?;
+    write_ended(writer, clock, ends, session)?;
     write_happened(writer, ends, session)?;
     Ok(())
 }
@@ -87,18 +87,18 @@ fn write_session<W: Write>(
 #[tactic(auto, unfolding(crate::specs::TableText::beginning_text))]
 fn write_beginning<W: Write>(
     writer: &mut W,
-    first: u64,
+    clock: Clock,
     ends: (u32, u32),
     session: &Session,
 ) -> io::Result<()>
     // On success its number, its ConnReq and its ConnResp are appended, or that they were not recorded.
     ensures { OnOk result (Appends (W.contents writer.old) (W.contents writer.new)
-        (beginning_text first ends.0 ends.1 session.now)) }
+        (beginning_text clock ends.0 ends.1 session.now)) }
 {
     let unanswered = is_unanswered(session);
     write_number(writer, session.number, ends)?;
-    write_asked(writer, first, ends, session.asked)?;
-    write_outcome(writer, first, session.up, unanswered)?;
+    write_asked(writer, clock, ends, session.asked)?;
+    write_outcome(writer, clock, session.up, unanswered)?;
     Ok(())
 }
 
@@ -116,17 +116,17 @@ fn write_number<W: Write>(writer: &mut W, number: u64, ends: (u32, u32)) -> io::
 /// Writes the ConnReq of a session.
 fn write_asked<W: Write>(
     writer: &mut W,
-    first: u64,
+    clock: Clock,
     ends: (u32, u32),
     asked: Option<Asking>,
 ) -> io::Result<()>
     // On success the end that `asked` and the time are appended, or that the ConnReq was not recorded.
     ensures { OnOk result (Appends (W.contents writer.old) (W.contents writer.new)
-        (asked_text first ends.0 ends.1 asked)) }
+        (asked_text clock ends.0 ends.1 asked)) }
 {
     match asked {
         None => write_text(writer, ", its ConnReq was not recorded"),
-        Some(asking) => write_asking(writer, first, asker(ends, &asking), asking.time),
+        Some(asking) => write_asking(writer, clock, asker(ends, &asking), asking.time),
     }
 }
 
@@ -140,29 +140,29 @@ pub(crate) fn asker(ends: (u32, u32), asking: &Asking) -> u32
 
 /// Writes which end asked for a session, and when.
 #[tactic(auto, unfolding(crate::specs::TableText::asking_text))]
-fn write_asking<W: Write>(writer: &mut W, first: u64, end: u32, time: u64) -> io::Result<()>
-    // On success the identifier of `end` and the time since `first` are appended.
+fn write_asking<W: Write>(writer: &mut W, clock: Clock, end: u32, time: u64) -> io::Result<()>
+    // On success the identifier of `end` and the time since `clock` are appended.
     ensures { OnOk result (Appends (W.contents writer.old) (W.contents writer.new)
-        (asking_text first end time)) }
+        (asking_text clock end time)) }
 {
     write!(writer, ", {end} asked at ")?;
-    write_since(writer, first, time)
+    write_since(writer, clock, time)
 }
 
 /// Writes if and when a session came up.
 fn write_outcome<W: Write>(
     writer: &mut W,
-    first: u64,
+    clock: Clock,
     up: Option<u64>,
     unanswered: bool,
 ) -> io::Result<()>
     // On success the time `up` is appended; without one, whether nobody answered.
     ensures { OnOk result (Appends (W.contents writer.old) (W.contents writer.new)
-        (outcome_text first up unanswered)) }
+        (outcome_text clock up unanswered)) }
 {
     match up {
         None => write_text(writer, name_down(unanswered)),
-        Some(time) => write_came_up(writer, first, time),
+        Some(time) => write_came_up(writer, clock, time),
     }
 }
 
@@ -180,29 +180,29 @@ fn name_down(unanswered: bool) -> &'static str
 
 /// Writes when a session came up.
 #[tactic(auto, unfolding(crate::specs::TableText::came_up_text))]
-fn write_came_up<W: Write>(writer: &mut W, first: u64, time: u64) -> io::Result<()>
-    // On success the words "came up at" and the time since `first` are appended.
-    ensures { OnOk result (Appends (W.contents writer.old) (W.contents writer.new) (came_up_text first time)) }
+fn write_came_up<W: Write>(writer: &mut W, clock: Clock, time: u64) -> io::Result<()>
+    // On success the words "came up at" and the time since `clock` are appended.
+    ensures { OnOk result (Appends (W.contents writer.old) (W.contents writer.new) (came_up_text clock time)) }
 {
     write!(writer, ", came up at ")?;
-    write_since(writer, first, time)
+    write_since(writer, clock, time)
 }
 
 /// Writes how a session ended.
 #[tactic(auto, unfolding(crate::specs::TableText::ended_text))]
 fn write_ended<W: Write>(
     writer: &mut W,
-    first: u64,
+    clock: Clock,
     ends: (u32, u32),
     session: &Session,
 ) -> io::Result<()>
     // On success the DiscReq of the lower end and that of the other end are appended, or that nobody left.
     ensures { OnOk result (Appends (W.contents writer.old) (W.contents writer.new)
-        (ended_text first ends.0 ends.1 session.now)) }
+        (ended_text clock ends.0 ends.1 session.now)) }
 {
     let (low, high) = ends;
-    write_left(writer, first, low, session.low.left)?;
-    write_left(writer, first, high, session.high.left)?;
+    write_left(writer, clock, low, session.low.left)?;
+    write_left(writer, clock, high, session.high.left)?;
     write_text(writer, name_kept(keeps(session)))?;
     Ok(())
 }
@@ -226,29 +226,34 @@ fn name_kept(kept: bool) -> &'static str
 /// Writes the DiscReq of an end, if it sent one.
 fn write_left<W: Write>(
     writer: &mut W,
-    first: u64,
+    clock: Clock,
     end: u32,
     left: Option<Parting>,
 ) -> io::Result<()>
     // On success the DiscReq is appended if the end `left`; otherwise nothing is.
-    ensures { OnOk result (Appends (W.contents writer.old) (W.contents writer.new) (left_text first end left)) }
+    ensures { OnOk result (Appends (W.contents writer.old) (W.contents writer.new) (left_text clock end left)) }
 {
     match left {
         None => Ok(()),
-        Some(parting) => write_leaving(writer, first, end, parting),
+        Some(parting) => write_leaving(writer, clock, end, parting),
     }
 }
 
 /// Writes the DiscReq of an end.
 #[tactic(auto, unfolding(crate::specs::TableText::leaving_text))]
-fn write_leaving<W: Write>(writer: &mut W, first: u64, end: u32, parting: Parting) -> io::Result<()>
-    // On success the identifier of `end`, the time since `first`, whether the other end had left before, and the
+fn write_leaving<W: Write>(
+    writer: &mut W,
+    clock: Clock,
+    end: u32,
+    parting: Parting,
+) -> io::Result<()>
+    // On success the identifier of `end`, the time since `clock`, whether the other end had left before, and the
     // reason are appended.
     ensures { OnOk result (Appends (W.contents writer.old) (W.contents writer.new)
-        (leaving_text first end parting)) }
+        (leaving_text clock end parting)) }
 {
     write!(writer, ", {end} left at ")?;
-    write_since(writer, first, parting.time)?;
+    write_since(writer, clock, parting.time)?;
     write_text(writer, name_own(parting.follows))?;
     write_reasons(writer, parting.leaving)
 }

@@ -1,6 +1,6 @@
 use crate::assertions::{assert_equal, assert_true};
 use rasta_run::{Run, run_net};
-use rasta_words::{LogLevel, RunLength, Status};
+use rasta_words::{LogLevel, LogTime, RunLength, Status};
 use settings_file::Word;
 use std::io;
 use std::io::{ErrorKind, Write};
@@ -64,6 +64,7 @@ fn run_of(turns: u32) -> Run {
     Run {
         word: Word::Pair,
         length: RunLength::Turns(turns),
+        time: LogTime::Run,
         log: LogLevel::Off,
         expected: None,
         keep: false,

@@ -1,7 +1,9 @@
 use crate::assertions::{assert_equal, assert_equal_at, assert_true, assert_true_at};
 use crate::poor::Poor;
+use capture::Span;
+use capture_text::TimeForm;
 use rasta_run::{run, run_follow, run_words};
-use rasta_words::{Fault, FollowRequest, Status, report};
+use rasta_words::{Fault, FollowRequest, FollowTimes, Status, report};
 use safe_pdu::CodeLength;
 use std::env::{Env, FillError};
 use std::io;
@@ -80,6 +82,14 @@ fn plain_following() -> FollowRequest<'static> {
         file: "-",
         ports: None,
         json: false,
+        times: FollowTimes {
+            form: TimeForm::Since,
+            span: Span {
+                from: None,
+                to: None,
+            },
+            every: None,
+        },
     }
 }
 
@@ -144,6 +154,31 @@ fn tells_an_output_that_fails_behind_a_line(rt: HostRuntime) -> Result<(), Fail>
     let ended = run_follow(rt.alloc(), line, &plain_following(), &mut Closed, &mut err);
     assert_equal(&rt, ended, Status::Failed);
     assert_equal(&rt, err.as_slice(), b"fault: output\n".as_slice());
+    Ok(())
+}
+
+/// A writer whose reader has closed it.
+#[derive(Drop)]
+struct Unread;
+
+impl Write for Unread {
+    fn write(&mut self, _octets: &[u8]) -> io::Result<usize> {
+        Err(io::Error::from(ErrorKind::BrokenPipe))
+    }
+
+    fn flush(&mut self) -> io::Result<()> {
+        Ok(())
+    }
+}
+
+// An output that its reader has closed is no fault: that reader has what it wanted.
+#[test]
+fn ends_done_if_nobody_reads(rt: HostRuntime) -> Result<(), Fail> {
+    let mut err = Vec::new(rt.alloc());
+    let line: &[u8] = b"1.000000\t10.0.0.1\t1\t10.0.0.2\t2\t\n";
+    let ended = run_follow(rt.alloc(), line, &plain_following(), &mut Unread, &mut err);
+    assert_equal(&rt, ended, Status::Done);
+    assert_true(&rt, err.is_empty());
     Ok(())
 }
 

@@ -1,9 +1,9 @@
 use crate::assertions::{assert_equal, assert_true, assert_true_at};
-use capture::read_ports;
-use capture_text::Remarkable;
+use capture::{Instant, Span, read_ports};
+use capture_text::{Remarkable, TimeForm};
 use rasta_words::{
-    Choice, CountsForm, FollowRequest, LogLevel, Rejection, Request, RunLength, RunRequest,
-    Telling, WordsFault, command,
+    Choice, CountsForm, FollowRequest, FollowTimes, LogLevel, LogTime, Rejection, Request,
+    RunLength, RunRequest, Telling, WordsFault, command,
 };
 use safe_pdu::CodeLength;
 use settings_file::Word as Ends;
@@ -77,6 +77,14 @@ fn accepts_the_words_of_follow(rt: HostRuntime) -> Result<(), Fail> {
         file: "night.tsv",
         ports: None,
         json: false,
+        times: FollowTimes {
+            form: TimeForm::Since,
+            span: Span {
+                from: None,
+                to: None,
+            },
+            every: None,
+        },
     };
     let words = ["rasta", "follow", "night.tsv"];
     let Ok(found) = command(rt.alloc(), &words) else {
@@ -98,6 +106,14 @@ fn accepts_the_words_of_follow(rt: HostRuntime) -> Result<(), Fail> {
         "--ports",
         "46101-46102,5000",
         "--json",
+        "--time",
+        "utc",
+        "--from",
+        "90.5",
+        "--to",
+        "2026-11-27T03:12:00Z",
+        "--every",
+        "60",
         "-",
     ];
     let Ok(found) = command(rt.alloc(), &words) else {
@@ -115,6 +131,14 @@ fn accepts_the_words_of_follow(rt: HostRuntime) -> Result<(), Fail> {
             file: "-",
             ports: read_ports(b"46101-46102,5000"),
             json: true,
+            times: FollowTimes {
+                form: TimeForm::Utc,
+                span: Span {
+                    from: Some(Instant::Since(90_500_000)),
+                    to: Some(Instant::At(1_795_749_120_000_000)),
+                },
+                every: Some(60),
+            },
         }),
     );
     for (choice, option, text) in [
@@ -124,6 +148,10 @@ fn accepts_the_words_of_follow(rt: HostRuntime) -> Result<(), Fail> {
         ("--t-max", Choice::TMax, "4294967296"),
         ("--ports", Choice::Ports, "2-1"),
         ("--ports", Choice::Ports, "1,2,3,4,5"),
+        ("--time", Choice::Times, "run"),
+        ("--from", Choice::From, "27.11.2026"),
+        ("--to", Choice::To, "2026-02-30T00:00:00"),
+        ("--every", Choice::Period, "0"),
     ] {
         let words = ["rasta", "follow", choice, text, "night.tsv"];
         let value = Rejection::Value {
@@ -153,6 +181,7 @@ fn accepts_the_words_of_the_ends(rt: HostRuntime) -> Result<(), Fail> {
                 file,
                 length: RunLength::Turns(turns),
                 log: LogLevel::Off,
+                time: LogTime::Utc,
                 expected: None,
                 keep: false,
                 counts: None,
@@ -173,17 +202,41 @@ fn accepts_the_words_of_the_ends(rt: HostRuntime) -> Result<(), Fail> {
         file: "ends.toml",
         length: RunLength::UntilEnd,
         log: LogLevel::Off,
+        time: LogTime::Utc,
         expected: None,
         keep: false,
         counts: None,
     };
     assert_equal(&rt, found, Request::Net(running));
+    for (text, time) in [("utc", LogTime::Utc), ("run", LogTime::Run)] {
+        let words = ["rasta", "fe", "--until-end", "--time", text, "ends.toml"];
+        let Ok(found) = command(rt.alloc(), &words) else {
+            return Err(Fail::from("refused"));
+        };
+        assert_equal(&rt, found, Request::Net(RunRequest { time, ..running }));
+    }
     let no_turns = Rejection::Value {
         option: Choice::Turns,
         value: "0",
     };
-    let lists: [(&[&str], Rejection); 3] = [
+    let no_time = Rejection::Value {
+        option: Choice::LogTime,
+        value: "local",
+    };
+    let lists: [(&[&str], Rejection); 4] = [
         (&["rasta", "il", "ends.toml", "--turns", "0"], no_turns),
+        (
+            &[
+                "rasta",
+                "il",
+                "ends.toml",
+                "--turns",
+                "1",
+                "--time",
+                "local",
+            ],
+            no_time,
+        ),
         (&["rasta", "il", "ends.toml"], Rejection::NoLength),
         (
             &["rasta", "il", "ends.toml", "--turns", "1", "--until-end"],
@@ -203,7 +256,11 @@ fn accepts_the_words_of_the_ends(rt: HostRuntime) -> Result<(), Fail> {
 // An end is kept, and counts are told, where words ask for it; a choice of counts that is none is refused.
 #[test]
 fn accepts_kept_ends_and_counts(rt: HostRuntime) -> Result<(), Fail> {
-    let forms = [("text", CountsForm::Text), ("json", CountsForm::Json)];
+    let forms = [
+        ("text", CountsForm::Text),
+        ("json", CountsForm::Json),
+        ("prometheus", CountsForm::Prometheus),
+    ];
     for (text, form) in forms {
         for (seconds, every) in [("1", 1), ("60", 60), ("86400", 86_400)] {
             let words = [
@@ -290,6 +347,7 @@ fn kept_until_end(keep: bool, counts: Option<Telling>) -> RunRequest<'static> {
         file: "ends.toml",
         length: RunLength::UntilEnd,
         log: LogLevel::Off,
+        time: LogTime::Utc,
         expected: None,
         keep,
         counts,

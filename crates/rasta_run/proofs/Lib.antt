@@ -1,3 +1,5 @@
-pub mod Putting
+pub mod Offers
 pub mod Kept
 pub mod Fields
+pub mod Dates
+pub mod Readings

@@ -1,5 +1,5 @@
 -- The printed counts of an end: a line for each channel, and one for the connection, in words or as JSON.
-use Rattle.std.specs.Prelude.{ℕ, ◌+◌, ◌-◌, nat_le, Bool, true, false, List, [], ◌∷◌, codes, slice_index_or, Option, Some, None, if◌then◌else◌}
+use Rattle.std.specs.Prelude.{ℕ, ◌+◌, ◌-◌, ◌*◌, ◌^◌, min, nat_le, Bool, true, false, not, ◌&&◌, List, [], ◌∷◌, codes, slice_index_or, Option, Some, None, if◌then◌else◌}
 use Rattle.std.specs.Fmt.{decimal}
 use Rattle.std.specs.List.{flat_map}
 use Rattle.end_settings.specs.declared.Side.{Side}
@@ -8,13 +8,16 @@ use Rattle.rasta_run.specs.declared.counts.Counted.{Counted}
 use Rattle.rasta_run.specs.declared.counting.Teller.{Teller}
 use Rattle.rasta_run.specs.declared.logging.Listening.{Listening}
 use Rattle.rasta_run.specs.Counting.{accepted, dropped, no_datagrams, oldest}
+use Rattle.rasta_run.specs.Silence.{hears_all}
 use Rattle.rasta_run.specs.Totals.{sum}
 use Rattle.stack_end.specs.Statistics.{none_received}
 use Rattle.stack_end.specs.declared.statistics.ReceptionCounts.{ReceptionCounts}
 use Rattle.rasta_words.specs.declared.status.Telling.{Telling}
 use Rattle.pdu_text.specs.Lines.{joined}
+use Rattle.rasta_run.specs.declared.counting.LineForm.{LineForm}
+use Rattle.rasta_run.specs.declared.counting.LineForm.TheVariants.{Text, Json}
 use Rattle.rasta_words.specs.declared.status.CountsForm.{CountsForm}
-use Rattle.rasta_words.specs.declared.status.CountsForm.TheVariants.{Text, Json}
+use Rattle.rasta_words.specs.declared.status.CountsForm.TheVariants as counts
 use Rattle.pdu_text.specs.Names.{side_name}
 
 -- a number with its name, in words
@@ -26,7 +29,7 @@ unfoldable pub json_field : List ℕ → ℕ → List ℕ
 json_field name number = joined (codes ",\"" ∷ name ∷ codes "\":" ∷ decimal number ∷ [])
 
 -- a number with its name
-abbrev pub field_text : CountsForm → List ℕ → ℕ → List ℕ
+abbrev pub field_text : LineForm → List ℕ → ℕ → List ℕ
 field_text Text name number = worded_field name number
 field_text Json name number = json_field name number
 
@@ -39,12 +42,12 @@ unfoldable pub json_none : List ℕ → List ℕ
 json_none name = joined (codes ",\"" ∷ name ∷ codes "\":null" ∷ [])
 
 -- that there is no number of this name
-abbrev pub none_text : CountsForm → List ℕ → List ℕ
+abbrev pub none_text : LineForm → List ℕ → List ℕ
 none_text Text name = worded_none name
 none_text Json name = json_none name
 
 -- a number with its name, or that there is none
-abbrev pub some_text : CountsForm → List ℕ → Option ℕ → List ℕ
+abbrev pub some_text : LineForm → List ℕ → Option ℕ → List ℕ
 some_text form name None = none_text form name
 some_text form name (Some number) = field_text form name number
 
@@ -57,17 +60,17 @@ unfoldable pub json_front : Side → List ℕ
 json_front side = joined (codes "{\"end\":\"" ∷ side_name side ∷ codes "\"" ∷ [])
 
 -- the start of a line
-abbrev pub front_of : CountsForm → Side → List ℕ
+abbrev pub front_of : LineForm → Side → List ℕ
 front_of Text side = worded_front side
 front_of Json side = json_front side
 
 -- the end of a line
-abbrev pub end_of : CountsForm → List ℕ
+abbrev pub end_of : LineForm → List ℕ
 end_of Text = codes "\n"
 end_of Json = codes "}\n"
 
 -- numbers with their names, in order
-abbrev pub fields_text : CountsForm → List (List ℕ × ℕ) → List ℕ
+abbrev pub fields_text : LineForm → List (List ℕ × ℕ) → List ℕ
 fields_text form fields = flat_map (λ f. field_text form f.0 f.1) fields
 
 -- the numbers of a channel: the time in milliseconds of the run, the channel, from 1, what it sent and received, and when something last came. Damaged
@@ -79,13 +82,13 @@ channel_fields at channel r c heard =
     ∷ (codes "full", r.full) ∷ (codes "damaged", sum r.damaged c.damaged) ∷ (codes "strangers", c.strangers) ∷ (codes "heard", heard) ∷ []
 
 -- the line of a channel
-unfoldable pub channel_text : CountsForm → ℕ → Side → ℕ → ReceptionCounts → ChannelCounts → ℕ → List ℕ
+unfoldable pub channel_text : LineForm → ℕ → Side → ℕ → ReceptionCounts → ChannelCounts → ℕ → List ℕ
 channel_text form at side channel r c heard =
     joined (front_of form side ∷ fields_text form (channel_fields at channel r c heard) ∷ end_of form ∷ [])
 
 -- the time in milliseconds of the run, the PDUs that the end made, the retransmissions requested and granted, the PDUs accepted and dropped, and the
 -- units that the peer confirmed
-unfoldable pub pdus_text : CountsForm → ℕ → Counted → List ℕ
+unfoldable pub pdus_text : LineForm → ℕ → Counted → List ℕ
 pdus_text form at c =
     let m = c.sums.made in
     fields_text form
@@ -98,7 +101,7 @@ margin_of None t_max = None
 margin_of (Some oldest) t_max = Some (t_max - oldest)
 
 -- the line of the connection: PDUs, the greatest age and its margin, and the telegrams put and taken
-unfoldable pub connection_text : CountsForm → ℕ → Side → Counted → (t_max : ℕ) → List ℕ
+unfoldable pub connection_text : LineForm → ℕ → Side → Counted → (t_max : ℕ) → List ℕ
 connection_text form at side c t_max =
     joined
     (front_of form side ∷ pdus_text form at c ∷ some_text form (codes "oldest") (oldest c) ∷ some_text form (codes "margin") (margin_of (oldest c) t_max)
@@ -109,27 +112,49 @@ abbrev pub heard_at : List Listening → ℕ → ℕ
 heard_at heard place = (slice_index_or heard place (record { came = 0; at = 0; silent = false })).at
 
 -- the line of the channel at a place, from 0, if the end has it
-unfoldable pub place_text : Teller → CountsForm → ℕ → Counted → ℕ → List ℕ
+unfoldable pub place_text : Teller → LineForm → ℕ → Counted → ℕ → List ℕ
 place_text t form at c place =
     if nat_le t.count place then []
     else channel_text form at t.side (place + 1) (slice_index_or c.sums.channels place none_received) (slice_index_or c.channels place no_datagrams)
     (heard_at t.heard place)
 
 -- the lines of the channels and of the connection
-unfoldable pub all_text : Teller → CountsForm → ℕ → Counted → List ℕ
+unfoldable pub all_text : Teller → LineForm → ℕ → Counted → List ℕ
 all_text t form at c =
     joined
     (place_text t form at c 0 ∷ place_text t form at c 1 ∷ place_text t form at c 2 ∷ place_text t form at c 3
     ∷ connection_text form at t.side c t.t_max ∷ [])
 
--- these lines, if there is a form
-abbrev pub text_by : Option Telling → Teller → ℕ → Counted → List ℕ
+-- the form of lines, if a form has lines
+abbrev pub form_of : CountsForm → Option LineForm
+form_of counts.Text = Some Text
+form_of counts.Json = Some Json
+form_of counts.Prometheus = None
+
+-- a form has one block for all ends
+abbrev pub is_block : CountsForm → Bool
+is_block counts.Text = false
+is_block counts.Json = false
+is_block counts.Prometheus = true
+
+-- the form of the lines, if there are any
+abbrev pub line_form : Option Telling → Option LineForm
+line_form None = None
+line_form (Some telling) = form_of telling.form
+
+-- the counts of all ends are printed in one block
+abbrev pub has_block : Option Telling → Bool
+has_block None = false
+has_block (Some telling) = is_block telling.form
+
+-- these lines, if there is a form of lines
+abbrev pub text_by : Option LineForm → Teller → ℕ → Counted → List ℕ
 text_by None t at c = []
-text_by (Some telling) t at c = all_text t telling.form at c
+text_by (Some form) t at c = all_text t form at c
 
 -- what is printed of the counts at this time in milliseconds of the run
 abbrev pub told_text : Teller → ℕ → Counted → List ℕ
-told_text t at c = text_by t.telling t at c
+told_text t at c = text_by (line_form t.telling) t at c
 
 -- nothing is printed
 abbrev pub is_off_by : Option Telling → Bool
@@ -144,3 +169,31 @@ is_off t = is_off_by t.telling
 abbrev pub is_due : Option ℕ → ℕ → Bool
 is_due None now = false
 is_due (Some next) now = nat_le next now
+
+-- the time of the next counts, this many seconds later if they are printed before the end
+abbrev pub next_every : Option ℕ → ℕ → Option ℕ
+next_every None now = None
+next_every (Some seconds) now = Some (min (now + seconds * 1_000) (2 ^ 64 - 1))
+
+-- the time of the next counts
+abbrev pub next_after : Option Telling → ℕ → Option ℕ
+next_after None now = None
+next_after (Some telling) now = next_every telling.every now
+
+-- the time of the next counts after a look
+abbrev pub next_by : (due : Bool) → Option Telling → Option ℕ → ℕ → Option ℕ
+next_by true telling next now = next_after telling now
+next_by false telling next now = next
+
+-- the printer after a look at what is counted: it records which channels received something
+abbrev pub looked_at : Teller → Counted → ℕ → Teller
+looked_at t c now =
+    record t { next = next_by (is_due t.next now) t.telling t.next now; heard = hears_all c.sums.channels t.count now (2 ^ 64 - 1) t.heard }
+
+-- the same, if counts are printed
+abbrev pub looked : Teller → Counted → ℕ → Teller
+looked t c now = if is_off t then t else looked_at t c now
+
+-- counts are printed, and their time is reached
+abbrev pub is_telling_due : Teller → ℕ → Bool
+is_telling_due t now = not (is_off t) && is_due t.next now

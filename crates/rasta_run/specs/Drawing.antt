@@ -1,7 +1,8 @@
 -- The first sequence number of an opening.
-use Rattle.std.specs.Prelude.{◌≡◌, ⊤, ℕ, Option, Some, None}
+use Rattle.std.specs.Prelude.{◌≡◌, ℕ, Option, Some, None}
 
--- an end may begin with this number: that of its settings if they have one, else any, since it is drawn
-abbrev pub MayBegin : Option ℕ → ℕ → Type 0
-MayBegin (Some stated) number = number ≡ stated
-MayBegin None number = ⊤
+-- an opening takes this number from a source of numbers: that of its settings, if they have one, and then the source stays as it is; else the next one
+-- that the source draws
+abbrev pub Begins : {D : Type 0} → (draws : D → ℕ → D → Type 0) → Option ℕ → D → ℕ → D → Type 0
+Begins draws (Some stated) before number after = (number ≡ stated) × (after ≡ before)
+Begins draws None before number after = draws before number after

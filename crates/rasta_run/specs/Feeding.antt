@@ -1,11 +1,13 @@
 -- The lines of standard input, and when a run that lasts until its end is over.
-use Rattle.std.specs.Prelude.{ℕ, ⊤, ◌≡◌, ◌%◌, ◌^◌, take, drop, min, option_map, length, count_by, slice_get, ◌+◌, ◌-◌, ◌∷◌, [], List, Bool, false, not, ◌&&◌, ◌||◌, ◌==◌, nat_le, nat_lt, Option, None, Some, codes, if◌then◌else◌}
+use Rattle.std.specs.Prelude.{ℕ, ⊤, ◌≡◌, ◌%◌, ◌^◌, take, drop, min, option_map, length, count_by, slice_get, ◌+◌, ◌-◌, ◌∷◌, [], List, Bool, false, true, not, ◌&&◌, ◌||◌, ◌==◌, nat_eq, nat_le, nat_lt, Option, None, Some, codes, is_none, is_some, if◌then◌else◌}
+use Rattle.settings_file.specs.declared.values.Put.{Put as Telegram}
 use Rattle.std.specs.List.{position}
 use Rattle.std.specs.Fmt.{decimal}
 use Rattle.std.specs.Option.{option_map_or}
 use Rattle.pdu_text.specs.Lines.{joined}
 use Rattle.settings_file.specs.Groups.{put_seen}
 use Rattle.settings_file.specs.Readers.{put_of}
+use Rattle.rasta_run.specs.declared.input.Feed.{Feed}
 use Rattle.rasta_run.specs.declared.input.Line.{Line}
 use Rattle.rasta_run.specs.declared.input.Line.TheVariants as line
 
@@ -67,3 +69,57 @@ abbrev pub lines_left : List ℕ → ℕ
 lines_left octets =
     if is_open (slice_get octets (length octets - 1)) then min (count_by (λ octet. octet == 10) octets + 1) (2 ^ 64 - 1)
     else count_by (λ octet. octet == 10) octets
+
+-- what is known of an input: the telegram that is next, the bytes that are in no line yet, the number of lines so far, and that of the lines that are
+-- not telegrams
+pub record Input : Type 0 where
+  pub next : Option Telegram
+  pub octets : List ℕ
+  pub cut : ℕ
+  pub unread : ℕ
+
+-- the input of a feed
+abbrev pub input_of : {I : Type 0} → Feed I → Input
+input_of feed = record { next = feed.next; octets = feed.lines.octets.items; cut = feed.lines.cut; unread = feed.unread }
+
+-- one more, up to the greatest count
+abbrev pub one_more : ℕ → ℕ
+one_more count = min (count + 1) (2 ^ 64 - 1)
+
+-- the input after its next line was cut off, with this telegram that is next and this number of lines that are not telegrams
+abbrev pub cut_off : (ended : Bool) → Option Telegram → (unread : ℕ) → Input → Input
+cut_off ended next unread s =
+    record { next = next; octets = left_behind ended s.octets; cut = cut_after ended s.octets s.cut; unread = unread }
+
+-- what is read of an input whose next line is this; `has`: a line was there. A telegram is then next, and a line that is not one is counted.
+abbrev pub ReadsLine : Option (Option (ℕ × List ℕ)) → (ended : Bool) → Input → (has : Bool) → Input → Type 0
+ReadsLine None ended s has t = (has ≡ false) × (t ≡ s)
+ReadsLine (Some None) ended s has t = (has ≡ true) × (t ≡ cut_off ended s.next (one_more s.unread) s)
+ReadsLine (Some (Some seen)) ended s has t =
+    (p : Telegram) × (has ≡ true) × (put_seen p ≡ seen) × (t ≡ cut_off ended (Some p) s.unread s)
+
+-- a line is read, unless a telegram is next already
+abbrev pub ReadsUnless : Option Telegram → (ended : Bool) → Input → (has : Bool) → Input → Type 0
+ReadsUnless (Some p) ended s has t = (has ≡ true) × (t ≡ s)
+ReadsUnless None ended s has t = ReadsLine (line_read ended s.octets) ended s has t
+
+-- the next telegram of an input is made ready
+abbrev pub Reads : (ended : Bool) → Input → (has : Bool) → Input → Type 0
+Reads ended s has t = ReadsUnless s.next ended s has t
+
+-- the number of telegrams that are next
+abbrev pub count_of : Option Telegram → ℕ
+count_of None = 0
+count_of (Some p) = 1
+
+-- the lines that were not put: those that are not telegrams, the one that is next, and those that are left
+abbrev pub unput : Input → ℕ
+unput s = min (min (s.unread + count_of s.next) (2 ^ 64 - 1) + lines_left s.octets) (2 ^ 64 - 1)
+
+-- the input is at its end, and every line was taken out of it
+abbrev pub is_done : Option ℕ → Input → Bool
+is_done ended s = is_some ended && (is_none s.next && nat_eq (length s.octets) 0)
+
+-- input is read: it is not at its end, and there is room
+abbrev pub is_wanted : Option ℕ → List ℕ → Bool
+is_wanted ended octets = is_none ended && nat_lt (length octets) ahead_most

@@ -24,6 +24,9 @@ asked_of f words =
       messages = f.messages;
       ports = f.ports;
       form = form_of f.json;
+      time = f.times.form;
+      span = f.times.span;
+      every = f.times.every;
     }
 
 -- the same, if there are such words
@@ -31,9 +34,11 @@ abbrev pub asked_under : FollowRequest → Option (List ℕ) → Option Asked
 asked_under f (Some words) = Some (asked_of f words)
 asked_under f None = None
 
--- a line that is not a datagram, want of memory and a reader that fails refuse a capture; an output that fails is the system's fault
+-- a line that is not a datagram, want of memory and a reader that fails refuse a capture; an output that fails is the system's fault, but not one that its
+-- reader has closed
 abbrev pub end_of : FollowStatus → Status
 end_of follow.Done = Done
+end_of follow.Unread = Done
 end_of follow.Unreadable = Refused
 end_of follow.Memory = Refused
 end_of follow.File = Refused

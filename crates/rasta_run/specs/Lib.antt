@@ -24,4 +24,11 @@ pub mod Done
 pub mod Refusal
 pub mod Following
 pub mod Starting
+pub mod Turning
+pub mod Concluding
+pub mod Acting
+pub mod Recording
+pub mod Metrics
+pub mod Calendar
+pub mod Stamping
 pub mod Checked

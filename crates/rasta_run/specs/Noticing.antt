@@ -6,7 +6,7 @@ use Rattle.pdu_text.specs.Lines.{joined}
 use Rattle.pdu_text.specs.Names.{side_name}
 use Rattle.pdu_text.specs.Pieces.{three_digits}
 use Rattle.rasta_run.specs.declared.noticing.Notice.{Notice}
-use Rattle.rasta_run.specs.declared.noticing.Notice.TheVariants.{Deaf, Receives, InDoubt, NoTurn, Unread}
+use Rattle.rasta_run.specs.declared.noticing.Notice.TheVariants.{Deaf, Receives, InDoubt, NoTurn, Fruitless, Session, Unread}
 
 -- receptions succeed again, after this many turns in which one failed
 unfoldable pub receives_text : ℕ → List ℕ
@@ -20,12 +20,23 @@ in_doubt_text count = joined (codes "the connection is lost; " ∷ decimal count
 unfoldable pub no_turn_text : ℕ → List ℕ
 no_turn_text milliseconds = joined (codes "no turn for " ∷ decimal milliseconds ∷ codes " ms: the process was stopped, or had no processor" ∷ [])
 
+-- this many openings in a row got no session
+unfoldable pub fruitless_text : ℕ → List ℕ
+fruitless_text count =
+    joined (codes "no session in the last " ∷ decimal count ∷ codes " openings; openings are only counted until there is one" ∷ [])
+
+-- a session was established after this many openings in a row without one
+unfoldable pub session_text : ℕ → List ℕ
+session_text count = joined (codes "a session again, after " ∷ decimal count ∷ codes " openings without one" ∷ [])
+
 -- the text of a notice
 abbrev pub notice_text : Notice → List ℕ
 notice_text Deaf = codes "a reception fails: the system refuses it"
 notice_text (Receives turns) = receives_text turns
 notice_text (InDoubt count) = in_doubt_text count
 notice_text (NoTurn milliseconds) = no_turn_text milliseconds
+notice_text (Fruitless count) = fruitless_text count
+notice_text (Session count) = session_text count
 notice_text Unread = codes "leaves: nobody reads standard output"
 
 -- TIME END, at the start of a line, as in the log of an end

@@ -1,9 +1,9 @@
--- What a printer does with the telegrams that an application takes.
+-- What a printer does with the telegrams that an application takes, and with those that were refused.
 use Rattle.std.specs.Prelude.{◌≡◌, ℕ, ◌+◌, ◌%◌, ◌^◌, Bool, false, List, Option}
 use Rattle.std.specs.Io.KnownBytes.{Appends}
 use Rattle.pdi_session.specs.SessionStep.{Item}
 use Rattle.end_settings.specs.declared.Side.{Side}
-use Rattle.pdu_text.specs.Reports.{take_line}
+use Rattle.pdu_text.specs.Reports.{refusal_line, take_line}
 
 -- what is known of a printer
 pub record Printed : Type 0 where
@@ -17,3 +17,7 @@ abbrev pub Prints : Printed → Item → Printed → Type 0
 Prints p item q =
     (q.side ≡ p.side) × (q.taken ≡ (p.taken + 1) % 2 ^ 64)
     × (q.failed ≡ false → (p.failed ≡ false) × Appends p.text q.text (take_line p.side item.0 item.1))
+
+-- the line of a refusal with this name is appended to the output, and nothing else changes
+abbrev pub PrintsRefusal : Printed → List ℕ → Printed → Type 0
+PrintsRefusal p name q = (q.side ≡ p.side) × (q.taken ≡ p.taken) × (q.failed ≡ p.failed) × Appends p.text q.text (refusal_line name)

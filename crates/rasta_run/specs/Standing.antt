@@ -1,5 +1,7 @@
 -- The state that is expected of an end at the end of a run.
 use Rattle.std.specs.Prelude.{Bool, true, false, not, ◌&&◌, ◌||◌, Option, Some, None}
+use Rattle.end_settings.specs.declared.Side.{Side}
+use Rattle.end_settings.specs.declared.Side.TheVariants.{Interlocking, FieldElement}
 use Rattle.pdi_session.specs.declared.Phase.{Phase}
 use Rattle.pdi_session.specs.declared.Phase.TheVariants as phase
 use Rattle.safe_machine.specs.declared.ConnectionState.{ConnectionState}
@@ -19,11 +21,34 @@ is_up phase.Refused = false
 is_up phase.Initialising = false
 is_up phase.Ended = false
 
+-- the field element puts its initial status
+abbrev pub is_initialising : Phase → Bool
+is_initialising phase.Initialising = true
+is_initialising phase.Idle = false
+is_initialising phase.Checking = false
+is_initialising phase.Requesting = false
+is_initialising phase.AwaitCheck = false
+is_initialising phase.AwaitRequest = false
+is_initialising phase.Refused = false
+is_initialising phase.Established = false
+is_initialising phase.Ended = false
+
 -- the end is in the expected state; `settled`: everything put is confirmed; `done`: everything that was to be put was tried
 abbrev pub meets : Option Expected → Phase → (settled done : Bool) → Bool
 meets None phase settled done = true
 meets (Some Up) phase settled done = is_up phase
 meets (Some Settled) phase settled done = is_up phase && (settled && done)
+
+-- an end puts its list in this phase: an interlocking while the session is established, a field element while it initialises
+abbrev pub puts_in : Side → Phase → Bool
+puts_in Interlocking phase = is_up phase
+puts_in FieldElement phase = is_initialising phase
+
+-- an end ends its initialisation in this phase, if nothing of its list is left: a field element that initialises
+abbrev pub ends_in : Side → Phase → (is_empty : Bool) → Bool
+ends_in Interlocking phase is_empty = false
+ends_in FieldElement phase false = false
+ends_in FieldElement phase true = is_initialising phase
 
 -- lines of input are put if the session is established and the list is empty; if the end is closed and not kept, each of them is refused
 abbrev pub takes_lines : (kept : Bool) → ConnectionState → Phase → (is_empty : Bool) → Bool

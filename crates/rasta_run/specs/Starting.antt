@@ -9,6 +9,7 @@ run_under r =
       word = r.word;
       length = r.length;
       log = r.log;
+      time = r.time;
       expected = r.expected;
       keep = r.keep;
       counts = r.counts;

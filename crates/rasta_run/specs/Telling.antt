@@ -1,5 +1,5 @@
 -- The events that are recorded for the log.
-use Rattle.std.specs.Prelude.{ℕ, Bool, true, false, ◌-◌, ◌%◌, nat_le, nat_lt, List, slice_index_or, Option, Some, None, if◌then◌else◌}
+use Rattle.std.specs.Prelude.{ℕ, Bool, true, false, not, ◌&&◌, ◌||◌, ◌-◌, ◌%◌, nat_le, nat_lt, List, slice_index_or, Option, Some, None, if◌then◌else◌}
 use Rattle.end_settings.specs.declared.Side.{Side}
 use Rattle.end_settings.specs.declared.Side.TheVariants.{Interlocking, FieldElement}
 use Rattle.red_layer.specs.declared.RedEvent.{RedEvent}
@@ -10,7 +10,10 @@ use Rattle.safe_pdu.specs.declared.Leaving.{Leaving}
 use Rattle.pdu_text.specs.declared.causes.Cause.{Cause}
 use Rattle.pdu_text.specs.declared.causes.Cause.TheVariants.{Early, Part, Stranger}
 use Rattle.pdu_text.specs.declared.lines.Happening.{Happening}
-use Rattle.pdu_text.specs.declared.lines.Happening.TheVariants.{State, Left, PeerLeft, Asked, Resent}
+use Rattle.pdu_text.specs.declared.lines.Happening.TheVariants.{State, Phase, Anew, Left, PeerLeft, Asked, Resent, PutRefused, InitRefused, Silent, Heard, Dropped}
+use Rattle.rasta_run.specs.Standing.{is_up}
+use Rattle.rasta_words.specs.declared.status.LogLevel.{LogLevel}
+use Rattle.rasta_words.specs.declared.status.LogLevel.TheVariants as level
 use Rattle.pdu_text.specs.declared.endings.Departure.{Departure}
 use Rattle.pdu_text.specs.declared.endings.Departure.TheVariants.{Own, Peer}
 use Rattle.safe_machine.specs.declared.ConnectionState.{ConnectionState}
@@ -114,3 +117,81 @@ kept_as kept happened number =
     if nat_le happened number then None
     else if nat_lt 256 (happened - number) then None
     else Some (slice_index_or kept (number % 256) Asked)
+
+-- the cause of a drop, if the event is one
+abbrev pub dropped_cause : Happening → Option Cause
+dropped_cause (Dropped channel why) = Some why
+dropped_cause (State s) = None
+dropped_cause (Phase p) = None
+dropped_cause (Anew number) = None
+dropped_cause (Left leaving) = None
+dropped_cause (PeerLeft leaving) = None
+dropped_cause Asked = None
+dropped_cause Resent = None
+dropped_cause (PutRefused fault) = None
+dropped_cause (InitRefused fault) = None
+dropped_cause (Silent channel) = None
+dropped_cause (Heard channel) = None
+
+-- the event is one of an opening that gets no session
+abbrev pub is_of_opening : Happening → Bool
+is_of_opening (State s) = true
+is_of_opening (Phase p) = true
+is_of_opening (Anew number) = true
+is_of_opening (Left leaving) = true
+is_of_opening (PeerLeft leaving) = true
+is_of_opening Asked = false
+is_of_opening Resent = false
+is_of_opening (PutRefused fault) = false
+is_of_opening (InitRefused fault) = false
+is_of_opening (Silent channel) = false
+is_of_opening (Heard channel) = false
+is_of_opening (Dropped channel why) = false
+
+-- the event is that the session is established
+abbrev pub is_session : Happening → Bool
+is_session (Phase p) = is_up p
+is_session (State s) = false
+is_session (Anew number) = false
+is_session (Left leaving) = false
+is_session (PeerLeft leaving) = false
+is_session Asked = false
+is_session Resent = false
+is_session (PutRefused fault) = false
+is_session (InitRefused fault) = false
+is_session (Silent channel) = false
+is_session (Heard channel) = false
+is_session (Dropped channel why) = false
+
+-- openings are only counted after this event; a session ends that
+abbrev pub quiet_after : Happening → Bool → Bool
+quiet_after h quiet = quiet && not (is_session h)
+
+-- an event is logged at the level of states: a drop if its cause is new, and one of an opening unless openings are only counted
+abbrev pub is_told_by : Option Cause → (quiet new : Bool) → Happening → Bool
+is_told_by (Some why) quiet new h = new
+is_told_by None quiet new h = not (quiet && is_of_opening h)
+
+-- an event is logged
+abbrev pub is_told : LogLevel → (quiet new : Bool) → Happening → Bool
+is_told level.Off quiet new h = false
+is_told level.State quiet new h = is_told_by (dropped_cause h) quiet new h
+is_told level.All quiet new h = true
+
+-- the datagram is a repetition, which is not a cause
+abbrev pub is_repeat : Cause → Bool
+is_repeat (Early event.Old) = true
+is_repeat (Early event.Again) = true
+is_repeat (Early event.Passed) = false
+is_repeat (Early event.Wait) = false
+is_repeat (Early event.Far) = false
+is_repeat (Early event.Full) = false
+is_repeat (Early (event.Fault why)) = false
+is_repeat (Part why) = false
+is_repeat (Stranger sender receiver) = false
+
+-- nothing is logged
+abbrev pub is_off : LogLevel → Bool
+is_off level.Off = true
+is_off level.State = false
+is_off level.All = false

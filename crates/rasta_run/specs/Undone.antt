@@ -1,5 +1,5 @@
 -- What a run until the end of input leaves undone.
-use Rattle.std.specs.Prelude.{ℕ, ◌+◌, ◌-◌, ◌%◌, ◌^◌, ◌&&◌, Bool, true, false, nat_eq, List, [], ◌∷◌, codes}
+use Rattle.std.specs.Prelude.{ℕ, ◌+◌, ◌-◌, ◌%◌, ◌^◌, ◌&&◌, Bool, true, false, nat_eq, List, [], ◌∷◌, codes, if◌then◌else◌}
 use Rattle.std.specs.Fmt.{decimal}
 use Rattle.std.specs.Int.{w16, to_be_bytes}
 use Rattle.hex.specs.Hex.{encode_lower}
@@ -31,6 +31,10 @@ doubt_text doubt = joined (codes "in doubt: " ∷ decimal doubt ∷ codes " tele
 -- the line of what an end leaves undone
 abbrev pub undone_line : Side → Undone → List ℕ
 undone_line side u = joined (side_name side ∷ lines_text u.lines ∷ entries_text u.entries ∷ doubt_text u.doubt ∷ [])
+
+-- what is printed of it: nothing, if nothing is left undone
+abbrev pub told_line : Side → Undone → List ℕ
+told_line side u = if is_nothing u then [] else undone_line side u
 
 -- where a telegram comes from
 unfoldable pub line_text : ℕ → List ℕ

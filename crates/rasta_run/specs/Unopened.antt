@@ -8,6 +8,8 @@ use Rattle.pdu_text.specs.Lines.{joined}
 use Rattle.pdu_text.specs.Names.{side_name}
 use Rattle.rasta_words.specs.declared.status.Fault.{Fault}
 use Rattle.rasta_words.specs.declared.status.Fault.TheVariants.{Memory, Settings, Network}
+use Rattle.rasta_run.specs.declared.unopened.Stopped.{Stopped}
+use Rattle.rasta_run.specs.declared.unopened.Stopped.TheVariants as stopped
 use Rattle.stack_end.specs.declared.OpenFault.{OpenFault}
 use Rattle.stack_end.specs.declared.OpenFault.TheVariants as end
 
@@ -18,6 +20,11 @@ fault_of udp.Memory = Memory
 fault_of (udp.Address place) = Settings
 fault_of (udp.Bind refusal) = Network
 fault_of udp.Wait = Network
+
+-- the fault that ended a run
+abbrev pub fault_of_stop : Stopped → Fault
+fault_of_stop (stopped.Fault fault) = fault
+fault_of_stop (stopped.Unopened u) = fault_of u.fault
 
 -- the fault of a run whose end was not opened
 abbrev pub fault_of_end : OpenFault → Fault

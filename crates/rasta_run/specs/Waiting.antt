@@ -1,7 +1,10 @@
 -- How long a run waits after a turn.
-use Rattle.std.specs.Prelude.{◌≡◌, ℕ, ◌-◌, Bool, true, false, min, Option, Some, None}
+use Rattle.std.specs.Prelude.{◌≡◌, ℕ, ◌+◌, ◌-◌, ◌^◌, ◌≤◌, nat_eq, Bool, true, false, min, Option, Some, None, if◌then◌else◌}
 use Rattle.rasta_words.specs.declared.status.RunLength.{RunLength}
 use Rattle.rasta_words.specs.declared.status.RunLength.TheVariants.{Turns, UntilEnd}
+use Rattle.safe_machine.specs.Deadlines.{IsBefore, IsReachedAt}
+use Rattle.stack_end.specs.Deadlines.{HasFallen, IsQuiet}
+use Rattle.stack_end.specs.Turns.{Inside, is_over}
 
 -- in milliseconds. If turns are counted: a heartbeat is due after 10 at least, and the sockets are asked at most 250 times a second. If a run lasts until
 -- input ends: input ends the wait.
@@ -19,3 +22,13 @@ rest_of length false now (Some deadline) = Some (min (deadline - now) (longest_r
 abbrev pub Rests : {W : Type 0} → (W → ℕ → W → Type 0) → Option ℕ → W → W → Type 0
 Rests waits None old new = new ≡ old
 Rests waits (Some milliseconds) old new = waits old milliseconds new
+
+-- when an end tries again after turns in which a reception failed: 10 ms after the last one
+abbrev pub again_at : (deaf last : ℕ) → Option ℕ
+again_at deaf last = if nat_eq deaf 0 then None else Some (min (last + 10) (2 ^ 64 - 1))
+
+-- the deadline of an end: a tick before it does nothing, and one at or after it does something; a closed end has none
+abbrev pub IsDeadlineOf : Inside → Option ℕ → Type 0
+IsDeadlineOf v own =
+    (is_over v ≡ false → (now : ℕ) → IsBefore now own → IsQuiet now v) × ((now : ℕ) → now ≤ 2 ^ 62 → IsReachedAt now own → HasFallen now v)
+    × (is_over v ≡ true → own ≡ None)

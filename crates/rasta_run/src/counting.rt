@@ -1,15 +1,17 @@
-//! The counts of an end on standard error, in words or as JSON.
+//! The counts of an end on standard error, in words, as JSON, or in the format of Prometheus.
 //!
 //! Each channel has one flat line and the connection one, so that `grep` and `jq` can read them.
 
-ghost use Rattle.std.specs.Prelude.{◌≡◌, ◌+◌, ◌<◌, OnOk};
+ghost use Rattle.std.specs.Prelude.{◌≡◌, ◌+◌, ◌-◌, ◌<◌, ◌^◌, ◌∷◌, [], OnOk};
 ghost use Rattle.std.specs.Io.KnownBytes.{Appends};
 ghost use Rattle.std.specs.List.{flat_map};
 ghost use Rattle.octets.specs.declared.limits.TheConstants.{CHANNELS_MAX};
 ghost use Rattle.rasta_run.specs.Counting as counting;
 ghost use Rattle.rasta_run.specs.Counts as counts;
+ghost use Rattle.rasta_run.specs.Silence.{hears_at, unheard};
 
 use crate::logging::Listening;
+use crate::metrics::Sample;
 use crate::{ChannelCounts, Counted};
 use end_settings::Side;
 use octets::Milliseconds;
@@ -19,6 +21,15 @@ use rasta_words::{CountsForm, Telling};
 use stack_end::ReceptionCounts;
 use std::io;
 use std::io::Write;
+
+/// The form of a line of counts.
+#[derive(Clone, Copy, Debug, PartialEq, Eq)]
+pub enum LineForm {
+    /// In words.
+    Text,
+    /// As JSON.
+    Json,
+}
 
 /// The counts of an end that are printed, and when.
 #[derive(Clone, Copy, Debug)]
@@ -39,7 +50,18 @@ pub struct Teller {
 
 impl Teller {
     /// Returns the printer of counts for an end that is opened now.
-    pub fn new(side: Side, t_max: u64, telling: Option<Telling>, count: usize, now: u64) -> Self {
+    pub fn new(side: Side, t_max: u64, telling: Option<Telling>, count: usize, now: u64) -> Self
+        // A new printer is of this end, has this form and number of channels, and prints next after the seconds of
+        // the form. Nothing has come on any channel.
+        ensures { result ≡ record {
+          side = side;
+          t_max = t_max;
+          telling = telling;
+          next = counts.next_after telling now;
+          heard = unheard 0 ∷ unheard 0 ∷ unheard 0 ∷ unheard 0 ∷ [];
+          count = count;
+        } }
+    {
         let unheard = Listening {
             came: 0,
             at: 0,
@@ -66,17 +88,32 @@ impl Teller {
     /// Records which channels received something, and returns whether the counts are due.
     pub fn look(&mut self, counted: &Counted, now: Milliseconds) -> bool
         // `look` returns true if and only if there is a next time and it is reached.
-        ensures { result ≡ counts.is_due self.old.next now }
+        ensures due { result ≡ counts.is_due self.old.next now }
+        // `look` records of each channel whether it received something since the last look. Counts that are due are
+        // printed next after the seconds of the form.
+        ensures looked { self.new ≡ counts.looked_at self.old counted.now now }
     {
         let is_due = is_due(self.next, now);
-        if is_due {
-            self.next = next_after(self.telling, now);
-        }
-        for channel in 0..self.count.min(CHANNELS_MAX) {
-            let came = counted.sums.channels[channel].received;
-            let _said = self.heard[channel].look(came, now, u64::MAX);
-        }
+        self.next = next_by(is_due, self.telling, self.next, now);
+        self.look_at(counted, now, 0);
+        self.look_at(counted, now, 1);
+        self.look_at(counted, now, 2);
+        self.look_at(counted, now, 3);
         is_due
+    }
+
+    /// Records whether the channel at a place, from 0, received something, if the end has it.
+    fn look_at(&mut self, counted: &Counted, now: Milliseconds, place: usize)
+        requires { place < CHANNELS_MAX }
+        // `look_at` records whether this channel has received something, and looks at no other.
+        ensures { self.new ≡ record self.old {
+          heard = hears_at counted.now.sums.channels self.old.count now (2 ^ 64 - 1) place self.old.heard;
+        } }
+    {
+        if place < self.count {
+            let came = counted.sums.channels[place].received;
+            let _said = self.heard[place].look(came, now, u64::MAX);
+        }
     }
 
     /// Prints the counts, if there is a form for them.
@@ -91,13 +128,49 @@ impl Teller {
         err: &mut E,
     ) -> io::Result<()>
         // If `tell` succeeds, it has appended a line for each channel and one for the connection, or nothing without
-        // a form.
+        // a form that has lines.
         ensures { OnOk result (Appends (E.contents err.old) (E.contents err.new)
             (counts.told_text self.now now counted.now)) }
     {
-        match self.telling {
+        match self.line_form() {
             None => write_text(err, ""),
-            Some(telling) => self.write(err, telling.form, counted, now),
+            Some(form) => self.write(err, form, counted, now),
+        }
+    }
+
+    /// Returns the form of the lines, if there are any.
+    fn line_form(&self) -> Option<LineForm>
+        // `line_form` returns the form of the lines, and `None` without a form or for that of Prometheus.
+        ensures { result ≡ counts.line_form self.now.telling }
+    {
+        match self.telling {
+            None => None,
+            Some(telling) => form_of(telling.form),
+        }
+    }
+
+    /// Returns whether the counts of all ends are printed in one block, in the format of Prometheus.
+    pub fn has_block(&self) -> bool
+        // `has_block` is true if and only if the form is that of Prometheus.
+        ensures { result ≡ counts.has_block self.now.telling }
+    {
+        match self.telling {
+            None => false,
+            Some(telling) => is_block(telling.form),
+        }
+    }
+
+    /// Returns what is counted of the end at a time of the run, for that block.
+    pub fn sample(&self, counted: &Counted, at: Milliseconds) -> Sample
+        // `sample` returns what is counted, with the end, its number of channels, its T_max and the time.
+        ensures { result ≡ record { side = self.now.side; count = self.now.count; t_max = self.now.t_max; at = at; counted = counted.now } }
+    {
+        Sample {
+            side: self.side,
+            count: self.count,
+            t_max: self.t_max,
+            at,
+            counted: *counted,
         }
     }
 
@@ -106,7 +179,7 @@ impl Teller {
     fn write<W: Write>(
         &self,
         writer: &mut W,
-        form: CountsForm,
+        form: LineForm,
         counted: &Counted,
         now: Milliseconds,
     ) -> io::Result<()>
@@ -126,7 +199,7 @@ impl Teller {
     fn write_place<W: Write>(
         &self,
         writer: &mut W,
-        form: CountsForm,
+        form: LineForm,
         counted: &Counted,
         now: Milliseconds,
         place: usize,
@@ -156,15 +229,58 @@ impl Teller {
 }
 
 /// Returns when counts are printed next, in milliseconds.
-fn next_after(telling: Option<Telling>, now: u64) -> Option<u64> {
+fn next_after(telling: Option<Telling>, now: u64) -> Option<u64>
+    // `next_after` returns the time after the seconds of the form, if there is a form that has some.
+    ensures { result ≡ counts.next_after telling now }
+{
     match telling {
-        Some(
-            Telling {
-                every: Some(seconds),
-                ..
-            },
-        ) => Some(now.saturating_add(u64::from(seconds).saturating_mul(1_000))),
-        _ => None,
+        None => None,
+        Some(telling) => next_every(telling.every, now),
+    }
+}
+
+/// Returns the time that is some seconds later, in milliseconds.
+fn next_every(every: Option<u32>, now: u64) -> Option<u64>
+    // `next_every` returns the time after the seconds, and `None` without any.
+    ensures { result ≡ counts.next_every every now }
+{
+    match every {
+        None => None,
+        Some(seconds) => Some(now.saturating_add(u64::from(seconds) * 1_000)),
+    }
+}
+
+/// Returns when counts are printed next, after a look.
+fn next_by(is_due: bool, telling: Option<Telling>, next: Option<u64>, now: u64) -> Option<u64>
+    // `next_by` returns a new time if counts are due, and else the time so far.
+    ensures { result ≡ counts.next_by is_due telling next now }
+{
+    match is_due {
+        true => next_after(telling, now),
+        false => next,
+    }
+}
+
+/// Returns the form of lines of counts, if a form has lines.
+fn form_of(form: CountsForm) -> Option<LineForm>
+    // `form_of` returns the form itself, and `None` for that of Prometheus.
+    ensures { result ≡ counts.form_of form }
+{
+    match form {
+        CountsForm::Text => Some(LineForm::Text),
+        CountsForm::Json => Some(LineForm::Json),
+        CountsForm::Prometheus => None,
+    }
+}
+
+/// Returns whether a form has one block for all ends.
+fn is_block(form: CountsForm) -> bool
+    // `is_block` is true for the form of Prometheus, and false for any other.
+    ensures { result ≡ counts.is_block form }
+{
+    match form {
+        CountsForm::Prometheus => true,
+        CountsForm::Text | CountsForm::Json => false,
     }
 }
 
@@ -187,7 +303,7 @@ fn is_due(next: Option<u64>, now: u64) -> bool
 #[tactic(auto, unfolding(crate::specs::Counts::channel_text))]
 pub fn write_channel<W: Write>(
     writer: &mut W,
-    form: CountsForm,
+    form: LineForm,
     at: u64,
     side: Side,
     channel: usize,
@@ -230,7 +346,7 @@ pub fn write_channel<W: Write>(
 #[tactic(auto, unfolding(crate::specs::Counts::connection_text))]
 pub fn write_connection<W: Write>(
     writer: &mut W,
-    form: CountsForm,
+    form: LineForm,
     at: u64,
     side: Side,
     counted: &Counted,
@@ -257,7 +373,7 @@ pub fn write_connection<W: Write>(
 #[tactic(auto, unfolding(crate::specs::Counts::pdus_text))]
 fn write_pdus<W: Write>(
     writer: &mut W,
-    form: CountsForm,
+    form: LineForm,
     at: u64,
     counted: &Counted,
 ) -> io::Result<()>
@@ -281,7 +397,7 @@ fn write_pdus<W: Write>(
 }
 
 /// Returns the least time that was left to T_max, in milliseconds.
-fn margin_of(oldest: Option<u64>, t_max: u64) -> Option<u64>
+pub fn margin_of(oldest: Option<u64>, t_max: u64) -> Option<u64>
     // `margin_of` returns T_max minus the greatest age, at least 0, and `None` if there is no age.
     ensures { result ≡ counts.margin_of oldest t_max }
 {
@@ -292,13 +408,13 @@ fn margin_of(oldest: Option<u64>, t_max: u64) -> Option<u64>
 }
 
 /// Writes the start of a line.
-fn write_front<W: Write>(writer: &mut W, form: CountsForm, side: Side) -> io::Result<()>
+fn write_front<W: Write>(writer: &mut W, form: LineForm, side: Side) -> io::Result<()>
     // If `write_front` succeeds, it has appended the start of a line of this form for this end.
     ensures { OnOk result (Appends (W.contents writer.old) (W.contents writer.new) (counts.front_of form side)) }
 {
     match form {
-        CountsForm::Text => write_worded_front(writer, side),
-        CountsForm::Json => write_json_front(writer, side),
+        LineForm::Text => write_worded_front(writer, side),
+        LineForm::Json => write_json_front(writer, side),
     }
 }
 
@@ -323,11 +439,7 @@ fn write_json_front<W: Write>(writer: &mut W, side: Side) -> io::Result<()>
 }
 
 /// Writes numbers, each with its name.
-fn write_fields<W: Write>(
-    writer: &mut W,
-    form: CountsForm,
-    fields: &[(&str, u64)],
-) -> io::Result<()>
+fn write_fields<W: Write>(writer: &mut W, form: LineForm, fields: &[(&str, u64)]) -> io::Result<()>
     // If `write_fields` succeeds, it has appended each name and its number in this form, in order.
     ensures { OnOk result (Appends (W.contents writer.old) (W.contents writer.new)
         (flat_map (λ f. counts.field_text form f.0.now f.1) fields.now)) }
@@ -339,26 +451,21 @@ fn write_fields<W: Write>(
 }
 
 /// Writes a number with its name.
-fn write_field<W: Write>(
-    writer: &mut W,
-    form: CountsForm,
-    name: &str,
-    number: u64,
-) -> io::Result<()>
+fn write_field<W: Write>(writer: &mut W, form: LineForm, name: &str, number: u64) -> io::Result<()>
     // If `write_field` succeeds, it has appended the name and the number in this form.
     ensures { OnOk result (Appends (W.contents writer.old) (W.contents writer.new)
         (counts.field_text form name.now number)) }
 {
     match form {
-        CountsForm::Text => write_worded(writer, name, number),
-        CountsForm::Json => write_json(writer, name, number),
+        LineForm::Text => write_worded(writer, name, number),
+        LineForm::Json => write_json(writer, name, number),
     }
 }
 
 /// Writes a number with its name, if there is one.
 fn write_some<W: Write>(
     writer: &mut W,
-    form: CountsForm,
+    form: LineForm,
     name: &str,
     number: Option<u64>,
 ) -> io::Result<()>
@@ -373,14 +480,14 @@ fn write_some<W: Write>(
 }
 
 /// Writes that there is no number of this name.
-fn write_none<W: Write>(writer: &mut W, form: CountsForm, name: &str) -> io::Result<()>
+fn write_none<W: Write>(writer: &mut W, form: LineForm, name: &str) -> io::Result<()>
     // If `write_none` succeeds, it has appended the name with the word for none, in this form.
     ensures { OnOk result (Appends (W.contents writer.old) (W.contents writer.new)
         (counts.none_text form name.now)) }
 {
     match form {
-        CountsForm::Text => write_worded_none(writer, name),
-        CountsForm::Json => write_json_none(writer, name),
+        LineForm::Text => write_worded_none(writer, name),
+        LineForm::Json => write_json_none(writer, name),
     }
 }
 
@@ -423,12 +530,12 @@ fn write_json<W: Write>(writer: &mut W, name: &str, number: u64) -> io::Result<(
 }
 
 /// Returns the end of a line.
-fn end_of(form: CountsForm) -> &'static str
+fn end_of(form: LineForm) -> &'static str
     // `end_of` returns a line feed, after a closing brace in JSON.
     ensures { result.now ≡ counts.end_of form }
 {
     match form {
-        CountsForm::Text => "\n",
-        CountsForm::Json => "}\n",
+        LineForm::Text => "\n",
+        LineForm::Json => "}\n",
     }
 }

@@ -1,7 +1,7 @@
 //! The first sequence number of an opening.
 
-ghost use Rattle.std.specs.Prelude.{◌≡◌, ℕ, Some, Ok, IfErr, IfOk};
-ghost use Rattle.rasta_run.specs.Drawing.{MayBegin};
+ghost use Rattle.std.specs.Prelude.{◌≡◌, ℕ, IfErr, IfOk};
+ghost use Rattle.rasta_run.specs.Drawing.{Begins};
 ghost use Rattle.rasta_words.specs.declared.status.Fault.TheVariants as fault;
 
 use rasta_words::Fault;
@@ -12,36 +12,58 @@ use std::rt::Files;
 /// Where the system gives random bytes.
 const RANDOM: &str = "/dev/urandom";
 
-/// Returns the number that the settings have, or one that is drawn from the system.
+/// A source of numbers.
+pub trait Draw {
+    // What a draw does: the number, and the source afterwards.
+    ghost draws: { Self → ℕ → Self → Type 0 };
+
+    /// Draws a number.
+    ///
+    /// # Errors
+    ///
+    /// - `File` if the source gives no number.
+    fn draw(&mut self) -> Result<u32, Fault>
+        // A draw changes `self` as `draws` says for its number.
+        ensures drawn { IfOk result (λ number. draws self.old number self.new) }
+        // `draw` fails only with `File`.
+        ensures refused { IfErr result (λ why. why ≡ fault.File) };
+}
+
+/// The random numbers of the system.
+#[derive(Clone, Copy, Drop)]
+pub struct Random<'a, R: Files> {
+    /// The system.
+    pub system: &'a R,
+}
+
+impl<R: Files> Draw for Random<'_, R> {
+    ghost draws = { λ _ _ _. Unit {0} };
+
+    fn draw(&mut self) -> Result<u32, Fault> {
+        let mut octets = [0u8; 4];
+        let Ok(mut file) = fs::open(self.system, RANDOM) else {
+            return Err(Fault::File);
+        };
+        match file.read_exact(&mut octets) {
+            Ok(()) => Ok(u32::from_le_bytes(octets)),
+            Err(_) => Err(Fault::File),
+        }
+    }
+}
+
+/// Returns the number that the settings have, or else the next one of a source.
 ///
 /// # Errors
 ///
-/// - `File` if the system gives no random bytes.
-pub fn first_number<R: Files>(rt: &R, stated: Option<u32>) -> Result<u32, Fault>
-    // If the settings have a number, `first_number` returns it.
-    ensures stated { (n : ℕ) → stated ≡ Some n → result ≡ Ok n }
-    // An end may begin with the number that `first_number` returns.
-    ensures begins { IfOk result (MayBegin stated) }
+/// - `File` if the source gives no number.
+pub fn first_number<D: Draw>(source: &mut D, stated: Option<u32>) -> Result<u32, Fault>
+    // `first_number` returns the number of the settings, and leaves the source as it is; without one it draws once.
+    ensures begins { IfOk result (λ number. Begins D.draws stated source.old number source.new) }
     // `first_number` fails only with `File`.
     ensures refused { IfErr result (λ why. why ≡ fault.File) }
 {
     match stated {
         Some(number) => Ok(number),
-        None => draw(rt),
-    }
-}
-
-/// Draws a random number.
-fn draw<R: Files>(rt: &R) -> Result<u32, Fault>
-    // `draw` fails only with `File`.
-    ensures { IfErr result (λ why. why ≡ fault.File) }
-{
-    let mut octets = [0u8; 4];
-    let Ok(mut file) = fs::open(rt, RANDOM) else {
-        return Err(Fault::File);
-    };
-    match file.read_exact(&mut octets) {
-        Ok(()) => Ok(u32::from_le_bytes(octets)),
-        Err(_) => Err(Fault::File),
+        None => source.draw(),
     }
 }

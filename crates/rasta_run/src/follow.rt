@@ -13,9 +13,9 @@ use std::alloc::Global;
 use std::io::{Read, Write};
 
 /// Runs `follow` over the capture of a reader. The lines of its datagrams and the summary go to `out`, lines that
-/// are not datagrams to `err`. It returns `Done` if each line was a datagram, `Refused` if one was not, and else
-/// the status of the fault that stopped it: of the file, of memory or of an output. An initial value that is not
-/// 32 hex digits is `fault: hex`.
+/// are not datagrams to `err`. It returns `Done` if each line was a datagram, and `Refused` if one was not. It also
+/// returns `Done` if the reader of `out` has closed it, and else the status of the fault that stopped it: of the file,
+/// of memory or of an output. An initial value that is not 32 hex digits is `fault: hex`.
 ///
 /// It is not inlined, so that its stack is not that of every subcommand.
 #[inline(never)]
@@ -55,6 +55,9 @@ fn ask_for(following: &FollowRequest<'_>) -> Option<Asked>
         messages: following.messages,
         ports: following.ports,
         form: form(following.json),
+        time: following.times.form,
+        span: following.times.span,
+        every: following.times.every,
     })
 }
 
@@ -72,11 +75,12 @@ fn form(json: bool) -> OutputForm
 
 /// Prints the fault that stopped a run, and returns how the program ends.
 fn end<E: Write>(err: &mut E, ended: FollowStatus) -> Status
-    // `end` returns `Done` for a capture without fault, `Failed` for a failed output, and else `Refused`.
+    // `end` returns `Done` for a capture without fault and for an output that nobody reads any more, `Failed` for a
+    // failed output, and else `Refused`.
     ensures { result ≡ end_of ended }
 {
     match ended {
-        FollowStatus::Done => Status::Done,
+        FollowStatus::Done | FollowStatus::Unread => Status::Done,
         FollowStatus::Unreadable => Status::Refused,
         FollowStatus::Memory => report(err, Fault::Memory),
         FollowStatus::File => report(err, Fault::File),

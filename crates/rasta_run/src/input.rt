@@ -2,9 +2,9 @@
 //!
 //! Input is watched together with the sockets, and read only if something is there.
 
-ghost use Rattle.std.specs.Prelude.{◌≡◌, ◌≤◌, ◌<◌, length, IfOk, OnErr, OnOk, IfSome};
-ghost use Rattle.std.specs.Io.KnownBytes.{Appends};
-ghost use Rattle.rasta_run.specs.Feeding.{cut_after, feed_place, is_open, IsNumbered, left_behind, line_read, line_seen, lines_left, next_line, none_text, unfed_line};
+ghost use Rattle.std.specs.Prelude.{◌≡◌, ◌≤◌, ◌<◌, ◌++◌, [], Bool, List, ℕ, None, false, true, is_some, length, nat_eq, nat_lt, IfErr, IfOk, OnErr, OnOk, IfSome};
+ghost use Rattle.std.specs.Io.KnownBytes.{Appends, Consumes};
+ghost use Rattle.rasta_run.specs.Feeding.{Reads, ReadsLine, ahead_most, cut_after, feed_place, input_of, is_done, is_open, is_wanted, IsNumbered, left_behind, line_read, line_seen, lines_left, next_line, none_text, one_more, unfed_line, unput};
 
 use crate::readiness::{Gate, Readiness, Stream};
 use octets::Milliseconds;
@@ -55,7 +55,11 @@ impl<I: Read + Drop> Feed<I> {
         gate: &mut Readiness,
         watch: &Watch,
         reader: I,
-    ) -> Result<Self, Fault> {
+    ) -> Result<Self, Fault>
+        // Of an input that `open` returns nothing was read, and it is not at its end.
+        ensures { IfOk result (λ feed. (feed.reader ≡ reader) × (feed.ended ≡ None)
+            × (input_of feed ≡ record { next = None; octets = []; cut = 0; unread = 0 })) }
+    {
         gate.watch_input()?;
         // The system does not watch a file, whose reader never waits. If standard input was closed, the watch has its
         // descriptor, and does not watch itself.
@@ -80,8 +84,25 @@ impl<I: Read + Drop> Feed<I> {
     ///
     /// - `File` if standard input cannot be read, for example because it is a folder;
     /// - `Memory` if an allocation fails.
-    pub fn read<G: Gate>(&mut self, gate: &mut G, now: Milliseconds) -> Result<bool, Fault> {
-        if self.ended.is_some() || !self.lines.has_room() || !gate.is_ready(Stream::Input) {
+    pub fn read<G: Gate>(&mut self, gate: &mut G, now: Milliseconds) -> Result<bool, Fault>
+        // At its end, or without room, `read` changes nothing and asks nothing.
+        ensures idle { is_wanted self.old.ended self.old.lines.octets.items ≡ false
+            → IfOk result (λ came. (came ≡ false) × (self.new ≡ self.old) × (gate.new ≡ gate.old)) }
+        // Else `read` asks the gate once, and reads nothing if the input is not ready.
+        ensures asked { is_wanted self.old.ended self.old.lines.octets.items ≡ true → (ready : Bool)
+            × G.asks gate.old Stream.Input ready gate.new
+            × (ready ≡ false → IfOk result (λ came. (came ≡ false) × (self.new ≡ self.old))) }
+        // If `read` returns true, all bytes that the reader gave are after those that were there.
+        ensures came { IfOk result (λ came. came ≡ true → (octets : List ℕ)
+            × Consumes (I.remaining self.old.reader) (I.remaining self.new.reader) octets
+            × (self.new.lines.octets.items ≡ self.old.lines.octets.items ++ octets) × (self.new.ended ≡ self.old.ended)) }
+        // If `read` returns false, no byte has come.
+        ensures none { IfOk result (λ came. came ≡ false → self.new.lines ≡ self.old.lines) }
+        // `read` cuts no line, and changes neither the next telegram nor the number of lines that are not telegrams.
+        ensures kept { (self.new.lines.cut ≡ self.old.lines.cut) × (self.new.next ≡ self.old.next)
+            × (self.new.unread ≡ self.old.unread) }
+    {
+        if !self.is_wanted() || !gate.is_ready(Stream::Input) {
             return Ok(false);
         }
         let mut octets = [0u8; READ_MAX];
@@ -100,17 +121,53 @@ impl<I: Read + Drop> Feed<I> {
         }
     }
 
+    /// Returns whether more is to be read.
+    fn is_wanted(&self) -> bool
+        // `is_wanted` is true if and only if the input is not at its end, and fewer than 65,536 bytes wait.
+        ensures { result ≡ is_wanted self.now.ended self.now.lines.octets.items }
+    {
+        self.ended.is_none() && self.lines.has_room()
+    }
+
     /// Prepares the next telegram, and returns whether there was a line for it. A line that is not a telegram is
     /// printed on `err`, and then no telegram is ready.
     ///
     /// # Errors
     ///
     /// - `Memory` if an allocation fails.
-    pub fn prepare<E: Write>(&mut self, alloc: Global, err: &mut E) -> Result<bool, Fault> {
-        if self.next.is_some() {
-            return Ok(true);
+    pub fn prepare<E: Write>(&mut self, alloc: Global, err: &mut E) -> Result<bool, Fault>
+        // If no telegram is next, `prepare` cuts off the next line. The telegram that it spells is then next, and a
+        // line that is not one is counted. It returns whether a telegram was next or a line was there.
+        ensures read { IfOk result (λ has. Reads (is_some self.old.ended) (input_of self.old) has (input_of self.new)) }
+        // `prepare` reads nothing.
+        ensures kept { (self.new.reader ≡ self.old.reader) × (self.new.ended ≡ self.old.ended) }
+        // `prepare` fails only with `Memory`, and changes nothing then.
+        ensures refused { IfErr result (λ why. (why ≡ Fault.Memory) × (self.new ≡ self.old)) }
+    {
+        let ended = self.ended.is_some();
+        match &self.next {
+            Some(_) => Ok(true),
+            None => self.read_line(ended, alloc, err),
         }
-        match self.lines.next(alloc, self.ended.is_some()) {
+    }
+
+    /// Cuts off the next line and reads it, and returns whether there was one. The last line needs no line feed if the
+    /// input has `ended`.
+    fn read_line<E: Write>(
+        &mut self,
+        ended: bool,
+        alloc: Global,
+        err: &mut E,
+    ) -> Result<bool, Fault>
+        // The telegram that the line spells is next after `read_line`; a line that is not one is counted.
+        ensures read { IfOk result (λ has. ReadsLine (line_read ended self.old.lines.octets.items)
+            ended (input_of self.old) has (input_of self.new)) }
+        // `read_line` takes its line from what was read before.
+        ensures kept { (self.new.reader ≡ self.old.reader) × (self.new.ended ≡ self.old.ended) }
+        // `read_line` fails only with `Memory`; then it has cut off no line.
+        ensures refused { IfErr result (λ why. (why ≡ Fault.Memory) × (self.new ≡ self.old)) }
+    {
+        match self.lines.next(alloc, ended) {
             Ok(Line::Missing) => Ok(false),
             Ok(Line::Telegram(put)) => {
                 self.next = Some(put);
@@ -134,7 +191,10 @@ impl<I: Read + Drop> Feed<I> {
     }
 
     /// Returns how many lines were not put: those that are not telegrams, and those that are left.
-    pub fn unput(&self) -> u64 {
+    pub fn unput(&self) -> u64
+        // `unput` adds the lines that are not telegrams, the one that is next, and those that are left.
+        ensures { result ≡ unput (input_of self.now) }
+    {
         let next = match self.next {
             None => 0,
             Some(_) => 1,
@@ -144,7 +204,10 @@ impl<I: Read + Drop> Feed<I> {
     }
 
     /// Returns whether the input is at its end and all of it was put.
-    pub fn is_done(&self) -> bool {
+    pub fn is_done(&self) -> bool
+        // `is_done` is true if and only if the input is at its end, no telegram is next and no byte is left.
+        ensures { result ≡ is_done self.now.ended (input_of self.now) }
+    {
         self.ended.is_some() && self.next.is_none() && self.lines.is_empty()
     }
 }
@@ -185,7 +248,10 @@ pub enum Line {
 
 impl Lines {
     /// Returns an empty input.
-    fn new(alloc: Global) -> Self {
+    fn new(alloc: Global) -> Self
+        // A new `Lines` has no bytes, and no line was cut.
+        ensures { (result.octets.items ≡ []) × (result.cut ≡ 0) }
+    {
         Lines {
             octets: Vec::new(alloc),
             cut: 0,
@@ -193,17 +259,28 @@ impl Lines {
     }
 
     /// Appends bytes that were read.
-    fn add(&mut self, octets: &[u8]) -> Result<(), AllocError> {
+    fn add(&mut self, octets: &[u8]) -> Result<(), AllocError>
+        // If `add` succeeds, the bytes are after those that were there.
+        ensures added { OnOk result (self.new.octets.items ≡ self.old.octets.items ++ octets.now) }
+        // `add` cuts no line.
+        ensures kept { self.new.cut ≡ self.old.cut }
+    {
         self.octets.extend_from_slice(octets)
     }
 
     /// Returns whether no byte is left.
-    fn is_empty(&self) -> bool {
+    fn is_empty(&self) -> bool
+        // `is_empty` is true if and only if there are no bytes.
+        ensures { result ≡ nat_eq (length self.now.octets.items) 0 }
+    {
         self.octets.is_empty()
     }
 
     /// Returns whether more is to be read.
-    fn has_room(&self) -> bool {
+    fn has_room(&self) -> bool
+        // `has_room` is true if and only if there are fewer than 65,536 bytes.
+        ensures { result ≡ nat_lt (length self.now.octets.items) ahead_most }
+    {
         self.octets.len() < AHEAD_MAX
     }
 

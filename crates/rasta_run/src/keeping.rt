@@ -1,13 +1,20 @@
 //! When an end that is kept is opened again.
 //!
 //! A field element opens again T_max/8 after its last opening, an interlocking T_max/4 after it disconnected. So
-//! the last PDUs of the old connection are gone before the new request.
+//! the last PDUs of the old connection are gone before the new request. An interlocking whose openings get no
+//! session waits longer between them, up to T_max.
 
-ghost use Rattle.std.specs.Prelude.{◌≡◌, None};
+ghost use Rattle.std.specs.Prelude.{◌≡◌, None, false};
 ghost use Rattle.rasta_run.specs.Keeping as keeping;
 
 use end_settings::{EndConfig, Side};
 use octets::Milliseconds;
+
+/// The number of openings in a row without a session from which the log only counts them.
+const ROW_MAX: u64 = 2;
+
+/// The time between two counts of them in the log, in milliseconds.
+const COUNT_WAIT: u64 = 60_000;
 
 /// The times that decide when an end is opened again.
 #[derive(Clone, Copy, Debug, PartialEq, Eq)]
@@ -18,41 +25,106 @@ pub struct Keeper {
     pub opened: u64,
     /// Since when it is stale, in milliseconds; `None` if it is not.
     pub left: Option<u64>,
+    /// Whether this opening got a session.
+    pub had_session: bool,
+    /// The number of openings in a row before this one that got no session.
+    pub fruitless: u64,
+    /// When the log last had that number, in milliseconds.
+    pub counted_at: u64,
 }
 
 impl Keeper {
     /// Returns the keeper of an end that is opened now.
     pub fn new(config: EndConfig, now: Milliseconds) -> Self
-        // A new keeper has these settings, was opened `now` and is not stale.
-        ensures { result ≡ record { config = config; opened = now; left = None } }
+        // A new keeper has these settings, was opened `now`, and is neither stale nor after an opening without a session.
+        ensures { result ≡ record { config = config; opened = now; left = None; had_session = false; fruitless = 0; counted_at = now } }
     {
         Keeper {
             config,
             opened: now,
             left: None,
+            had_session: false,
+            fruitless: 0,
+            counted_at: now,
         }
     }
 
     /// Looks at an end, and returns how long it is until it is opened again, in milliseconds. Returns `None` if it
     /// may still connect.
-    pub fn look(&mut self, side: Side, is_stale: bool, now: Milliseconds) -> Option<u64>
-        // `look` records when the end was first found stale, and forgets that time while it is not stale.
-        ensures left { self.new ≡ record self.old { left = keeping.left_by self.old.left is_stale now } }
+    pub fn look(
+        &mut self,
+        side: Side,
+        is_stale: bool,
+        is_up: bool,
+        now: Milliseconds,
+    ) -> Option<u64>
+        // `look` records since when the end is stale, and whether it has got a session, which ends a row of openings
+        // without one.
+        ensures seen { self.new ≡ keeping.seen is_stale is_up now self.old }
         // `look` returns the wait until the end is opened again, if it is stale.
-        ensures until { result ≡ keeping.until_anew side (keeping.left_by self.old.left is_stale now)
-            self.old.opened now self.old.config.t_max }
+        ensures until { result ≡ keeping.until_anew side self.new now }
     {
         self.left = left_by(self.left, is_stale, now);
-        until_anew(side, self.left, self.opened, now, self.config.t_max)
+        self.had_session = self.had_session || is_up;
+        self.fruitless = row_of(is_up, self.fruitless);
+        match self.left {
+            None => None,
+            Some(left) => Some(self.rest_of(side, left, now)),
+        }
+    }
+
+    /// Returns how long it is until an end that is stale since `left` is opened again, in milliseconds.
+    fn rest_of(&self, side: Side, left: Milliseconds, now: Milliseconds) -> u64
+        // `rest_of` returns the rest of T_max/4 since an interlocking was found stale, or of the pause since it was
+        // opened, if that is longer; and for a field element the rest of T_max/8 since it was opened.
+        ensures { result ≡ keeping.rest_of side self.now left now }
+    {
+        let t_max = self.config.t_max;
+        let since_opening = now.saturating_sub(self.opened);
+        match side {
+            Side::Interlocking => {
+                let after_leaving = (t_max / 4).saturating_sub(now.saturating_sub(left));
+                let apart = pause_of(self.fruitless, t_max).saturating_sub(since_opening);
+                after_leaving.max(apart)
+            }
+            Side::FieldElement => (t_max / 8).saturating_sub(since_opening),
+        }
     }
 
     /// Records that the end was opened again.
     pub fn note(&mut self, now: Milliseconds)
-        // `note` sets the time of the opening, and forgets when the end was found stale.
-        ensures { self.new ≡ record self.old { opened = now; left = None } }
+        // `note` sets the time of the opening, forgets when the end was found stale, and counts the opening before if
+        // that got no session.
+        ensures { self.new ≡ keeping.reopened now self.old }
     {
         self.opened = now;
         self.left = None;
+        self.fruitless = row_after(self.had_session, self.fruitless);
+        self.had_session = false;
+    }
+
+    /// Returns whether the log only counts openings, because some in a row got no session.
+    pub fn is_counted(&self) -> bool
+        // `is_counted` is true if and only if at least two openings in a row got no session.
+        ensures { result ≡ keeping.is_counted self.now }
+    {
+        self.fruitless >= ROW_MAX
+    }
+
+    /// Returns how many openings in a row got no session, if the log is to have that now: when they are two, and
+    /// then once a minute.
+    pub fn count(&mut self, now: Milliseconds) -> Option<u64>
+        // `count` returns the number if it is 2, or if it is more and the log last had it a minute ago.
+        ensures count { result ≡ keeping.count_by (keeping.is_count_due self.old now) self.old.fruitless }
+        // If it returns a number, `count` records the time; it changes nothing else.
+        ensures kept { self.new ≡ keeping.counted_by (keeping.is_count_due self.old now) now self.old }
+    {
+        let is_late = now.saturating_sub(self.counted_at) >= COUNT_WAIT;
+        if self.fruitless == ROW_MAX || (self.fruitless > ROW_MAX && is_late) {
+            self.counted_at = now;
+            return Some(self.fruitless);
+        }
+        None
     }
 }
 
@@ -68,28 +140,37 @@ fn left_by(before: Option<u64>, is_stale: bool, now: Milliseconds) -> Option<u64
     }
 }
 
-/// Returns how long it is until an end is opened again, in milliseconds.
-fn until_anew(
-    side: Side,
-    left: Option<u64>,
-    opened: u64,
-    now: Milliseconds,
-    t_max: Milliseconds,
-) -> Option<u64>
-    // `until_anew` returns the rest of T_max/4 since an interlocking was found stale, or of T_max/8 since the last
-    // opening of a stale field element; and else `None`.
-    ensures { result ≡ keeping.until_anew side left opened now t_max }
+/// Returns the number of openings in a row without a session, when an end is seen.
+fn row_of(is_up: bool, fruitless: u64) -> u64
+    // `row_of` returns 0 for an end that has a session, and else the number so far.
+    ensures { result ≡ keeping.row_of is_up fruitless }
 {
-    match (side, left) {
-        (Side::Interlocking, Some(left)) => {
-            let pause = t_max / 4;
-            Some(pause.saturating_sub(now.saturating_sub(left)))
-        }
-        (Side::FieldElement, Some(_)) => {
-            let pause = t_max / 8;
-            Some(pause.saturating_sub(now.saturating_sub(opened)))
-        }
-        (_, None) => None,
+    match is_up {
+        true => 0,
+        false => fruitless,
+    }
+}
+
+/// Returns the number of openings in a row without a session, after one more opening.
+fn row_after(had_session: bool, fruitless: u64) -> u64
+    // `row_after` returns 0 if that opening had a session, and else one more.
+    ensures { result ≡ keeping.row_after had_session fruitless }
+{
+    match had_session {
+        true => 0,
+        false => fruitless.saturating_add(1),
+    }
+}
+
+/// Returns the least time between two openings of an interlocking, in milliseconds.
+fn pause_of(fruitless: u64, t_max: Milliseconds) -> u64
+    // `pause_of` returns T_max/4, T_max/2 after one opening without a session, and T_max after more in a row.
+    ensures { result ≡ keeping.pause_of fruitless t_max }
+{
+    match fruitless {
+        0 => t_max / 4,
+        1 => t_max / 2,
+        _ => t_max,
     }
 }
 
@@ -101,5 +182,16 @@ pub fn is_wait_over(until: Option<u64>) -> bool
     match until {
         None => false,
         Some(rest) => rest == 0,
+    }
+}
+
+/// Returns when a wait that begins now is over.
+pub fn end_of_wait(until: Option<u64>, now: Milliseconds) -> Option<Milliseconds>
+    // `end_of_wait` returns the end of the wait, at most 2^64 - 1, and `None` without a wait.
+    ensures { result ≡ keeping.end_of_wait until now }
+{
+    match until {
+        None => None,
+        Some(rest) => Some(now.saturating_add(rest)),
     }
 }

@@ -4,28 +4,34 @@
 //! script, a capture or a whole run over sockets, nor the order of the log; tests do.
 #![tactic(auto)]
 
-mod both;
+mod calendar;
 mod check;
 mod counting;
 mod counts;
 mod drawing;
+mod finishing;
 mod follow;
 mod header;
 mod input;
 mod keeping;
 mod logging;
+mod metrics;
 mod net;
 mod noticing;
 mod pending;
 mod printing;
 mod program;
 mod progress;
+mod putting;
 mod readiness;
 mod recorded_channels;
 mod recorder;
+mod reopening;
+mod running;
 mod scripts;
 mod settings;
 mod show;
+mod stamping;
 mod standing;
 mod streams;
 mod ticking;

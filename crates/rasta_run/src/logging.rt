@@ -3,27 +3,43 @@
 //! The events of a turn are kept in a ring of 256 and logged after the reception; the log says how many were left
 //! out.
 
-ghost use Rattle.std.specs.Prelude.{◌≡◌};
-ghost use Rattle.rasta_run.specs.Silence.{hears, said_of};
+ghost use Rattle.std.specs.Prelude.{◌≡◌, ◌+◌, ◌<◌, Bool, Some, false, nat_le, slice_index_or, slice_set, true, OnOk, if◌then◌else◌};
+ghost use Rattle.octets.specs.declared.limits.TheConstants.{CHANNELS_MAX};
+ghost use Rattle.std.specs.Io.KnownBytes.{Appends};
+ghost use Rattle.rasta_run.specs.Silence.{heard_now, hears, hears_all, hears_at, said_of, unheard};
+ghost use Rattle.rasta_run.specs.Stamping.{Logs, LogsChange, LogsEvent, LogsNotice};
+ghost use Rattle.pdu_text.specs.Endings.{ending_text};
+ghost use Rattle.pdu_text.specs.LogLines.{channel_text, missed_text};
+ghost use Rattle.pdu_text.specs.Pieces.{log_line};
+ghost use Rattle.rasta_run.specs.Noticing.{notice_line};
 ghost use Rattle.rasta_run.specs.Telling as telling;
 ghost use Rattle.stack_end.specs.EndValue.{inside};
 
 use crate::Recorder;
 use crate::noticing::{Notice, write_notice};
+use crate::stamping::{write_stamped, zero_of};
+use arrayvec::ArrayVec;
 use end_settings::Side;
 use octets::Milliseconds;
 use octets::limits::CHANNELS_MAX;
+use pdi_session::Phase;
 use pdu_text::{
-    Cause, Departure, Ending, Happening, write_channel, write_ending, write_happening, write_missed,
+    Cause, Departure, Ending, Happening, write_channel, write_ending, write_happening,
+    write_missed, write_text,
 };
-use rasta_words::LogLevel;
+use rasta_words::{LogLevel, LogTime};
 use red_layer::RedEvent;
 use safe_machine::ConnectionState;
 use safe_pdu::Leaving;
 use settings_file::Settings;
 use stack_end::{End, Leaver, Listener, Statistics};
 use std::alloc::Allocator;
+use std::io;
 use std::io::Write;
+use std::time::Clock;
+
+/// The room for a line of the log, in bytes. The longest one names both addresses of a channel.
+type LogLine = ArrayVec<u8, 1_024>;
 
 /// The greatest number of causes for dropping that are logged once at the level of states.
 const CAUSES_MAX: usize = 16;
@@ -85,6 +101,10 @@ pub struct Log {
     side: Side,
     /// The level of the log.
     level: LogLevel,
+    /// The time at the start of its lines.
+    time: LogTime,
+    /// The time in UTC at which the clock of the run was 0, in milliseconds since 1970; 0 if the system gives none.
+    zero: Milliseconds,
     /// T_max of the end, in milliseconds.
     t_max: Milliseconds,
     /// The number of events that were logged.
@@ -97,11 +117,23 @@ pub struct Log {
     causes: [Option<Cause>; CAUSES_MAX],
     /// The number of these causes.
     cause_count: usize,
+    /// Whether openings are only counted, because several in a row got no session.
+    is_quiet: bool,
 }
 
 impl Log {
     /// Returns the log of an end that is opened now.
-    pub fn new(side: Side, level: LogLevel, settings: &Settings, now: Milliseconds) -> Self {
+    pub fn new(
+        side: Side,
+        level: LogLevel,
+        time: LogTime,
+        settings: &Settings,
+        now: Milliseconds,
+    ) -> Self
+        // A new log is of this end, with this level, this time in its lines and the T_max of the settings.
+        ensures { (result.side ≡ side) × (result.level ≡ level) × (result.time ≡ time)
+            × (result.t_max ≡ settings.now.config.t_max) × (result.told ≡ 0) × (result.is_quiet ≡ false) }
+    {
         let unheard = Listening {
             came: 0,
             at: now,
@@ -110,12 +142,15 @@ impl Log {
         Log {
             side,
             level,
+            time,
+            zero: 0,
             t_max: settings.config.t_max,
             told: 0,
             channels: [unheard; CHANNELS_MAX],
             count: settings.local.len(),
             causes: [None; CAUSES_MAX],
             cause_count: 0,
+            is_quiet: false,
         }
     }
 
@@ -127,15 +162,27 @@ impl Log {
         let pairs = settings.local.iter().zip(settings.remote.iter());
         for (place, (local, remote)) in pairs.enumerate() {
             let channel = place.saturating_add(1);
-            let _ = write_channel(
-                err,
-                now,
-                self.side,
-                channel,
-                local.as_str(),
-                remote.as_str(),
-            );
+            let _ = self.write_channel(channel, local.as_str(), remote.as_str(), now, err);
         }
+    }
+
+    /// Writes the line of a channel, numbered from 1, with both addresses.
+    #[inline(never)]
+    fn write_channel<E: Write>(
+        &self,
+        channel: usize,
+        local: &str,
+        remote: &str,
+        now: Milliseconds,
+        err: &mut E,
+    ) -> io::Result<()>
+        // If `write_channel` succeeds, it has appended the line of the channel, with the time that the log has.
+        ensures { OnOk result (Logs self.now now (log_line now self.now.side (channel_text channel local.now remote.now))
+            (E.contents err.old) (E.contents err.new)) }
+    {
+        let mut line = LogLine::new();
+        write_channel(&mut line, now, self.side, channel, local, remote)?;
+        self.pass(line.as_slice(), now, err)
     }
 
     /// Logs the events since the last call, of an end that came to be closed by this departure, if it is.
@@ -145,12 +192,20 @@ impl Log {
         departure: Option<Departure>,
         now: Milliseconds,
         err: &mut E,
-    ) {
-        if self.level == LogLevel::Off {
+    )
+        // After `catch_up` every event so far is logged, or was left out.
+        ensures told { telling.is_off self.old.level ≡ false → self.new.told ≡ recorder.now.happened }
+        // A log that is off stays as it is.
+        ensures off { telling.is_off self.old.level ≡ true → self.new ≡ self.old }
+        // `catch_up` changes neither the level nor the channels.
+        ensures kept { (self.new.side ≡ self.old.side) × (self.new.level ≡ self.old.level) × (self.new.channels ≡ self.old.channels)
+            × (self.new.count ≡ self.old.count) × (self.new.t_max ≡ self.old.t_max) }
+    {
+        if self.is_off() {
             return;
         }
         let mut missed = 0u64;
-        for number in self.told..recorder.happened {
+        'events: for number in self.told..recorder.happened {
             match recorder.happening(number) {
                 Some(happening) => self.tell_explained(happening, departure, now, err),
                 None => missed = missed.wrapping_add(1),
@@ -158,8 +213,20 @@ impl Log {
         }
         self.told = recorder.happened;
         if missed > 0 {
-            let _ = write_missed(err, now, self.side, missed);
+            let _ = self.write_missed(missed, now, err);
         }
+    }
+
+    /// Writes how many events were left out.
+    #[inline(never)]
+    fn write_missed<E: Write>(&self, missed: u64, now: Milliseconds, err: &mut E) -> io::Result<()>
+        // If `write_missed` succeeds, it has appended the line with the number, with the time that the log has.
+        ensures { OnOk result (Logs self.now now (log_line now self.now.side (missed_text missed))
+            (E.contents err.old) (E.contents err.new)) }
+    {
+        let mut line = LogLine::new();
+        write_missed(&mut line, now, self.side, missed)?;
+        self.pass(line.as_slice(), now, err)
     }
 
     /// Logs one event, after the one that explains it.
@@ -169,63 +236,241 @@ impl Log {
         departure: Option<Departure>,
         now: Milliseconds,
         err: &mut E,
-    ) {
+    )
+        // `tell_explained` changes only which causes are known, and whether openings are only counted.
+        ensures { self.new ≡ record self.old {
+          causes = self.new.causes;
+          cause_count = self.new.cause_count;
+          is_quiet = self.new.is_quiet;
+        } }
+    {
         if let Some(explanation) = explanation_of(happening, departure) {
-            self.tell(explanation, now, err);
+            let _ = self.tell(explanation, now, err);
         }
-        self.tell(happening, now, err);
+        let _ = self.tell(happening, now, err);
     }
 
-    /// Logs one event, if the level includes it. At the level of states, each cause for dropping is logged once.
-    pub fn tell<E: Write>(&mut self, happening: Happening, now: Milliseconds, err: &mut E) {
-        let is_told = match (self.level, happening) {
+    /// Logs one event, if the level includes it. At the level of states each cause for dropping is logged once, and
+    /// openings may be only counted.
+    ///
+    /// # Errors
+    ///
+    /// - The error of the writer; what it wrote before stays written.
+    pub fn tell<E: Write>(
+        &mut self,
+        happening: Happening,
+        now: Milliseconds,
+        err: &mut E,
+    ) -> io::Result<()>
+        // If `tell` succeeds, it has appended the line of the event if the level includes it. At the level of states
+        // a drop counts only if its cause is `new`.
+        ensures told { OnOk result ((new : Bool) × LogsEvent (telling.is_told self.old.level self.new.is_quiet new happening)
+            self.new now happening (E.contents err.old) (E.contents err.new)) }
+        // Once the session is established, `tell` no longer leaves openings out.
+        ensures quiet { self.new.is_quiet ≡ telling.quiet_after happening self.old.is_quiet }
+        // `tell` changes only which causes are known, and whether openings are only counted.
+        ensures kept { self.new ≡ record self.old {
+          causes = self.new.causes;
+          cause_count = self.new.cause_count;
+          is_quiet = self.new.is_quiet;
+        } }
+    {
+        if !self.tells(happening) {
+            return write_text(err, "");
+        }
+        self.write(happening, now, err)
+    }
+
+    /// Writes the line of an event.
+    #[inline(never)]
+    fn write<E: Write>(
+        &self,
+        happening: Happening,
+        now: Milliseconds,
+        err: &mut E,
+    ) -> io::Result<()>
+        // If `write` succeeds, it has appended the line of the event, with the time that the log has.
+        ensures { OnOk result (LogsEvent true self.now now happening (E.contents err.old) (E.contents err.new)) }
+    {
+        let mut line = LogLine::new();
+        write_happening(&mut line, now, self.side, happening)?;
+        self.pass(line.as_slice(), now, err)
+    }
+
+    /// Writes a line that begins with the time of the run, with the time that the log has.
+    fn pass<E: Write>(&self, line: &[u8], now: Milliseconds, err: &mut E) -> io::Result<()>
+        // If `pass` succeeds, it has appended the line with the time that the log has.
+        ensures { OnOk result (Logs self.now now line.now (E.contents err.old) (E.contents err.new)) }
+    {
+        let at = self.zero.saturating_add(now);
+        write_stamped(err, self.time, at, line)
+    }
+
+    /// Reads the system's clock, if lines have the time in UTC.
+    pub fn look_at_clock<K: Clock>(&mut self, system: &K, now: Milliseconds)
+        // `look_at_clock` changes nothing but the time in UTC at which the clock of the run was 0.
+        ensures { self.new ≡ record self.old { zero = self.new.zero } }
+    {
+        if self.time == LogTime::Run || self.is_off() {
+            return;
+        }
+        if let Some(zero) = zero_of(system, now) {
+            self.zero = zero;
+        }
+    }
+
+    /// Returns whether an event is logged, and records its cause.
+    fn tells(&mut self, happening: Happening) -> bool
+        // `tells` returns whether the level includes the event; at the level of states a drop counts only if its
+        // cause is `new`.
+        ensures told { (new : Bool) × (result ≡ telling.is_told self.old.level self.new.is_quiet new happening) }
+        // After `tells` openings are only counted if they were before and this is not a session.
+        ensures quiet { self.new.is_quiet ≡ telling.quiet_after happening self.old.is_quiet }
+        // `tells` changes only which causes are known, and whether openings are only counted.
+        ensures kept { self.new ≡ record self.old {
+          causes = self.new.causes;
+          cause_count = self.new.cause_count;
+          is_quiet = self.new.is_quiet;
+        } }
+    {
+        self.is_quiet = quiet_after(happening, self.is_quiet);
+        match (self.level, dropped_cause(happening)) {
             (LogLevel::Off, _) => false,
-            (LogLevel::State, Happening::Dropped(_, cause)) => self.is_new(cause),
-            _ => true,
-        };
-        if is_told {
-            let _ = write_happening(err, now, self.side, happening);
+            (LogLevel::All, _) => true,
+            (LogLevel::State, Some(cause)) => self.is_new(cause),
+            (LogLevel::State, None) => !(self.is_quiet && is_of_opening(happening)),
         }
     }
 
-    /// Logs a notice of the run.
-    pub fn notice<E: Write>(&self, notice: Notice, now: Milliseconds, err: &mut E) {
-        if self.level != LogLevel::Off {
-            let _ = write_notice(err, now, self.side, notice);
+    /// Logs a notice of the run, if there is one.
+    ///
+    /// # Errors
+    ///
+    /// - The error of the writer; what it wrote before stays written.
+    pub fn notice<E: Write>(
+        &self,
+        notice: Option<Notice>,
+        now: Milliseconds,
+        err: &mut E,
+    ) -> io::Result<()>
+        // If `notice` succeeds, it has appended the line of the notice, or nothing if there is none or the log is off.
+        ensures { OnOk result (LogsNotice notice self.now now (E.contents err.old) (E.contents err.new)) }
+    {
+        match notice {
+            Some(notice) if !self.is_off() => self.write_notice(notice, now, err),
+            _ => write_text(err, ""),
         }
+    }
+
+    /// Writes the line of a notice.
+    #[inline(never)]
+    fn write_notice<E: Write>(
+        &self,
+        notice: Notice,
+        now: Milliseconds,
+        err: &mut E,
+    ) -> io::Result<()>
+        // If `write_notice` succeeds, it has appended the line of the notice, with the time that the log has.
+        ensures { OnOk result (Logs self.now now (notice_line now self.now.side notice) (E.contents err.old) (E.contents err.new)) }
+    {
+        let mut line = LogLine::new();
+        write_notice(&mut line, now, self.side, notice)?;
+        self.pass(line.as_slice(), now, err)
+    }
+
+    /// Only counts openings from now on, or logs them again.
+    pub fn set_quiet(&mut self, is_quiet: bool)
+        // After `set_quiet` openings are only counted if and only if `is_quiet` is true.
+        ensures { self.new ≡ record self.old { is_quiet = is_quiet } }
+    {
+        self.is_quiet = is_quiet;
     }
 
     /// Records a cause for dropping, and returns whether it is new. A copy of an earlier datagram is none.
-    fn is_new(&mut self, cause: Cause) -> bool {
-        if matches!(cause, Cause::Early(RedEvent::Old | RedEvent::Again)) {
+    fn is_new(&mut self, cause: Cause) -> bool
+        // `is_new` returns false for a datagram that repeats an earlier one.
+        ensures repeat { telling.is_repeat cause ≡ true → result ≡ false }
+        // If `is_new` returns true, it has recorded the cause at the next place, and else it has changed nothing.
+        ensures kept { self.new ≡ (if result
+            then record self.old {
+              causes = slice_set self.old.causes self.old.cause_count (Some cause);
+              cause_count = self.old.cause_count + 1;
+            }
+            else self.old) }
+    {
+        if is_repeat(cause) || self.cause_count >= CAUSES_MAX {
             return false;
         }
-        for known in &self.causes {
+        'causes: for known in &self.causes {
             if *known == Some(cause) {
                 return false;
             }
         }
-        match self.causes.get_mut(self.cause_count) {
-            None => false,
-            Some(place) => {
-                *place = Some(cause);
-                self.cause_count = self.cause_count.saturating_add(1);
-                true
-            }
-        }
+        self.causes[self.cause_count] = Some(cause);
+        self.cause_count += 1;
+        true
     }
 
     /// Logs the channels that became silent, and those that receive again.
-    pub fn look<E: Write>(&mut self, sums: &Statistics, now: Milliseconds, err: &mut E) {
-        for channel in 0..self.count.min(CHANNELS_MAX) {
-            let came = sums.channels[channel].received;
-            let said = self.channels[channel].look(came, now, self.t_max);
-            let number = channel.saturating_add(1);
-            match said {
-                Said::Nothing => {}
-                Said::Silent => self.tell(Happening::Silent(number), now, err),
-                Said::Heard => self.tell(Happening::Heard(number), now, err),
-            }
+    pub fn look<E: Write>(&mut self, sums: &Statistics, now: Milliseconds, err: &mut E)
+        // `look` compares the count of each channel of the end with the one before.
+        ensures channels { self.new.channels ≡ hears_all sums.now.channels self.old.count now self.old.t_max self.old.channels }
+        // `look` changes neither the level, nor the events that are logged, nor the number of channels.
+        ensures kept { (self.new.side ≡ self.old.side) × (self.new.level ≡ self.old.level) × (self.new.told ≡ self.old.told)
+            × (self.new.count ≡ self.old.count) × (self.new.t_max ≡ self.old.t_max) }
+    {
+        let _ = self.look_at(sums, now, 0, err);
+        let _ = self.look_at(sums, now, 1, err);
+        let _ = self.look_at(sums, now, 2, err);
+        let _ = self.look_at(sums, now, 3, err);
+    }
+
+    /// Logs whether the channel at a place, from 0, became silent or receives again, if the end has it.
+    fn look_at<E: Write>(
+        &mut self,
+        sums: &Statistics,
+        now: Milliseconds,
+        place: usize,
+        err: &mut E,
+    ) -> io::Result<()>
+        requires { place < CHANNELS_MAX }
+        // `look_at` compares the count of this channel with the one before, and of no other.
+        ensures channels { self.new.channels ≡ hears_at sums.now.channels self.old.count now self.old.t_max place self.old.channels }
+        // If `look_at` succeeds, it has appended the line of the channel's change, or nothing.
+        ensures told { OnOk result (LogsChange (if nat_le self.old.count place then Said.Nothing
+            else said_of (slice_index_or self.old.channels place (unheard 0)) (heard_now self.old.channels sums.now.channels place now self.old.t_max))
+            (place + 1) self.new now (E.contents err.old) (E.contents err.new)) }
+        // `look_at` changes neither the level, nor the events that are logged, nor the number of channels.
+        ensures kept { (self.new.side ≡ self.old.side) × (self.new.level ≡ self.old.level) × (self.new.told ≡ self.old.told)
+            × (self.new.count ≡ self.old.count) × (self.new.t_max ≡ self.old.t_max) }
+    {
+        if place >= self.count {
+            return write_text(err, "");
+        }
+        let came = sums.channels[place].received;
+        let said = self.channels[place].look(came, now, self.t_max);
+        self.tell_change(said, place + 1, now, err)
+    }
+
+    /// Logs the change of a channel, numbered from 1.
+    fn tell_change<E: Write>(
+        &self,
+        said: Said,
+        channel: usize,
+        now: Milliseconds,
+        err: &mut E,
+    ) -> io::Result<()>
+        // If `tell_change` succeeds, it has appended the line of the change, or nothing without a change or if the
+        // log is off.
+        ensures { OnOk result (LogsChange said channel self.now now (E.contents err.old) (E.contents err.new)) }
+    {
+        if self.is_off() {
+            return write_text(err, "");
+        }
+        match said {
+            Said::Nothing => write_text(err, ""),
+            Said::Silent => self.write(Happening::Silent(channel), now, err),
+            Said::Heard => self.write(Happening::Heard(channel), now, err),
         }
     }
 
@@ -245,13 +490,77 @@ impl Log {
     }
 
     /// Logs why the end is in its state.
-    pub fn end<E: Write>(&self, ending: &Ending, now: Milliseconds, err: &mut E) {
-        let _ = write_ending(err, now, self.side, ending);
+    ///
+    /// # Errors
+    ///
+    /// - The error of the writer; what it wrote before stays written.
+    #[inline(never)]
+    pub fn end<E: Write>(&self, ending: &Ending, now: Milliseconds, err: &mut E) -> io::Result<()>
+        // If `end` succeeds, it has appended the line of the ending, with the time that the log has.
+        ensures { OnOk result (Logs self.now now (log_line now self.now.side (ending_text ending.now)) (E.contents err.old) (E.contents err.new)) }
+    {
+        let mut line = LogLine::new();
+        write_ending(&mut line, now, self.side, ending)?;
+        self.pass(line.as_slice(), now, err)
     }
 
     /// Returns whether nothing is logged.
-    pub fn is_off(&self) -> bool {
-        self.level == LogLevel::Off
+    pub fn is_off(&self) -> bool
+        // `is_off` is true if and only if the level is `Off`.
+        ensures { result ≡ telling.is_off self.now.level }
+    {
+        match self.level {
+            LogLevel::Off => true,
+            LogLevel::State | LogLevel::All => false,
+        }
+    }
+}
+
+/// Returns the cause of a drop, if the event is one.
+fn dropped_cause(happening: Happening) -> Option<Cause>
+    // `dropped_cause` returns the cause of a dropped datagram, and `None` for any other event.
+    ensures { result ≡ telling.dropped_cause happening }
+{
+    match happening {
+        Happening::Dropped(_, cause) => Some(cause),
+        _ => None,
+    }
+}
+
+/// Returns whether an event is one of an opening that gets no session.
+fn is_of_opening(happening: Happening) -> bool
+    // `is_of_opening` is true for a state, a phase, an opening and a departure.
+    ensures { result ≡ telling.is_of_opening happening }
+{
+    match happening {
+        Happening::State(_)
+        | Happening::Phase(_)
+        | Happening::Anew(_)
+        | Happening::Left(_)
+        | Happening::PeerLeft(_) => true,
+        _ => false,
+    }
+}
+
+/// Returns whether openings are only counted after an event.
+fn quiet_after(happening: Happening, is_quiet: bool) -> bool
+    // `quiet_after` returns false if the session is established, and else what was before.
+    ensures { result ≡ telling.quiet_after happening is_quiet }
+{
+    match happening {
+        Happening::Phase(phase) => is_quiet && phase != Phase::Established,
+        _ => is_quiet,
+    }
+}
+
+/// Returns whether a cause is that of a datagram that repeats an earlier one.
+fn is_repeat(cause: Cause) -> bool
+    // `is_repeat` is true for datagrams that are old or came before.
+    ensures { result ≡ telling.is_repeat cause }
+{
+    match cause {
+        Cause::Early(RedEvent::Old | RedEvent::Again) => true,
+        _ => false,
     }
 }
 

@@ -2,9 +2,9 @@
 
 ghost use Rattle.std.specs.Prelude.{◌≡◌, OnOk};
 ghost use Rattle.std.specs.Io.KnownBytes.{Appends};
-ghost use Rattle.pdu_text.specs.Pieces.{three_digits};
 ghost use Rattle.rasta_run.specs.Noticing as noticing;
 
+use crate::stamping::spell;
 use end_settings::Side;
 use octets::Milliseconds;
 use pdu_text::{side_name, write_text};
@@ -22,6 +22,10 @@ pub enum Notice {
     InDoubt(u64),
     /// The end took no turn for this many milliseconds.
     NoTurn(u64),
+    /// This many openings in a row got no session, and openings are only counted.
+    Fruitless(u64),
+    /// The session is established, after this many openings in a row without one.
+    Session(u64),
     /// The lines of telegrams taken have no room, because nobody reads standard output.
     Unread,
 }
@@ -61,18 +65,6 @@ fn write_front<W: Write>(writer: &mut W, at: Milliseconds, side: Side) -> io::Re
     write!(writer, " {name} ")
 }
 
-/// Returns the last three digits of a number.
-fn spell(number: u64) -> [u8; 3]
-    // `spell` returns the last three decimal digits, with leading zeros.
-    ensures { result ≡ three_digits number }
-{
-    [
-        (48 + number / 100 % 10) as u8,
-        (48 + number / 10 % 10) as u8,
-        (48 + number / 1 % 10) as u8,
-    ]
-}
-
 /// Writes the text of a notice.
 fn write_what<W: Write>(writer: &mut W, notice: Notice) -> io::Result<()>
     // If `write_what` succeeds, it has appended the text of the notice.
@@ -83,6 +75,8 @@ fn write_what<W: Write>(writer: &mut W, notice: Notice) -> io::Result<()>
         Notice::Receives(turns) => write_receives(writer, turns),
         Notice::InDoubt(count) => write_in_doubt(writer, count),
         Notice::NoTurn(milliseconds) => write_no_turn(writer, milliseconds),
+        Notice::Fruitless(count) => write_fruitless(writer, count),
+        Notice::Session(count) => write_session(writer, count),
         Notice::Unread => write_text(writer, "leaves: nobody reads standard output"),
     }
 }
@@ -121,5 +115,29 @@ fn write_no_turn<W: Write>(writer: &mut W, milliseconds: u64) -> io::Result<()>
     write!(
         writer,
         "no turn for {milliseconds} ms: the process was stopped, or had no processor"
+    )
+}
+
+/// Writes how many openings in a row got no session.
+#[tactic(auto, unfolding(crate::specs::Noticing::fruitless_text))]
+fn write_fruitless<W: Write>(writer: &mut W, count: u64) -> io::Result<()>
+    // If `write_fruitless` succeeds, it has appended the number of openings, and what the log does.
+    ensures { OnOk result (Appends (W.contents writer.old) (W.contents writer.new) (noticing.fruitless_text count)) }
+{
+    write!(
+        writer,
+        "no session in the last {count} openings; openings are only counted until there is one"
+    )
+}
+
+/// Writes that the session is established after openings without one.
+#[tactic(auto, unfolding(crate::specs::Noticing::session_text))]
+fn write_session<W: Write>(writer: &mut W, count: u64) -> io::Result<()>
+    // If `write_session` succeeds, it has appended the number of openings before the session.
+    ensures { OnOk result (Appends (W.contents writer.old) (W.contents writer.new) (noticing.session_text count)) }
+{
+    write!(
+        writer,
+        "a session again, after {count} openings without one"
     )
 }

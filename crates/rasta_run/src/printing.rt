@@ -1,19 +1,43 @@
-//! The lines of the telegrams that an application takes.
+//! The lines of the telegrams that an application takes, and of those that were refused.
 
-ghost use Rattle.std.specs.Prelude.{◌≡◌, OnOk};
+ghost use Rattle.std.specs.Prelude.{◌≡◌, ℕ, Bool, List, false, OnOk};
 ghost use Rattle.std.specs.Io.KnownBytes.{Appends};
 ghost use Rattle.pdu_text.specs.Reports.{take_line};
-ghost use Rattle.rasta_run.specs.Printing.{Prints};
+ghost use Rattle.rasta_run.specs.Printing.{Prints, PrintsRefusal};
 
 use arrayvec::ArrayVec;
 use end_settings::Side;
 use pdi_session::Taker;
-use pdu_text::write_take;
+use pdu_text::{write_refusal, write_take};
+use rasta_words::Fault;
 use std::io;
 use std::io::Write;
 
 /// The longest line of a telegram in bytes: two letters, " takes ", four digits, a blank, 714 digits and the line feed.
 const LINE_MAX: usize = 768;
+
+/// The application of an end that is run by turns.
+pub trait Application: Taker {
+    // What a refusal does to it: the name of the fault, and the application afterwards.
+    ghost refuses: { Self → List ℕ → Self → Type 0 };
+
+    // Whether it has lost a telegram that it took.
+    ghost has_lost: { Self → Bool };
+
+    /// Learns that a telegram of its own, or the end of the initialisation, was refused.
+    ///
+    /// # Errors
+    ///
+    /// - `Output` if it cannot print that.
+    fn refuse(&mut self, name: &str) -> Result<(), Fault>
+        // If `refuse` succeeds, it has changed `self` as `refuses` says for this name.
+        ensures { OnOk result (refuses self.old name.now self.new) };
+
+    /// Returns whether it has lost a telegram that it took.
+    fn has_failed(&self) -> bool
+        // `has_failed` is what `has_lost` says of `self`.
+        ensures { result ≡ has_lost self.now };
+}
 
 /// Prints each telegram that the application takes. An output that has no room counts the lines that it leaves out.
 #[derive(Drop)]
@@ -28,6 +52,21 @@ pub struct Printer<'a, W> {
     pub failed: bool,
 }
 
+impl<'a, W> Printer<'a, W> {
+    /// Returns a printer that has printed nothing.
+    pub fn new(side: Side, writer: &'a mut W) -> Self
+        // A new printer is of this end, has counted no telegram and has not failed.
+        ensures { (result.side ≡ side) × (result.taken ≡ 0) × (result.failed ≡ false) }
+    {
+        Printer {
+            side,
+            writer,
+            taken: 0,
+            failed: false,
+        }
+    }
+}
+
 impl<W: Write> Taker for Printer<'_, W> {
     ghost takes = { λ p item q. (q.writer.ghost_name ≡ p.writer.ghost_name)
         × Prints (record { side = p.side; taken = p.taken; failed = p.failed; text = W.contents p.writer.now }) item
@@ -38,6 +77,25 @@ impl<W: Write> Taker for Printer<'_, W> {
         if print_take(self.writer, self.side, kind, payload).is_err() {
             self.failed = true;
         }
+    }
+}
+
+impl<W: Write> Application for Printer<'_, W> {
+    ghost refuses = { λ p name q. (q.writer.ghost_name ≡ p.writer.ghost_name)
+        × PrintsRefusal (record { side = p.side; taken = p.taken; failed = p.failed; text = W.contents p.writer.now }) name
+        (record { side = q.side; taken = q.taken; failed = q.failed; text = W.contents q.writer.now }) };
+
+    ghost has_lost = { λ p. p.failed };
+
+    fn refuse(&mut self, name: &str) -> Result<(), Fault> {
+        match write_refusal(self.writer, name) {
+            Ok(()) => Ok(()),
+            Err(_) => Err(Fault::Output),
+        }
+    }
+
+    fn has_failed(&self) -> bool {
+        self.failed
     }
 }
 

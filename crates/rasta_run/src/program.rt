@@ -62,7 +62,8 @@ pub fn run<R: AllocGlobal + Files + Net + Clock + Input, S: AsStr, O: Write, E: 
     }
 }
 
-/// Runs the script of a file.
+/// Runs the script of a file. It is not inlined, so that no other command pays for its stack.
+#[inline(never)]
 fn run_script<R: AllocGlobal + Files, O: Write, E: Write>(
     rt: &R,
     script: &str,
@@ -93,7 +94,9 @@ fn run_capture<R: AllocGlobal + Files, O: Write, E: Write>(
     }
 }
 
-/// Runs ends over the sockets that a settings file names.
+/// Runs ends over the sockets that a settings file names. It is not inlined, so that no other command pays for its
+/// stack.
+#[inline(never)]
 fn run_file<R: AllocGlobal + Files + Net + Clock + Input, O: Write, E: Write>(
     rt: &R,
     running: &RunRequest<'_>,
@@ -109,7 +112,9 @@ fn run_file<R: AllocGlobal + Files + Net + Clock + Input, O: Write, E: Write>(
     }
 }
 
-/// Checks a settings file, and prints the settings in force.
+/// Checks a settings file, and prints the settings in force. It is not inlined, so that no other command pays for its
+/// stack.
+#[inline(never)]
 fn check_file<R: AllocGlobal + Files, O: Write, E: Write>(
     rt: &R,
     file: &str,
@@ -156,6 +161,7 @@ fn run_under(running: &RunRequest<'_>) -> Run
         word: running.word,
         length: running.length,
         log: running.log,
+        time: running.time,
         expected: running.expected,
         keep: running.keep,
         counts: running.counts,

@@ -3,7 +3,7 @@
 //! One watch serves the three streams, and is opened before any socket. If a stream was closed, the watch has its
 //! descriptor and does not watch itself, so that reads and writes fail at once.
 
-ghost use Rattle.std.specs.Prelude.{◌≡◌, Bool};
+ghost use Rattle.std.specs.Prelude.{◌≡◌, ℕ, Bool};
 ghost use Rattle.rasta_run.specs.declared.readiness.Stream.{Stream};
 ghost use Rattle.rasta_run.specs.Pending.{descriptor_of};
 
@@ -53,10 +53,18 @@ pub trait Gate {
     // What a question does: the stream, the result, and the gate afterwards.
     ghost asks: { Self → Stream → Bool → Self → Type 0 };
 
+    // What a change of how long a question waits does, in milliseconds.
+    ghost waits: { Self → ℕ → Self → Type 0 };
+
     /// Returns whether a stream is ready to be read or written.
     fn is_ready(&mut self, stream: Stream) -> bool
         // One question changes `self` as `asks` says for this stream and result.
         ensures { asks self.old stream result self.new };
+
+    /// Sets how long a question waits for a stream, in milliseconds.
+    fn set_patience(&mut self, patience: Milliseconds)
+        // `set_patience` changes `self` as `waits` says for this time.
+        ensures { waits self.old patience self.new };
 }
 
 /// The system's watch of the standard streams.
@@ -132,6 +140,8 @@ impl Readiness {
 impl Gate for Readiness {
     ghost asks = { λ _ _ _ _. Unit {0} };
 
+    ghost waits = { λ g patience h. h ≡ record g { patience = patience } };
+
     fn is_ready(&mut self, stream: Stream) -> bool {
         if !self.watched[usize::from(stream.descriptor())] {
             return true;
@@ -143,6 +153,10 @@ impl Gate for Readiness {
             }
         }
         false
+    }
+
+    fn set_patience(&mut self, patience: Milliseconds) {
+        self.patience = patience;
     }
 }
 

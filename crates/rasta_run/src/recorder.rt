@@ -1,9 +1,14 @@
 //! The recorder of an end: the events for its log, and what it does not count itself.
 
-ghost use Rattle.std.specs.Prelude.{◌≡◌, ◌%◌, ℕ, List, None, true, false, slice_set};
+ghost use Rattle.std.specs.Prelude.{◌≡◌, ◌%◌, ℕ, List, None, Option, true, false, slice_set};
+ghost use Rattle.pdi_session.specs.declared.Phase.{Phase};
+ghost use Rattle.pdu_text.specs.declared.lines.Happening.TheVariants as happening;
+ghost use Rattle.red_layer.specs.declared.RedEvent.{RedEvent};
+ghost use Rattle.safe_machine.specs.declared.ConnectionState.{ConnectionState};
 ghost use Rattle.safe_machine.specs.declared.Step.{Step};
 ghost use Rattle.rasta_run.specs.Counting as counting;
 ghost use Rattle.rasta_run.specs.Headers.{header_seen};
+ghost use Rattle.rasta_run.specs.Recording as recording;
 ghost use Rattle.rasta_run.specs.Telling as telling;
 
 use crate::counts::{ChannelCounts, count_dropped, count_sent};
@@ -82,16 +87,16 @@ impl Recorder {
             → self.new.channels ≡ counting.sent_on channel went self.old.channels }
         // `hear_sent` does not change the number of parts that ended a connection.
         ensures closing { self.new.closing ≡ self.old.closing }
+        // If the recorder listens, it also keeps the event of a datagram of the first channel; it changes nothing else.
+        ensures kept { self.old.listens ≡ true → self.new ≡ recording.after_sent channel datagram.now went self.old }
+        // A recorder that does not listen counts nothing that is sent.
+        ensures off { self.old.listens ≡ false → self.new ≡ self.old }
     {
         if !self.listens {
             return;
         }
         count_sent(&mut self.channels, channel, went);
-        if channel == 1 {
-            if let Some(happening) = made_told(kind_of(datagram)) {
-                self.keep(happening);
-            }
-        }
+        self.keep_some(sent_event(channel, datagram));
     }
 
     /// Records a datagram that was received on a channel.
@@ -99,6 +104,8 @@ impl Recorder {
         // If the recorder listens, it keeps the channel and the header of the datagram, and changes nothing else.
         ensures came { self.old.listens ≡ true
             → self.new ≡ record self.old { came = (channel, header_seen datagram.now) } }
+        // A recorder that does not listen keeps nothing of what comes.
+        ensures off { self.old.listens ≡ false → self.new ≡ self.old }
     {
         if self.listens {
             self.came = (channel, header_of(datagram));
@@ -115,6 +122,18 @@ impl Recorder {
         // If the recorder listens and the note is a step that ended the connection, or did nothing, it counts.
         ensures closing { self.old.listens ≡ true → (number : ℕ) (step : Step) → note.now ≡ Note.Step number step
             → self.new.closing ≡ counting.closing_after step self.old.closing }
+        // If the recorder listens and the note is of the redundancy layer, it keeps that the last datagram was dropped
+        // and why, if it was.
+        ensures event { self.old.listens ≡ true → (number : Option ℕ) (event : RedEvent) → note.now ≡ Note.Redundancy number event
+            → self.new ≡ recording.after_event event self.old }
+        // If the recorder listens and the note is of a new state, it keeps that state.
+        ensures state { self.old.listens ≡ true → (state : ConnectionState) → note.now ≡ Note.State state
+            → self.new ≡ recording.with_event (happening.State state) self.old }
+        // If the recorder listens and the note is of a new phase, it keeps that phase.
+        ensures phase { self.old.listens ≡ true → (phase : Phase) → note.now ≡ Note.Phase phase
+            → self.new ≡ recording.with_event (happening.Phase phase) self.old }
+        // A recorder that does not listen keeps nothing of a note.
+        ensures off { self.old.listens ≡ false → self.new ≡ self.old }
     {
         if !self.listens {
             return;
@@ -129,7 +148,10 @@ impl Recorder {
     }
 
     /// Records how the redundancy layer handled a datagram.
-    fn hear_event(&mut self, event: RedEvent) {
+    fn hear_event(&mut self, event: RedEvent)
+        // `hear_event` keeps that the last datagram was dropped and why, if it was; it changes nothing else.
+        ensures { self.new ≡ recording.after_event event self.old }
+    {
         let (channel, _) = self.came;
         if let Some(cause) = event_cause(event) {
             self.drop_for(channel, cause);
@@ -143,6 +165,8 @@ impl Recorder {
             ≡ counting.stepped_on step number self.old.came.0 self.old.came.1 self.old.channels }
         // A part that ended the connection or came after its end is counted, and no other.
         ensures closing { self.new.closing ≡ counting.closing_after step self.old.closing }
+        // `hear_step` also keeps that a part was dropped and why; it changes nothing else.
+        ensures kept { self.new ≡ recording.after_step number step self.old }
     {
         match step {
             Step::Dropped(cause) => self.hear_dropped(number, cause),
@@ -159,11 +183,11 @@ impl Recorder {
             (counting.channel_under number self.old.came.0 self.old.came.1) cause self.old.channels }
         // `hear_dropped` does not change the number of parts that ended a connection.
         ensures closing { self.new.closing ≡ self.old.closing }
+        // `hear_dropped` also keeps the channel and the cause, with the identifiers of a stranger if they are known; it
+        // changes nothing else.
+        ensures kept { self.new ≡ recording.after_part number cause self.old }
     {
-        let (channel, header) = match self.came {
-            (channel, Some(header)) if header.number == number => (channel, Some(header)),
-            _ => (0, None),
-        };
+        let (channel, header) = under(self.came, number);
         count_dropped(&mut self.channels, channel, cause);
         self.drop_for(channel, drop_cause(cause, header));
     }
@@ -176,9 +200,21 @@ impl Recorder {
         ensures closing { self.new.closing ≡ self.old.closing }
         // `drop_for` keeps the cause as the last one, but no copy of an earlier datagram.
         ensures last_cause { self.new.last_cause ≡ Some (telling.last_of self.old.last_cause cause) }
+        // `drop_for` keeps the event, and changes nothing else.
+        ensures kept { self.new ≡ recording.after_drop channel cause self.old }
     {
         self.last_cause = Some(last_of(self.last_cause, cause));
         self.keep(Happening::Dropped(channel, cause));
+    }
+
+    /// Keeps an event, if there is one.
+    fn keep_some(&mut self, happening: Option<Happening>)
+        // `keep_some` keeps the event and counts it, and changes nothing without one.
+        ensures { self.new ≡ recording.with_some happening self.old }
+    {
+        if let Some(happening) = happening {
+            self.keep(happening);
+        }
     }
 
     /// Keeps an event, in place of the oldest if there is no room.
@@ -191,6 +227,30 @@ impl Recorder {
     {
         self.kept[(self.happened % KEPT as u64) as usize] = happening;
         self.happened = self.happened.wrapping_add(1);
+    }
+}
+
+/// Returns the event of a datagram that was to be sent on a channel.
+fn sent_event(channel: usize, datagram: &[u8]) -> Option<Happening>
+    // `sent_event` returns the event of the PDU on the first channel, and `None` on any other.
+    ensures { result ≡ recording.sent_event channel datagram.now }
+{
+    match channel {
+        1 => made_told(kind_of(datagram)),
+        _ => None,
+    }
+}
+
+/// Returns the channel and the header of the part with this number, if it is that of the last datagram.
+fn under(came: (usize, Option<Header>), number: u32) -> (usize, Option<Header>)
+    // `under` returns the channel of the last datagram if the part is its, and else 0.
+    ensures channel { result.0 ≡ counting.channel_under number came.0 came.1 }
+    // `under` returns the header of the last datagram if the part is its, and else `None`.
+    ensures header { result.1 ≡ recording.header_under number came.1 }
+{
+    match came {
+        (channel, Some(header)) if header.number == number => (channel, Some(header)),
+        _ => (0, None),
     }
 }
 

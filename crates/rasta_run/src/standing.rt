@@ -1,8 +1,9 @@
 //! What the state of an end allows, and whether it is the expected one.
 
 ghost use Rattle.std.specs.Prelude.{◌≡◌};
-ghost use Rattle.rasta_run.specs.Standing.{meets, takes_lines};
+ghost use Rattle.rasta_run.specs.Standing.{ends_in, is_up, meets, puts_in, takes_lines};
 
+use end_settings::Side;
 use pdi_session::Phase;
 use rasta_words::Expected;
 use safe_machine::ConnectionState;
@@ -16,6 +17,36 @@ pub fn may_put_lines(is_kept: bool, state: ConnectionState, phase: Phase, is_emp
     ensures { result ≡ takes_lines is_kept state phase is_empty }
 {
     (state == ConnectionState::Closed && !is_kept) || (phase == Phase::Established && is_empty)
+}
+
+/// Returns whether the session is established.
+pub fn is_up(phase: Phase) -> bool
+    // `is_up` is true for `Established`, and false for any other phase.
+    ensures { result ≡ is_up phase }
+{
+    phase == Phase::Established
+}
+
+/// Returns whether an end puts the telegrams of its list in this phase.
+pub fn puts_in(side: Side, phase: Phase) -> bool
+    // `puts_in` is true for an interlocking with an established session, and for a field element that initialises.
+    ensures { result ≡ puts_in side phase }
+{
+    match side {
+        Side::Interlocking => phase == Phase::Established,
+        Side::FieldElement => phase == Phase::Initialising,
+    }
+}
+
+/// Returns whether an end ends its initialisation in this phase.
+pub fn ends_in(side: Side, phase: Phase, is_empty: bool) -> bool
+    // `ends_in` is true for a field element that initialises, if nothing of its list is left.
+    ensures { result ≡ ends_in side phase is_empty }
+{
+    match (side, is_empty) {
+        (Side::FieldElement, true) => phase == Phase::Initialising,
+        _ => false,
+    }
 }
 
 /// Returns whether an end is in the expected state: `settled` if everything put is confirmed, `done` if everything

@@ -1,12 +1,12 @@
 //! Standard output and standard error of a run, which are never waited for while it runs.
 
-ghost use Rattle.std.specs.Prelude.{◌≡◌, ◌+◌, ◌==◌, [], true, min, not, length, IfErr, IfOk, OnOk};
+ghost use Rattle.std.specs.Prelude.{◌≡◌, ◌+◌, ◌==◌, [], Bool, List, ℕ, true, is_ok, min, not, length, IfErr, IfOk, OnOk};
 ghost use Rattle.std.specs.Io.KnownBytes.{Appends, Keeps, append_known};
 ghost use Rattle.rasta_run.specs.Feeding.{lines_left};
-ghost use Rattle.rasta_run.specs.Pending.{next_try, unread_lines, unread_text};
+ghost use Rattle.rasta_run.specs.Pending.{PassesAll, next_try, unread_lines, unread_text};
 
 use crate::pending::Pending;
-use crate::readiness::{Readiness, Stream};
+use crate::readiness::{Gate, Readiness, Stream};
 use octets::Milliseconds;
 use rasta_words::Fault;
 use std::alloc::Global;
@@ -25,13 +25,13 @@ const TRY_WAIT: u64 = 10;
 
 /// Standard output and standard error of a run.
 #[derive(Drop)]
-pub struct Streams<O, E> {
+pub struct Streams<O, E, G = Readiness> {
     /// The lines of standard output.
     pub out: Pending<O>,
     /// The lines of standard error.
     pub err: Pending<E>,
     /// Which streams are ready.
-    pub gate: Readiness,
+    pub gate: G,
     /// How long the end of a run waits for a reader that does not go on, in milliseconds.
     patience: Milliseconds,
 }
@@ -74,7 +74,7 @@ impl<O: Write + Drop, E: Write + Drop> Streams<O, E> {
     }
 }
 
-impl<O: Write, E: Write> Streams<O, E> {
+impl<O: Write, E: Write, G: Gate> Streams<O, E, G> {
     /// Writes the lines of a turn, as far as the streams take them without waiting. A log that cannot be written is
     /// skipped.
     ///
@@ -87,6 +87,11 @@ impl<O: Write, E: Write> Streams<O, E> {
             (append_known (O.contents self.new.out.writer) self.new.out.octets.items) }
         // `pass_on` leaves no line of standard output out.
         ensures kept { self.new.out.left_out ≡ self.old.out.left_out }
+        // `pass_on` writes what waits for standard output as long as that is ready. It fails if and only if a write
+        // has failed.
+        ensures passed { (gate : G) × PassesAll O.contents G.asks self.old.out.stream
+            (record { writer = self.old.out.writer; octets = self.old.out.octets.items; gate = self.old.gate }) (is_ok result)
+            (record { writer = self.new.out.writer; octets = self.new.out.octets.items; gate = gate }) }
         // `pass_on` fails only with `Output`.
         ensures refused { IfErr result (λ why. why ≡ Fault.Output) }
     {
@@ -98,7 +103,11 @@ impl<O: Write, E: Write> Streams<O, E> {
     /// Writes the lines of the log, as far as standard error takes them.
     fn pass_log(&mut self)
         // `pass_log` does not change standard output.
-        ensures { (self.new.out ≡ self.old.out) × (self.new.patience ≡ self.old.patience) }
+        ensures kept { (self.new.out ≡ self.old.out) × (self.new.patience ≡ self.old.patience) }
+        // `pass_log` writes what waits for standard error as long as that is ready.
+        ensures passed { (works : Bool) × (octets : List ℕ) × PassesAll E.contents G.asks self.old.err.stream
+            (record { writer = self.old.err.writer; octets = self.old.err.octets.items; gate = self.old.gate }) works
+            (record { writer = self.new.err.writer; octets = octets; gate = self.new.gate }) }
     {
         if !self.err.pass_on(&mut self.gate) {
             self.err.skip();
@@ -127,6 +136,11 @@ impl<O: Write, E: Write> Streams<O, E> {
         // At the end of a run no byte of standard output is lost or repeated.
         ensures whole { Keeps (append_known (O.contents self.old.out.writer) self.old.out.octets.items)
             (append_known (O.contents self.new.out.writer) self.new.out.octets.items) }
+        // `print_rest` writes what waits for standard output as long as that is ready. It fails if and only if a write
+        // has failed.
+        ensures passed { (before : G) × (after : G) × PassesAll O.contents G.asks self.old.out.stream
+            (record { writer = self.old.out.writer; octets = self.old.out.octets.items; gate = before }) (is_ok result)
+            (record { writer = self.new.out.writer; octets = self.new.out.octets.items; gate = after }) }
         // `print_rest` returns true if and only if nothing waits any more.
         ensures rest { IfOk result (λ printed. printed ≡ (length self.new.out.octets.items == 0)) }
         // `print_rest` leaves no line of standard output out.
@@ -135,9 +149,9 @@ impl<O: Write, E: Write> Streams<O, E> {
         ensures refused { IfErr result (λ why. why ≡ Fault.Output) }
     {
         self.pass_log();
-        self.gate.patience = self.patience;
+        self.gate.set_patience(self.patience);
         let works = self.out.pass_on(&mut self.gate);
-        self.gate.patience = 0;
+        self.gate.set_patience(0);
         if works {
             Ok(!self.out.has_waiting())
         } else {
@@ -158,10 +172,10 @@ impl<O: Write, E: Write> Streams<O, E> {
         // `log_rest` does not change standard output.
         ensures { self.new.out ≡ self.old.out }
     {
-        self.gate.patience = self.patience;
+        self.gate.set_patience(self.patience);
         self.pass_log();
         self.pass_log();
-        self.gate.patience = 0;
+        self.gate.set_patience(0);
     }
 
     /// Logs how many lines of standard output were not printed, if any were not. Returns whether all were.

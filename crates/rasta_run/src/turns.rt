@@ -1,57 +1,41 @@
-//! One end in a turn: it receives, puts its telegrams, and reports its state.
+//! One end in a turn: it receives, then it puts telegrams of its list.
 
-ghost use Rattle.std.specs.Prelude.{◌≡◌, ℕ, ◌≤◌, ◌^◌, None, Some, true, false, IfErr, IfOk, IfSome, OnOk, if◌then◌else◌};
-ghost use Rattle.pdi_session.specs.declared.PutFault.TheVariants.{Full};
-ghost use Rattle.rasta_run.specs.Putting.{Answers, Passes, PutsBeginning};
-ghost use Rattle.rasta_run.specs.Keeping.{opens_anew};
+ghost use Rattle.std.specs.Prelude.{◌≡◌, ◌+◌, ◌-◌, ◌≤◌, ◌^◌, ◌%◌, length, ◌==◌, None, false, IfErr, IfOk, OnOk};
 ghost use Rattle.rasta_run.specs.Counting.{counted_of};
 ghost use Rattle.rasta_run.specs.Counts.{told_text};
+ghost use Rattle.rasta_run.specs.Progress as progress;
+ghost use Rattle.rasta_run.specs.Stamping.{LogsNotice};
 ghost use Rattle.rasta_run.specs.Totals as totals;
+ghost use Rattle.rasta_run.specs.Turning as turning;
+ghost use Rattle.rasta_run.specs.Undone.{doubt_of};
+ghost use Rattle.safe_machine.specs.Connections.{is_closed};
+ghost use Rattle.stack_end.specs.Certain.{confirmed_in};
+ghost use Rattle.stack_end.specs.EndValue.{channels_of, inside, statistics_of};
+ghost use Rattle.stack_end.specs.Turns.{is_over, is_settled};
 ghost use Rattle.std.specs.Io.KnownBytes.{Appends};
-ghost use Rattle.std.specs.List.{FoldsTo};
-ghost use Rattle.channels.specs.Told.{SendsOne};
-ghost use Rattle.udp_channels.specs.Sockets.{told_of};
-ghost use Rattle.stack_end.specs.Datagrams.{sent_at_opening};
-ghost use Rattle.stack_end.specs.EndValue.{EndStands, channels_of, inside, statistics_of};
-ghost use Rattle.stack_end.specs.Stale.{is_stale};
-ghost use Rattle.stack_end.specs.Ends.{opened_end};
 
 use crate::RecordedChannels;
 use crate::counting::Teller;
 use crate::counts::Counted;
-use crate::drawing::first_number;
-use crate::input::Feed;
-use crate::keeping::{Keeper, is_wait_over};
+use crate::keeping::Keeper;
 use crate::logging::Log;
 use crate::noticing::Notice;
-use crate::printing::Printer;
+use crate::printing::Application;
 use crate::progress::{Gained, Progress, is_finished, is_over, waits_for_peer};
-use crate::standing::{is_met, may_put_lines};
-use crate::totals::{Totals, received_on};
-use crate::undone::{Origin, Undone, doubt_of, write_refused};
-use crate::unopened::fault_of_end;
-use crate::waiting::earlier;
+use crate::totals::Totals;
+use crate::undone::doubt_of;
 use channels::Channels;
-use end_settings::{EndConfig, Side};
+use end_settings::Side;
 use octets::Milliseconds;
-use pdi_session::{InitFault, Phase, PutFault, Taker};
-use pdu_text::{Ending, Happening, Standing, write_refusal, write_report};
-use rasta_words::{Expected, Fault};
+use pdi_session::Taker;
+use rasta_words::Fault;
 use safe_machine::ConnectionState;
 use settings_file::{Put, Settings};
 use stack_end::{End, Listener};
 use std::alloc::{Allocator, Global};
-use std::io::{Read, Write};
-use std::rt::Files;
-use std::{io, mem};
-use udp_channels::{SocketChannels, UdpChannels};
-
-/// The greatest number of lines of input that are put in one turn, so that a turn ends: more than fit into one
-/// end.
-const LINES_MAX: usize = 256;
-
-/// The wait after a turn in which a reception failed, in milliseconds.
-const DEAF_WAIT: u64 = 10;
+use std::io;
+use std::io::Write;
+use std::time::Clock;
 
 /// The longest time between two turns that is not logged, in milliseconds. The longest wait is 1,000.
 const GAP_MAX: u64 = 1_500;
@@ -62,45 +46,45 @@ pub struct Actor<'a, C, A: Allocator = Global> {
     /// The end.
     pub end: End<RecordedChannels<C>, A>,
     /// The side of the end.
-    side: Side,
+    pub side: Side,
     /// The telegrams that it still has to put, in order.
     pub left: &'a [Put],
     /// The number of telegrams that it had to put at first.
-    entries: usize,
+    pub entries: usize,
     /// The number of telegrams put, modulo 2^64.
     pub put: u64,
     /// The number of telegrams that were put before the present opening.
-    before: u64,
+    pub before: u64,
     /// The number of telegrams in doubt of connections that were lost.
-    lost: u64,
+    pub lost: u64,
     /// The number of lines of input that it refused.
-    refused_lines: u64,
+    pub refused_lines: u64,
     /// The number of telegrams of the list that it refused.
-    refused_entries: u64,
+    pub refused_entries: u64,
     /// The number of its openings, modulo 2^64.
-    openings: u64,
+    pub openings: u64,
     /// When it last got on.
-    progress: Progress,
+    pub progress: Progress,
     /// When it took its last turn, in milliseconds.
-    last_turn: Milliseconds,
+    pub last_turn: Milliseconds,
     /// The number of turns in a row in which a reception failed.
-    deaf_turns: u64,
+    pub deaf_turns: u64,
     /// Whether its connection was found closed.
-    is_closed: bool,
+    pub was_closed: bool,
     /// The number of telegrams taken.
-    taken: u64,
+    pub taken: u64,
     /// Its log.
-    log: Log,
+    pub log: Log,
     /// Whether it is opened again if its connection is lost.
-    is_kept: bool,
+    pub is_kept: bool,
     /// When it is opened again.
-    keeper: Keeper,
+    pub keeper: Keeper,
     /// When it is to be opened again, in milliseconds, if that is known.
-    anew_at: Option<u64>,
+    pub anew_at: Option<u64>,
     /// What the end counted in its earlier openings.
-    earlier: Totals,
+    pub earlier: Totals,
     /// The printer of its counts.
-    teller: Teller,
+    pub teller: Teller,
 }
 
 impl<'a, C: Channels, A: Allocator + Copy> Actor<'a, C, A> {
@@ -119,13 +103,20 @@ impl<'a, C: Channels, A: Allocator + Copy> Actor<'a, C, A> {
         // A new `Actor` is of this side.
         ensures side { result.side ≡ side }
         // A new `Actor` has all of these telegrams to put.
-        ensures left { result.left.now ≡ puts.now }
+        ensures left { (result.left.now ≡ puts.now) × (result.entries ≡ length puts.now) }
         // A new `Actor` has this keeper.
         ensures keeper { result.keeper ≡ keeper }
         // A new `Actor` is opened again if and only if `is_kept` is true.
         ensures kept { result.is_kept ≡ is_kept }
         // A new `Actor` has no earlier opening.
         ensures earlier { result.earlier.sums ≡ totals.none }
+        // A new `Actor` logs and prints as it is given.
+        ensures outputs { (result.log ≡ log) × (result.teller ≡ teller) }
+        // A new `Actor` has put, taken, refused and lost nothing, and got on when it was opened.
+        ensures begins { (result.put ≡ 0) × (result.before ≡ 0) × (result.lost ≡ 0) × (result.taken ≡ 0)
+            × (result.refused_lines ≡ 0) × (result.refused_entries ≡ 0) × (result.openings ≡ 0)
+            × (result.deaf_turns ≡ 0) × (result.was_closed ≡ false) × (result.last_turn ≡ keeper.opened)
+            × (result.progress ≡ progress.beginning keeper.opened) × (result.anew_at ≡ None) }
     {
         Actor {
             end,
@@ -141,7 +132,7 @@ impl<'a, C: Channels, A: Allocator + Copy> Actor<'a, C, A> {
             progress: Progress::beginning(keeper.opened),
             last_turn: keeper.opened,
             deaf_turns: 0,
-            is_closed: false,
+            was_closed: false,
             taken: 0,
             log,
             is_kept,
@@ -152,17 +143,25 @@ impl<'a, C: Channels, A: Allocator + Copy> Actor<'a, C, A> {
         }
     }
 
+    /// Reads the system's clock for the lines of the log.
+    pub fn look_at_clock<K: Clock>(&mut self, system: &K, now: Milliseconds)
+        // `look_at_clock` changes nothing but the log.
+        ensures { self.new ≡ record self.old { log = self.new.log } }
+    {
+        self.log.look_at_clock(system, now);
+    }
+
     /// Logs the channels with which the end was opened, and the events of its opening.
     pub fn tell_opened<E: Write>(&mut self, settings: &Settings, now: Milliseconds, err: &mut E)
-        // `tell_opened` does not change the end.
-        ensures { self.new.end ≡ self.old.end }
+        // `tell_opened` changes nothing but the log.
+        ensures { self.new ≡ record self.old { log = self.new.log } }
     {
         self.log.open(settings, now, err);
         self.log_events(now, err);
     }
 
     /// Logs the events since the last call, and the channels that became silent or receive again.
-    fn log_events<E: Write>(&mut self, now: Milliseconds, err: &mut E)
+    pub fn log_events<E: Write>(&mut self, now: Milliseconds, err: &mut E)
         // `log_events` changes nothing but the log.
         ensures { self.new ≡ record self.old { log = self.new.log } }
     {
@@ -177,7 +176,7 @@ impl<'a, C: Channels, A: Allocator + Copy> Actor<'a, C, A> {
     }
 
     /// Returns all that is counted of the end.
-    fn counted(&self) -> Counted
+    pub fn counted(&self) -> Counted
         // `counted` adds the end's own counts to those of its earlier openings, and has those of the recorder and
         // the numbers of telegrams put and taken.
         ensures { result ≡ counted_of self.now.earlier.sums (statistics_of self.now.end)
@@ -198,7 +197,7 @@ impl<'a, C: Channels, A: Allocator + Copy> Actor<'a, C, A> {
     /// # Errors
     ///
     /// - The error of the writer; what it wrote before stays written.
-    fn tell_counts<E: Write>(&self, now: Milliseconds, err: &mut E) -> io::Result<()>
+    pub fn tell_counts<E: Write>(&self, now: Milliseconds, err: &mut E) -> io::Result<()>
         // If `tell_counts` succeeds, it has appended the lines of what the end counted in all its openings, and of
         // what is counted beside.
         ensures { OnOk result (Appends (E.contents err.old) (E.contents err.new)
@@ -214,66 +213,95 @@ impl<'a, C: Channels, A: Allocator + Copy> Actor<'a, C, A> {
     ///
     /// # Errors
     ///
-    /// - `Output` if a line cannot be printed. A reception that fails is not a fault of a turn: it counts as
+    /// - `Output` if the application cannot print. A reception that fails is not a fault of a turn: it counts as
     ///   nothing received.
-    pub fn turn<W: Write, E: Write>(
+    pub fn turn<T: Application, E: Write>(
         &mut self,
         now: Milliseconds,
-        writer: &mut W,
+        app: &mut T,
         err: &mut E,
     ) -> Result<(), Fault>
         requires now { now ≤ 2 ^ 62 }
         requires later { self.old.end.time ≤ now }
+        // If `turn` succeeds, the end has received what came, and time has passed; its application has taken what
+        // the session accepted, and lost none of it. Then the end has put what it may of its list.
+        ensures turn { OnOk result (turning.TakesTurn (λ o. C.told o.inner) T.takes T.has_lost T.refuses now self.old.side
+            (record {
+              end = self.old.end;
+              left = self.old.left.now;
+              put = self.old.put;
+              refused = self.old.refused_entries;
+              app = app.old;
+              deaf = self.old.deaf_turns;
+              closed = self.old.was_closed;
+            })
+            (record {
+              end = self.new.end;
+              left = self.new.left.now;
+              put = self.new.put;
+              refused = self.new.refused_entries;
+              app = app.new;
+              deaf = self.new.deaf_turns;
+              closed = self.new.was_closed;
+            })) }
+        // `turn` records when it was, and changes nothing else but the log.
+        ensures kept { self.new ≡ record self.old {
+          end = self.new.end;
+          left = self.new.left;
+          put = self.new.put;
+          refused_entries = self.new.refused_entries;
+          last_turn = now;
+          deaf_turns = self.new.deaf_turns;
+          was_closed = self.new.was_closed;
+          log = self.new.log;
+        } }
         // After `turn` the end's time is at most `now`.
         ensures time { self.new.end.time ≤ now }
     {
-        self.note_gap(now, err);
-        let works = self.hear(now, writer)?;
+        let _ = self.note_turn(now, err);
+        let works = self.hear(now, app)?;
         self.log_events(now, err);
-        self.note_reception(works, now, err);
-        self.note_loss(now, err);
-        match (self.side, self.end.phase()) {
-            (Side::Interlocking, Phase::Established) => self.put_left(now, writer, err),
-            (Side::FieldElement, Phase::Initialising) => {
-                self.put_left(now, writer, err)?;
-                self.end_initialising(now, writer, err)
-            }
-            _ => Ok(()),
-        }
+        let _ = self.note_reception(works, now, err);
+        let _ = self.note_loss(now, err);
+        self.put_now(now, app, err)?;
+        Ok(())
     }
 
-    /// Returns whether the end is in the expected state, if it leaves this undone.
-    pub fn stands_as(&self, expected: Option<Expected>, undone: Undone) -> bool
-        // If no state is expected, `stands_as` returns true.
-        ensures { expected ≡ None → result ≡ true }
+    /// Receives what has come. Returns whether all receptions succeeded. If one fails, time passes all the same, so
+    /// that deadlines are met.
+    fn hear<T: Application>(&mut self, now: Milliseconds, app: &mut T) -> Result<bool, Fault>
+        requires now { now ≤ 2 ^ 62 }
+        requires later { self.old.end.time ≤ now }
+        // If `hear` succeeds, the end was polled, and time has passed even if a reception failed.
+        ensures heard { IfOk result (λ works. turning.Hears (λ o. C.told o.inner) T.takes works now
+            (self.old.end, app.old) (self.new.end, app.new)) }
+        // If `hear` succeeds, the application has lost nothing that it took.
+        ensures taken { OnOk result (T.has_lost app.new ≡ false) }
+        // `hear` fails only with `Output`: a reception that fails is not a fault.
+        ensures refused { IfErr result (λ why. why ≡ Fault.Output) }
+        // After `hear` the end's time is `now`: it has ticked, whether or not a reception failed.
+        ensures ticked { self.new.end.time ≡ now }
+        // After `hear` the end's time is at most `now`.
+        ensures time { self.new.end.time ≤ now }
+        // `hear` changes nothing but the end.
+        ensures kept { self.new ≡ record self.old { end = self.new.end } }
     {
-        is_met(
-            expected,
-            self.end.phase(),
-            self.end.settled(),
-            undone.is_nothing(),
-        )
-    }
-
-    /// Returns what is left undone, if this many lines of input were not offered to the end.
-    pub fn undone(&self, lines: u64) -> Undone {
-        let left = self.left.len() as u64;
-        Undone {
-            lines: lines.saturating_add(self.refused_lines),
-            entries: left.saturating_add(self.refused_entries),
-            doubt: self.lost.saturating_add(self.doubt()),
+        let works = poll_or_tick(&mut self.end, now, app);
+        if app.has_failed() {
+            return Err(Fault::Output);
         }
-    }
-
-    /// Returns how many telegrams put since the opening are in doubt.
-    fn doubt(&self) -> u64 {
-        doubt_of(self.put, self.before, self.end.confirmed())
+        Ok(works)
     }
 
     /// Records whether the end has got on.
     pub fn note_progress(&mut self, now: Milliseconds)
-        // `note_progress` does not change the end.
-        ensures { self.new.end ≡ self.old.end }
+        // `note_progress` records `now` if the end has put or confirmed a telegram, was opened again, or waits for its
+        // peer; it changes nothing else.
+        ensures { self.new ≡ record self.old {
+          progress = progress.got_on
+              (record { put = self.old.put; confirmed = confirmed_in (inside self.old.end).upper; openings = self.old.openings })
+              (progress.waits_for_peer (inside self.old.end).upper.machine.connection self.old.is_kept) now self.old.progress;
+        } }
     {
         let gained = Gained {
             put: self.put,
@@ -285,12 +313,22 @@ impl<'a, C: Channels, A: Allocator + Copy> Actor<'a, C, A> {
     }
 
     /// Returns when the end gives up, in milliseconds: T_max after it last got on.
-    pub fn limit(&self) -> Milliseconds {
+    pub fn limit(&self) -> Milliseconds
+        // `limit` returns T_max of the settings after the time at which the end last got on.
+        ensures { result ≡ progress.limit_of self.now.progress.at self.now.keeper.config.t_max }
+    {
         self.progress.limit(self.keeper.config.t_max)
     }
 
     /// Returns whether the end is over, once input has ended: it has finished all of it, or it gives up.
-    pub fn is_over(&self, input_done: bool, now: Milliseconds) -> bool {
+    pub fn is_over(&self, input_done: bool, now: Milliseconds) -> bool
+        // `is_over` is true if and only if all input is done and nothing is left to put or to be confirmed, or the
+        // time to give up is reached.
+        ensures { result ≡ progress.is_over input_done
+            (progress.is_finished (inside self.now.end).upper.machine.connection self.now.is_kept
+            (length self.now.left.now == 0) (is_settled (inside self.now.end)))
+            (progress.limit_of self.now.progress.at self.now.keeper.config.t_max) now }
+    {
         let is_done = is_finished(
             self.end.state(),
             self.is_kept,
@@ -300,330 +338,81 @@ impl<'a, C: Channels, A: Allocator + Copy> Actor<'a, C, A> {
         is_over(input_done, is_done, self.limit(), now)
     }
 
-    /// Logs that the end took no turn for a long time.
-    fn note_gap<E: Write>(&mut self, now: Milliseconds, err: &mut E)
-        // `note_gap` does not change the end.
-        ensures { self.new.end ≡ self.old.end }
+    /// Records the time of a turn, and logs that the end took none for a long time.
+    ///
+    /// # Errors
+    ///
+    /// - The error of the writer; what it wrote before stays written.
+    fn note_turn<E: Write>(&mut self, now: Milliseconds, err: &mut E) -> io::Result<()>
+        // `note_turn` records when the turn was; it changes nothing else.
+        ensures kept { self.new ≡ record self.old { last_turn = now } }
+        // If `note_turn` succeeds, it has logged a time of more than 1,500 ms since the last turn.
+        ensures told { OnOk result (LogsNotice (turning.gap_notice (now - self.old.last_turn)) self.old.log now
+            (E.contents err.old) (E.contents err.new)) }
     {
         let gap = now.saturating_sub(self.last_turn);
         self.last_turn = now;
-        if gap > GAP_MAX {
-            self.log.notice(Notice::NoTurn(gap), now, err);
-        }
+        self.log.notice(gap_notice(gap), now, err)
     }
 
     /// Counts turns in which a reception fails, and logs when they begin and when they are over.
-    fn note_reception<E: Write>(&mut self, works: bool, now: Milliseconds, err: &mut E)
-        // `note_reception` does not change the end.
-        ensures { self.new.end ≡ self.old.end }
+    ///
+    /// # Errors
+    ///
+    /// - The error of the writer; what it wrote before stays written.
+    fn note_reception<E: Write>(
+        &mut self,
+        works: bool,
+        now: Milliseconds,
+        err: &mut E,
+    ) -> io::Result<()>
+        // `note_reception` counts a turn in which a reception failed, and begins again after one in which none did;
+        // it changes nothing else.
+        ensures kept { self.new ≡ record self.old { deaf_turns = turning.deaf_after works self.old.deaf_turns } }
+        // If `note_reception` succeeds, it has logged the first turn in which a reception failed, and the first one
+        // in which none did.
+        ensures told { OnOk result (LogsNotice (turning.reception_notice works self.old.deaf_turns) self.old.log now
+            (E.contents err.old) (E.contents err.new)) }
     {
-        if !works {
-            if self.deaf_turns == 0 {
-                self.log.notice(Notice::Deaf, now, err);
-            }
-            self.deaf_turns = self.deaf_turns.saturating_add(1);
-        } else if self.deaf_turns > 0 {
-            self.log.notice(Notice::Receives(self.deaf_turns), now, err);
-            self.deaf_turns = 0;
-        }
-    }
-
-    /// Logs that the end leaves, because nobody reads its telegrams.
-    pub fn tell_unread<E: Write>(&self, now: Milliseconds, err: &mut E) {
-        self.log.notice(Notice::Unread, now, err);
+        let notice = reception_notice(works, self.deaf_turns);
+        self.deaf_turns = deaf_after(works, self.deaf_turns);
+        self.log.notice(notice, now, err)
     }
 
     /// Logs how many telegrams are in doubt when the connection is lost.
-    fn note_loss<E: Write>(&mut self, now: Milliseconds, err: &mut E)
-        // `note_loss` does not change the end.
-        ensures { self.new.end ≡ self.old.end }
-    {
-        let is_closed = self.end.state() == ConnectionState::Closed;
-        let doubt = self.doubt();
-        if is_closed && !self.is_closed && doubt > 0 {
-            self.log.notice(Notice::InDoubt(doubt), now, err);
-        }
-        self.is_closed = is_closed;
-    }
-
-    /// Logs the last events, and prints the counts. Then it logs why the end is in its state, if the log is on or
-    /// the end is not in the expected state.
-    pub fn conclude<E: Write>(&mut self, now: Milliseconds, met: bool, err: &mut E) {
-        self.log_events(now, err);
-        let _ = self.tell_counts(now, err);
-        if !met || !self.log.is_off() {
-            let counted = self.counted();
-            let ending = Ending {
-                state: self.end.state(),
-                phase: self.end.phase(),
-                departure: self.log.departure(&self.end),
-                came: received_on(&counted.sums),
-                taken: counted.accepted(),
-                last: self.end.channels_seen().recorder.last_cause,
-            };
-            self.log.end(&ending, now, err);
-        }
-    }
-
-    /// Prints what the end leaves undone, if it is anything. A failing output is ignored.
-    pub fn tell_undone<E: Write>(&self, undone: Undone, err: &mut E) {
-        if !undone.is_nothing() {
-            let _ = undone.write(err, self.side);
-        }
-    }
-
-    /// Writes the state of the end.
     ///
     /// # Errors
     ///
-    /// - `Output` if the line cannot be written.
-    pub fn report<W: Write>(&self, writer: &mut W) -> Result<(), Fault> {
-        let standing = Standing {
-            state: self.end.state(),
-            phase: self.end.phase(),
-            put: self.put,
-            taken: self.taken,
-        };
-        match write_report(writer, self.side, Some(standing)) {
-            Ok(()) => Ok(()),
-            Err(_) => Err(Fault::Output),
-        }
+    /// - The error of the writer; what it wrote before stays written.
+    fn note_loss<E: Write>(&mut self, now: Milliseconds, err: &mut E) -> io::Result<()>
+        // `note_loss` records whether the connection is closed; it changes nothing else.
+        ensures kept { self.new ≡ record self.old { was_closed = is_over (inside self.old.end) } }
+        // If `note_loss` succeeds, it has logged the telegrams in doubt, if there are any and the connection was
+        // just found closed.
+        ensures told { OnOk result (LogsNotice (turning.loss_notice self.old.was_closed (is_over (inside self.old.end))
+            (doubt_of self.old.put self.old.before (confirmed_in (inside self.old.end).upper))) self.old.log now
+            (E.contents err.old) (E.contents err.new)) }
+    {
+        let is_closed = is_closed(self.end.state());
+        let notice = loss_notice(self.was_closed, is_closed, self.doubt());
+        self.was_closed = is_closed;
+        self.log.notice(notice, now, err)
     }
 
-    /// Receives what has come, and prints the telegrams that the application takes. Returns whether all receptions
-    /// succeeded. If one fails, time passes all the same, so that deadlines are met.
-    fn hear<W: Write>(&mut self, now: Milliseconds, writer: &mut W) -> Result<bool, Fault>
-        requires now { now ≤ 2 ^ 62 }
-        requires later { self.old.end.time ≤ now }
-        // `hear` fails only with `Output`: a reception that fails is not a fault.
-        ensures refused { IfErr result (λ why. why ≡ Fault.Output) }
-        // After `hear` the end's time is `now`: it has ticked, whether or not a reception failed.
-        ensures ticked { self.new.end.time ≡ now }
-        // After `hear` the end's time is at most `now`.
-        ensures time { self.new.end.time ≤ now }
+    /// Returns how many telegrams put since the opening are in doubt.
+    pub fn doubt(&self) -> u64
+        // `doubt` returns the telegrams put since the opening, less those that are confirmed.
+        ensures { result ≡ doubt_of self.now.put self.now.before (confirmed_in (inside self.now.end).upper) }
     {
-        let mut printer = Printer {
-            side: self.side,
-            writer,
-            taken: 0,
-            failed: false,
-        };
-        let works = poll_or_tick(&mut self.end, now, &mut printer);
-        self.taken = self.taken.wrapping_add(printer.taken);
-        if printer.failed {
-            return Err(Fault::Output);
-        }
-        Ok(works)
+        doubt_of(self.put, self.before, self.end.confirmed())
     }
 
-    /// Puts the telegrams that are left, until the end is full.
-    fn put_left<W: Write, E: Write>(
-        &mut self,
-        now: Milliseconds,
-        writer: &mut W,
-        err: &mut E,
-    ) -> Result<(), Fault>
-        requires now { now ≤ 2 ^ 62 }
-        requires later { self.old.end.time ≤ now }
-        // If `put_left` succeeds, it has put a prefix of the telegrams in order, each once, up to the first for
-        // which the end is `Full`. One that is refused is printed and not counted. Exactly the rest is left.
-        ensures puts { OnOk result (PutsBeginning (λ o. C.told o.inner) now self.old.left.now
-            (self.old.end, self.old.put, W.contents writer.old) self.new.left.now
-            (self.new.end, self.new.put, W.contents writer.new)) }
-        // After `put_left` the end's time is at most `now`.
-        ensures time { self.new.end.time ≤ now }
+    /// Counts telegrams that the application took.
+    pub fn note_taken(&mut self, count: u64)
+        // `note_taken` adds the number to the telegrams taken, modulo 2^64; it changes nothing else.
+        ensures { self.new ≡ record self.old { taken = (self.old.taken + count) % 2 ^ 64 } }
     {
-        let count = self.left.len();
-        'puts: for _ in 0..count {
-            let Some((put, rest)) = self.left.split_first() else {
-                return Ok(());
-            };
-            let place = self.entries.saturating_sub(rest.len());
-            if !self.put_one(put, Origin::Entry(place as u64), now, writer, err)? {
-                return Ok(());
-            }
-            self.left = rest;
-        }
-        Ok(())
-    }
-
-    /// Puts a telegram, and returns whether it is done with. It is not if the end is full. A telegram that is
-    /// refused for another reason is printed and counted.
-    fn put_one<W: Write, E: Write>(
-        &mut self,
-        put: &Put,
-        origin: Origin,
-        now: Milliseconds,
-        writer: &mut W,
-        err: &mut E,
-    ) -> Result<bool, Fault>
-        requires now { now ≤ 2 ^ 62 }
-        requires later { self.old.end.time ≤ now }
-        // If `put_one` returns true, the telegram was put and counted, or it was refused and only the refusal was
-        // printed.
-        ensures passed { IfOk result (λ done. done ≡ true
-            → Passes (λ o. C.told o.inner) now (self.old.end, self.old.put, W.contents writer.old) put.now
-            (self.new.end, self.new.put, W.contents writer.new)) }
-        // If `put_one` returns false, the end is `Full` for this telegram.
-        ensures full { IfOk result (λ done. done ≡ false
-            → Answers self.old.end put.now (Some Full)) }
-        // If `put_one` returns false, it has changed neither the end nor the count nor the output.
-        ensures kept { IfOk result (λ done. done ≡ false → (self.new.end ≡ self.old.end) × (self.new.put ≡ self.old.put)
-            × (W.contents writer.new ≡ W.contents writer.old)) }
-        // `put_one` does not change the telegrams that are left.
-        ensures left { self.new.left ≡ self.old.left }
-        // After `put_one` the end's time is at most `now`.
-        ensures time { self.new.end.time ≤ now }
-    {
-        match self.end.put(put.kind, put.payload.as_slice(), now) {
-            Ok(()) => {
-                self.put = self.put.wrapping_add(1);
-                Ok(true)
-            }
-            Err(PutFault::Full) => Ok(false),
-            Err(fault) => {
-                self.note_refusal(put.kind, origin, fault, now, err);
-                match write_refusal(writer, fault.name()) {
-                    Ok(()) => Ok(true),
-                    Err(_) => Err(Fault::Output),
-                }
-            }
-        }
-    }
-
-    /// Counts a telegram that was refused, and prints where it comes from, its message type and the fault.
-    fn note_refusal<E: Write>(
-        &mut self,
-        kind: u16,
-        origin: Origin,
-        fault: PutFault,
-        now: Milliseconds,
-        err: &mut E,
-    )
-        // `note_refusal` does not change the end.
-        ensures end { self.new.end ≡ self.old.end }
-        // `note_refusal` does not change the telegrams that are left.
-        ensures left { self.new.left ≡ self.old.left }
-        // `note_refusal` does not change the number of telegrams put.
-        ensures put { self.new.put ≡ self.old.put }
-    {
-        match origin {
-            Origin::Line(_) => self.refused_lines = self.refused_lines.saturating_add(1),
-            Origin::Entry(_) => self.refused_entries = self.refused_entries.saturating_add(1),
-        }
-        self.log.tell(Happening::PutRefused(fault), now, err);
-        let _ = write_refused(err, origin, kind, fault.name());
-    }
-
-    /// Puts the telegrams of input, until one is refused as `Full`, if the session is established and the list of
-    /// the settings file is done. If the connection is closed for good, each line is refused. Returns whether there
-    /// was a line.
-    ///
-    /// # Errors
-    ///
-    /// - `Output` if a line cannot be printed;
-    /// - `Memory` if an allocation fails.
-    pub fn put_lines<I: Read + Drop, W: Write, E: Write>(
-        &mut self,
-        alloc: Global,
-        feed: &mut Feed<I>,
-        now: Milliseconds,
-        writer: &mut W,
-        err: &mut E,
-    ) -> Result<bool, Fault>
-        requires now { now ≤ 2 ^ 62 }
-        requires later { self.old.end.time ≤ now }
-        // After `put_lines` the end's time is at most `now`.
-        ensures time { self.new.end.time ≤ now }
-    {
-        let is_ready = may_put_lines(
-            self.is_kept,
-            self.end.state(),
-            self.end.phase(),
-            self.left.is_empty(),
-        );
-        if !is_ready {
-            return Ok(false);
-        }
-        'lines: for place in 0..LINES_MAX {
-            if !feed.prepare(alloc, err)? {
-                return Ok(place > 0);
-            }
-            if !self.put_next(feed, now, writer, err)? {
-                return Ok(place > 0);
-            }
-        }
-        Ok(true)
-    }
-
-    /// Puts the next telegram of input, if there is one. Returns false, and keeps it, if the end is full.
-    fn put_next<I: Read + Drop, W: Write, E: Write>(
-        &mut self,
-        feed: &mut Feed<I>,
-        now: Milliseconds,
-        writer: &mut W,
-        err: &mut E,
-    ) -> Result<bool, Fault>
-        requires now { now ≤ 2 ^ 62 }
-        requires later { self.old.end.time ≤ now }
-        // If `put_next` returns true, it has put the next telegram, or has refused it and printed the refusal.
-        ensures passed { IfOk result (λ done. done ≡ true → IfSome feed.old.next (λ p.
-            Passes (λ o. C.told o.inner) now (self.old.end, self.old.put, W.contents writer.old) p
-            (self.new.end, self.new.put, W.contents writer.new))) }
-        // If `put_next` returns true, no telegram is next.
-        ensures gone { IfOk result (λ done. done ≡ true → feed.new.next ≡ None) }
-        // If `put_next` returns false, the end is `Full` for the next telegram, which stays.
-        ensures full { IfOk result (λ done. done ≡ false → (feed.new.next ≡ feed.old.next)
-            × IfSome feed.old.next (λ p. Answers self.old.end p (Some Full))) }
-        // After `put_next` the end's time is at most `now`.
-        ensures time { self.new.end.time ≤ now }
-    {
-        let number = feed.number();
-        if let Some(put) = &feed.next {
-            if !self.put_one(put, Origin::Line(number), now, writer, err)? {
-                return Ok(false);
-            }
-        }
-        feed.next = None;
-        Ok(true)
-    }
-
-    /// Disconnects, and logs the events.
-    pub fn close<E: Write>(&mut self, now: Milliseconds, err: &mut E)
-        requires now { now ≤ 2 ^ 62 }
-        requires later { self.old.end.time ≤ now }
-        // After `close` the end's time is at most `now`.
-        ensures time { self.new.end.time ≤ now }
-    {
-        self.end.close(now);
-        self.log_events(now, err);
-    }
-
-    /// Ends the initialisation, once no telegram is left. If that is refused as `Full`, the next turn tries again.
-    fn end_initialising<W: Write, E: Write>(
-        &mut self,
-        now: Milliseconds,
-        writer: &mut W,
-        err: &mut E,
-    ) -> Result<(), Fault>
-        requires now { now ≤ 2 ^ 62 }
-        requires later { self.old.end.time ≤ now }
-        // After `end_initialising` the end's time is at most `now`.
-        ensures time { self.new.end.time ≤ now }
-    {
-        if !self.left.is_empty() {
-            return Ok(());
-        }
-        match self.end.init_done(now) {
-            Ok(()) | Err(InitFault::Full) => Ok(()),
-            Err(fault) => {
-                self.log.tell(Happening::InitRefused(fault), now, err);
-                match write_refusal(writer, fault.name()) {
-                    Ok(()) => Ok(()),
-                    Err(_) => Err(Fault::Output),
-                }
-            }
-        }
+        self.taken = self.taken.wrapping_add(count);
     }
 }
 
@@ -636,8 +425,10 @@ fn poll_or_tick<C: Listener, A: Allocator, T: Taker>(
 ) -> bool
     requires now { now ≤ 2 ^ 62 }
     requires later { end.old.time ≤ now }
+    // `poll_or_tick` polls the end once. If a reception failed, the end has ticked all the same.
+    ensures heard { turning.Hears C.told T.takes result now (end.old, taker.old) (end.new, taker.new) }
     // After `poll_or_tick` the end's time is `now`: it has ticked, whether or not a reception failed.
-    ensures { end.new.time ≡ now }
+    ensures ticked { end.new.time ≡ now }
 {
     match end.poll(now, taker) {
         Ok(()) => true,
@@ -648,145 +439,55 @@ fn poll_or_tick<C: Listener, A: Allocator, T: Taker>(
     }
 }
 
-impl<C: Channels + Drop, A: Allocator + Copy> Actor<'_, C, A> {
-    /// Opens the end again on its channels, in place of the old one. Telegrams that were put into that one are not
-    /// put again.
-    ///
-    /// # Errors
-    ///
-    /// - `Memory` if an allocation fails; the channels are lost then.
-    fn open_anew(
-        &mut self,
-        alloc: A,
-        spare: RecordedChannels<C>,
-        config: EndConfig,
-        first_sn: u32,
-        now: Milliseconds,
-    ) -> Result<(), Fault>
-        requires later { self.old.end.time ≤ now }
-        // If `open_anew` succeeds, the end is newly opened with these settings, this first number and this time.
-        ensures stands { OnOk result (EndStands (λ o. C.told o.inner) self.new.end
-            (opened_end self.old.side config first_sn now)) }
-        // If `open_anew` succeeds, the datagrams of the opening were sent on the channels of the old end, which
-        // are now those of the new one.
-        ensures sent { OnOk result (FoldsTo SendsOne (C.told (channels_of self.old.end).inner)
-            (sent_at_opening (opened_end self.old.side config first_sn now)) (C.told (channels_of self.new.end).inner)) }
-        // If `open_anew` succeeds, the counts of the old end are added to those of earlier openings.
-        ensures earlier { OnOk result (self.new.earlier.sums
-            ≡ totals.plus self.old.earlier.sums (statistics_of self.old.end)) }
-        // `open_anew` does not change the telegrams that are left.
-        ensures left { self.new.left ≡ self.old.left }
-        // `open_anew` does not change the number of telegrams put.
-        ensures put { self.new.put ≡ self.old.put }
-        // After `open_anew` the end's time is at most `now`.
-        ensures time { self.new.end.time ≤ now }
-    {
-        let earlier = self.earlier.plus(&self.end.statistics());
-        let channels = mem::replace(self.end.channels(), spare);
-        match End::open(alloc, channels, config, self.side, first_sn, now) {
-            Ok(end) => {
-                self.end = end;
-                self.earlier = earlier;
-                Ok(())
-            }
-            Err((fault, _channels)) => Err(fault_of_end(fault)),
-        }
+/// Returns whether a connection is closed.
+fn is_closed(state: ConnectionState) -> bool
+    // `is_closed` is true for `Closed`, and false for any other state.
+    ensures { result ≡ is_closed state }
+{
+    state == ConnectionState::Closed
+}
+
+/// Returns the notice of a time without a turn, in milliseconds, if it is long.
+fn gap_notice(gap: u64) -> Option<Notice>
+    // `gap_notice` returns the time if it is more than 1,500 ms, and else `None`.
+    ensures { result ≡ turning.gap_notice gap }
+{
+    if gap > GAP_MAX {
+        return Some(Notice::NoTurn(gap));
+    }
+    None
+}
+
+/// Returns the number of turns in a row in which a reception failed, after one more turn.
+fn deaf_after(works: bool, count: u64) -> u64
+    // `deaf_after` returns 0 after a turn without a failure, and else one more.
+    ensures { result ≡ turning.deaf_after works count }
+{
+    match works {
+        true => 0,
+        false => count.saturating_add(1),
     }
 }
 
-impl Actor<'_, UdpChannels> {
-    /// Opens the end again on its sockets, if it is kept, has lost its connection and its wait is over, with a
-    /// first sequence number drawn at random. Returns whether it did.
-    ///
-    /// # Errors
-    ///
-    /// - `File` if the system gives no random number;
-    /// - `Memory` if an allocation fails.
-    pub fn keep<R: Files, E: Write>(
-        &mut self,
-        rt: &R,
-        alloc: Global,
-        now: Milliseconds,
-        err: &mut E,
-    ) -> Result<bool, Fault>
-        requires now { now ≤ 2 ^ 62 }
-        requires later { self.old.end.time ≤ now }
-        // `keep` opens the end again if and only if it is kept, it is stale and its wait is over.
-        ensures anew { IfOk result (λ anew. anew ≡ opens_anew self.old.is_kept self.old.side
-            (is_stale (inside self.old.end)) self.old.keeper now) }
-        // If `keep` returns false, it has not changed the end.
-        ensures same { IfOk result (λ anew. anew ≡ false → self.new.end ≡ self.old.end) }
-        // If `keep` returns true, the end is newly opened with the settings of its keeper and some first number.
-        ensures opened { IfOk result (λ anew. anew ≡ true → (number : ℕ)
-            × EndStands (λ o. told_of o.inner) self.new.end (opened_end self.old.side self.old.keeper.config number now)) }
-        // If `keep` returns true, the counts of the old end are added to those of earlier openings, and else these
-        // stay.
-        ensures earlier { IfOk result (λ anew. self.new.earlier.sums
-            ≡ (if anew then totals.plus self.old.earlier.sums (statistics_of self.old.end) else self.old.earlier.sums)) }
-        // `keep` does not change the telegrams that are left.
-        ensures left { self.new.left ≡ self.old.left }
-        // `keep` does not change the number of telegrams put.
-        ensures put { self.new.put ≡ self.old.put }
-        // After `keep` the end's time is at most `now`.
-        ensures time { self.new.end.time ≤ now }
-    {
-        if !self.is_kept {
-            return Ok(false);
-        }
-        let until = self.keeper.look(self.side, self.end.is_stale(), now);
-        self.anew_at = match until {
-            Some(rest) => Some(now.saturating_add(rest)),
-            None => None,
-        };
-        if !is_wait_over(until) {
-            return Ok(false);
-        }
-        self.keeper.note(now);
-        self.anew_at = None;
-        self.lost = self.lost.saturating_add(self.doubt());
-        self.before = self.put;
-        self.openings = self.openings.wrapping_add(1);
-        let config = self.keeper.config;
-        let first_sn = first_number(rt, None)?;
-        let Ok(spare) = RecordedChannels::over(alloc, SocketChannels::over(Vec::new(alloc)), false)
-        else {
-            return Err(Fault::Memory);
-        };
-        self.open_anew(alloc, spare, config, first_sn, now)?;
-        self.log.tell(Happening::Anew(first_sn), now, err);
-        self.log_events(now, err);
-        Ok(true)
-    }
-
-    /// Prints the counts, if they are due.
-    pub fn tell_due<E: Write>(&mut self, now: Milliseconds, err: &mut E)
-        // `tell_due` does not change the end.
-        ensures end { self.new.end ≡ self.old.end }
-    {
-        if self.teller.is_off() {
-            return;
-        }
-        let counted = self.counted();
-        if self.teller.look(&counted, now) {
-            let _ = self.tell_counts(now, err);
-        }
-    }
-
-    /// Returns when the end has something to do without a datagram, in milliseconds. After a reception that failed
-    /// it soon tries again, since another channel may have a datagram.
-    pub fn next_deadline(&self) -> Option<Milliseconds> {
-        let again = match self.deaf_turns {
-            0 => None,
-            _ => Some(self.last_turn.saturating_add(DEAF_WAIT)),
-        };
-        let own = earlier(self.end.next_deadline(), self.anew_at);
-        earlier(earlier(own, again), self.teller.next)
+/// Returns the notice of receptions that begin to fail, or that succeed again.
+fn reception_notice(works: bool, deaf_turns: u64) -> Option<Notice>
+    // `reception_notice` returns `Deaf` at the first failure, `Receives` after the last one, and else `None`.
+    ensures { result ≡ turning.reception_notice works deaf_turns }
+{
+    match works {
+        true if deaf_turns > 0 => Some(Notice::Receives(deaf_turns)),
+        false if deaf_turns == 0 => Some(Notice::Deaf),
+        _ => None,
     }
 }
 
-impl<A: Allocator> Actor<'_, UdpChannels, A> {
-    /// Returns how many datagrams its sockets received, modulo 2^64.
-    pub fn received(&self) -> u64 {
-        self.end.channels_seen().inner.received()
+/// Returns the notice of a connection that was just found closed.
+fn loss_notice(was_closed: bool, is_closed: bool, doubt: u64) -> Option<Notice>
+    // `loss_notice` returns the number of telegrams in doubt if it is not 0 and the connection was not closed before.
+    ensures { result ≡ turning.loss_notice was_closed is_closed doubt }
+{
+    if is_closed && !was_closed && doubt > 0 {
+        return Some(Notice::InDoubt(doubt));
     }
+    None
 }

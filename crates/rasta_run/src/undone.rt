@@ -32,6 +32,18 @@ pub struct Undone {
 }
 
 impl Undone {
+    /// Returns that nothing is left undone.
+    pub fn nothing() -> Self
+        // `nothing` returns three numbers of 0.
+        ensures { result ≡ record { lines = 0; entries = 0; doubt = 0 } }
+    {
+        Undone {
+            lines: 0,
+            entries: 0,
+            doubt: 0,
+        }
+    }
+
     /// Returns whether everything was put and confirmed.
     pub fn is_nothing(&self) -> bool
         // `is_nothing` is true if and only if all three numbers are 0.
@@ -54,6 +66,21 @@ impl Undone {
         write_lines(writer, self.lines)?;
         write_entries(writer, self.entries)?;
         write_doubt(writer, self.doubt)
+    }
+
+    /// Writes the line of what an end leaves undone, if it is anything.
+    ///
+    /// # Errors
+    ///
+    /// - The error of the writer; what it wrote before stays written.
+    pub fn write_if<W: Write>(&self, writer: &mut W, side: Side) -> io::Result<()>
+        // If `write_if` succeeds, it has appended that line, or nothing if nothing is left undone.
+        ensures { OnOk result (Appends (W.contents writer.old) (W.contents writer.new) (undone.told_line side self.now)) }
+    {
+        if self.is_nothing() {
+            return write_text(writer, "");
+        }
+        self.write(writer, side)
     }
 }
 

@@ -3,6 +3,7 @@
 ghost use Rattle.std.specs.Prelude.{◌≡◌, OnOk};
 ghost use Rattle.std.specs.Io.KnownBytes.{Appends};
 ghost use Rattle.rasta_run.specs.Unopened as unopened;
+ghost use Rattle.rasta_run.specs.declared.unopened.Stopped.TheVariants as stopped;
 
 use end_settings::Side;
 use pdu_text::{side_name, write_text};
@@ -36,6 +37,49 @@ impl Unopened {
             }
             UdpFault::Lists | UdpFault::Memory | UdpFault::Wait => {}
         }
+    }
+}
+
+/// Why a run ended before its time.
+#[derive(Clone, Copy, Debug, PartialEq, Eq)]
+pub enum Stopped {
+    /// A fault.
+    Fault(Fault),
+    /// Channels could not be opened.
+    Unopened(Unopened),
+}
+
+impl Stopped {
+    /// Returns the fault that ended the run.
+    pub fn fault(self) -> Fault
+        // `fault` returns the fault itself, and for channels that of their reason.
+        ensures { result ≡ unopened.fault_of_stop self }
+    {
+        match self {
+            Stopped::Fault(fault) => fault,
+            Stopped::Unopened(unopened) => fault_of(unopened.fault),
+        }
+    }
+}
+
+impl From<Fault> for Stopped {
+    ghost from_gives = { λ fault r. r ≡ stopped.Fault fault };
+
+    fn from(fault: Fault) -> Self {
+        Stopped::Fault(fault)
+    }
+}
+
+/// Returns the fault of a run whose channels were not opened.
+pub(crate) fn fault_of(fault: UdpFault) -> Fault
+    // `fault_of` returns `Settings` for lists and addresses, `Network` for a socket or a wait that the system
+    // refuses, and `Memory` for want of memory.
+    ensures { result ≡ unopened.fault_of fault }
+{
+    match fault {
+        UdpFault::Memory => Fault::Memory,
+        UdpFault::Lists | UdpFault::Address(_) => Fault::Settings,
+        UdpFault::Bind(_) | UdpFault::Wait => Fault::Network,
     }
 }
 

@@ -2,7 +2,7 @@
 
 ghost use Rattle.std.specs.Prelude.{◌≡◌, ℕ};
 ghost use Rattle.stack_end.specs.Deadlines.{earliest};
-ghost use Rattle.rasta_run.specs.Waiting.{Rests, longest_rest, rest_of};
+ghost use Rattle.rasta_run.specs.Waiting.{Rests, again_at, longest_rest, rest_of};
 
 use octets::Milliseconds;
 use rasta_words::RunLength;
@@ -16,6 +16,9 @@ const WAIT_MAX: u64 = 4;
 
 /// The longest wait if a run lasts until input ends, in milliseconds. Input ends a wait as a datagram does.
 const INPUT_WAIT_MAX: u64 = 1_000;
+
+/// The wait after a turn in which a reception failed, in milliseconds.
+const DEAF_WAIT: u64 = 10;
 
 /// Something that waits until a datagram or a line of input comes.
 pub trait Waiter {
@@ -92,5 +95,16 @@ pub fn earlier(first: Option<u64>, second: Option<u64>) -> Option<u64>
     match (first, second) {
         (None, deadline) | (deadline, None) => deadline,
         (Some(first), Some(second)) => Some(min(first, second)),
+    }
+}
+
+/// Returns when an end tries again after turns in which a reception failed, in milliseconds.
+pub fn again_at(deaf_turns: u64, last_turn: Milliseconds) -> Option<Milliseconds>
+    // `again_at` returns 10 ms after the last turn if a reception failed in it, and else `None`.
+    ensures { result ≡ again_at deaf_turns last_turn }
+{
+    match deaf_turns {
+        0 => None,
+        _ => Some(last_turn.saturating_add(DEAF_WAIT)),
     }
 }

@@ -11,9 +11,11 @@ use Rattle.capture_text.specs.declared.choice.Remarkable.{Remarkable}
 use Rattle.capture_text.specs.Choice.{word_text}
 use Rattle.safe_pdu.specs.declared.CodeLength.{CodeLength}
 use Rattle.safe_pdu.specs.declared.CodeLength.TheVariants.{Zero, Eight, Sixteen}
+use Rattle.rasta_words.specs.Times.{HasTimes}
 use Rattle.rasta_words.specs.declared.command_line.FollowRequest.{FollowRequest}
 
--- `--code N` of follow [--code N] [--iv HEX] [--json] [--messages] [--only WORD] [--ports PORTS] [--t-max MS] FILE
+-- `--code N` of follow [--code N] [--every N] [--from INSTANT] [--iv HEX] [--json] [--messages] [--only WORD] [--ports PORTS] [--time FORM] [--t-max MS]
+-- [--to INSTANT] FILE
 abbrev pub chosen_code_rule : Rule
 chosen_code_rule = record (new_rule (codes "code")) { long = Some (codes "code") }
 
@@ -73,9 +75,41 @@ ported_app = with_rule telling_app ports_rule
 abbrev pub summing_app : App
 summing_app = with_rule ported_app json_rule
 
+-- `--time since|epoch|utc`
+abbrev pub times_rule : Rule
+times_rule = record (new_rule (codes "time")) { long = Some (codes "time") }
+
+-- `--from INSTANT`
+abbrev pub from_rule : Rule
+from_rule = record (new_rule (codes "from")) { long = Some (codes "from") }
+
+-- `--to INSTANT`
+abbrev pub to_rule : Rule
+to_rule = record (new_rule (codes "to")) { long = Some (codes "to") }
+
+-- `--every N`
+abbrev pub period_rule : Rule
+period_rule = record (new_rule (codes "every")) { long = Some (codes "every") }
+
+-- `follow` with `--time`, too
+abbrev pub clocked_app : App
+clocked_app = with_rule summing_app times_rule
+
+-- with `--from`, too
+abbrev pub beginning_app : App
+beginning_app = with_rule clocked_app from_rule
+
+-- with `--to`, too
+abbrev pub bounded_app : App
+bounded_app = with_rule beginning_app to_rule
+
+-- with `--every`, too
+abbrev pub periodic_app : App
+periodic_app = with_rule bounded_app period_rule
+
 -- the whole command `follow`
 abbrev pub follow_app : App
-follow_app = with_rule summing_app file_rule
+follow_app = with_rule periodic_app file_rule
 
 -- the word for a length of the safety code, in bytes
 abbrev pub code_word : CodeLength → Text
@@ -130,6 +164,7 @@ HasChoices rows f =
     × (is_flagged (first_of (codes "messages") rows) ≡ f.messages) × IsRemarkChosen (first_of (codes "only") rows) f.only
     × IsAgeChosen (first_of (codes "t-max") rows) f.t_max × (first_of (codes "file") rows ≡ Some f.file.now)
     × ArePortsChosen (first_of (codes "ports") rows) f.ports × (is_flagged (first_of (codes "json") rows) ≡ f.json)
+    × HasTimes rows f.times
 
 -- no choices of `follow` have the values of these entries
 abbrev pub HasNoChoices : List Row → Type 0

@@ -1,3 +1,5 @@
+pub mod Seconds
+pub mod Times
 pub mod Status
 pub mod Choices
 pub mod CommandLine

@@ -1,26 +1,32 @@
 -- Why the entries of a subcommand are not a request, and which reason comes first.
 use Rattle.std.specs.Prelude.{◌≡◌, ◌≢◌, ◌⊎◌, ℕ, Bool, false, true, List, codes, Option, None, Some}
+use Rattle.capture.specs.declared.instants.Instant.{Instant}
 use Rattle.capture.specs.declared.ports.PortRange.{PortRange}
 use Rattle.capture_text.specs.declared.choice.Remarkable.{Remarkable}
+use Rattle.capture_text.specs.declared.pieces.TimeForm.{TimeForm}
 use Rattle.safe_pdu.specs.declared.CodeLength.{CodeLength}
 use Rattle.clap.specs.Words.{Row, Text, first_of}
 use Rattle.settings_file.specs.declared.Word.{Word}
 use Rattle.rasta_words.specs.declared.status.CountsForm.{CountsForm}
 use Rattle.rasta_words.specs.declared.status.Expected.{Expected}
 use Rattle.rasta_words.specs.declared.status.LogLevel.{LogLevel}
+use Rattle.rasta_words.specs.declared.status.LogTime as times
 use Rattle.rasta_words.specs.declared.status.RunLength.{RunLength}
 use Rattle.rasta_words.specs.declared.rejection.Choice.{Choice}
-use Rattle.rasta_words.specs.declared.rejection.Choice.TheVariants.{ShowCode, Turns, Log, Expect, Stats, Every, Code, Only, TMax, Ports}
+use Rattle.rasta_words.specs.declared.rejection.Choice.TheVariants.{ShowCode, Turns, Log, LogTime, Expect, Stats, Every, Code, Only, TMax, Ports, Times, From, To, Period}
 use Rattle.rasta_words.specs.declared.rejection.Rejection.{Rejection}
 use Rattle.rasta_words.specs.declared.rejection.Rejection.TheVariants.{Value, NoLength, TwoLengths, EveryAlone, Missing}
-use Rattle.rasta_words.specs.Choices.{IsAgeChosen, IsCodeChosen, IsMilliseconds, IsPorts, IsRemarkChosen, IsWritten, code_word, is_flagged}
-use Rattle.rasta_words.specs.Runs.{IsEndChosen, IsLengthChosen, IsLogChosen, IsSeconds, IsTurns, ends_word, expected_word, form_word, log_word}
+use Rattle.rasta_words.specs.Choices.{ArePortsChosen, IsAgeChosen, IsCodeChosen, IsMilliseconds, IsPorts, IsRemarkChosen, IsWritten, code_word, is_flagged}
+use Rattle.rasta_words.specs.Seconds.{IsSeconds}
+use Rattle.rasta_words.specs.Times.{HasForm as HasTimeForm, HasFrom, HasTo, IsInstant, times_word}
+use Rattle.rasta_words.specs.Runs.{IsEndChosen, IsLengthChosen, IsLogChosen, IsTimeChosen, IsTurns, ends_word, expected_word, form_word, log_word, time_word}
 
 -- the name of an option, under which clap keeps its value
 abbrev pub option_name : Choice → Text
 option_name ShowCode = codes "code"
 option_name Turns = codes "turns"
 option_name Log = codes "log"
+option_name LogTime = codes "time"
 option_name Expect = codes "expect"
 option_name Stats = codes "stats"
 option_name Every = codes "every"
@@ -28,12 +34,17 @@ option_name Code = codes "code"
 option_name Only = codes "only"
 option_name TMax = codes "t-max"
 option_name Ports = codes "ports"
+option_name Times = codes "time"
+option_name From = codes "from"
+option_name To = codes "to"
+option_name Period = codes "every"
 
 -- the option does not accept this value
 abbrev pub IsUnfit : Choice → Text → Type 0
 IsUnfit ShowCode word = (code : CodeLength) → word ≢ code_word code
 IsUnfit Turns word = (turns : ℕ) → ¬ IsTurns word turns
 IsUnfit Log word = (level : LogLevel) → word ≢ log_word level
+IsUnfit LogTime word = (time : times.LogTime) → word ≢ time_word time
 IsUnfit Expect word = (expected : Expected) → word ≢ expected_word expected
 IsUnfit Stats word = (form : CountsForm) → word ≢ form_word form
 IsUnfit Every word = (seconds : ℕ) → ¬ IsSeconds word seconds
@@ -41,6 +52,10 @@ IsUnfit Code word = (code : CodeLength) → word ≢ code_word code
 IsUnfit Only word = (remark : Option Remarkable) → ¬ IsWritten word remark
 IsUnfit TMax word = (age : ℕ) → ¬ IsMilliseconds word age
 IsUnfit Ports word = (ports : Option (List (Option PortRange))) → ¬ IsPorts word ports
+IsUnfit Times word = (form : TimeForm) → word ≢ times_word form
+IsUnfit From word = (instant : Option Instant) → ¬ IsInstant word instant
+IsUnfit To word = (instant : Option Instant) → ¬ IsInstant word instant
+IsUnfit Period word = (seconds : ℕ) → ¬ IsSeconds word seconds
 
 -- the rejection names this option and this value, which the option does not accept
 abbrev pub Names : Choice → Text → Rejection → Type 0
@@ -84,6 +99,10 @@ HasLength rows = (length : RunLength) × IsLengthChosen (first_of (codes "turns"
 abbrev pub HasLog : List Row → Type 0
 HasLog rows = (level : LogLevel) × IsLogChosen (first_of (codes "log") rows) level
 
+-- `--time` of `il`, `fe` and `pair` is valid or absent
+abbrev pub HasTime : List Row → Type 0
+HasTime rows = (time : times.LogTime) × IsTimeChosen (first_of (codes "time") rows) time
+
 -- `--expect` is valid or absent
 abbrev pub HasEnd : List Row → Type 0
 HasEnd rows = (expected : Option Expected) × IsEndChosen (first_of (codes "expect") rows) expected
@@ -105,7 +124,19 @@ abbrev pub IsShowRejected : List Row → Rejection → Type 0
 IsShowRejected rows r =
     Lacks (codes "code") rows r ⊎ NamesGiven ShowCode (first_of (codes "code") rows) r ⊎ Lacks (codes "hex") rows r
 
--- why the entries of `follow` are not a request: the first of its options that is not valid, in the order --code, --only, --t-max, --ports
+-- `--ports` is valid or absent
+abbrev pub HasPorts : List Row → Type 0
+HasPorts rows = (ports : Option (List (Option PortRange))) × ArePortsChosen (first_of (codes "ports") rows) ports
+
+-- why the times of `follow` are not valid: the first of its options, in the order --time, --from, --to, --every
+abbrev pub AreTimesRejected : List Row → Rejection → Type 0
+AreTimesRejected rows r =
+    NamesGiven Times (first_of (codes "time") rows) r
+    ⊎ (HasTimeForm rows × NamesGiven From (first_of (codes "from") rows) r)
+    ⊎ (HasTimeForm rows × HasFrom rows × NamesGiven To (first_of (codes "to") rows) r)
+    ⊎ (HasTimeForm rows × HasFrom rows × HasTo rows × NamesGiven Period (first_of (codes "every") rows) r)
+
+-- why the entries of `follow` are not a request: the first of its options that is not valid, in the order --code, --only, --t-max, --ports, then its times
 abbrev pub IsFollowRejected : List Row → Rejection → Type 0
 IsFollowRejected rows r =
     NamesGiven Code (first_of (codes "code") rows) r
@@ -113,15 +144,17 @@ IsFollowRejected rows r =
     ⊎ (HasCode rows × HasRemark rows × NamesGiven TMax (first_of (codes "t-max") rows) r)
     ⊎ Lacks (codes "file") rows r
     ⊎ (HasCode rows × HasRemark rows × HasAge rows × NamesGiven Ports (first_of (codes "ports") rows) r)
+    ⊎ (HasCode rows × HasRemark rows × HasAge rows × HasPorts rows × AreTimesRejected rows r)
 
--- why the entries of `il`, `fe` and `pair` are not a request: their length, or the first option that is not valid, in the order --log, --expect, --stats, --every
+-- why the entries of `il`, `fe` and `pair` are not a request: their length, or the first option that is not valid, in the order --log, --time, --expect, --stats, --every
 abbrev pub IsRunRejected : List Row → Rejection → Type 0
 IsRunRejected rows r =
     Lacks (codes "file") rows r
     ⊎ IsLengthRejected (first_of (codes "turns") rows) (is_flagged (first_of (codes "until-end") rows)) r
     ⊎ (HasLength rows × NamesGiven Log (first_of (codes "log") rows) r)
-    ⊎ (HasLength rows × HasLog rows × NamesGiven Expect (first_of (codes "expect") rows) r)
-    ⊎ (HasLength rows × HasLog rows × HasEnd rows × AreCountsRejected (first_of (codes "stats") rows) (first_of (codes "every") rows) r)
+    ⊎ (HasLength rows × HasLog rows × NamesGiven LogTime (first_of (codes "time") rows) r)
+    ⊎ (HasLength rows × HasLog rows × HasTime rows × NamesGiven Expect (first_of (codes "expect") rows) r)
+    ⊎ (HasLength rows × HasLog rows × HasTime rows × HasEnd rows × AreCountsRejected (first_of (codes "stats") rows) (first_of (codes "every") rows) r)
 
 -- no subcommand has this name
 abbrev pub IsStrange : Text → Type 0

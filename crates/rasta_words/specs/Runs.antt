@@ -7,12 +7,15 @@ use Rattle.rasta_words.specs.declared.status.RunLength.{RunLength}
 use Rattle.rasta_words.specs.declared.status.RunLength.TheVariants.{Turns, UntilEnd}
 use Rattle.rasta_words.specs.declared.status.LogLevel.{LogLevel}
 use Rattle.rasta_words.specs.declared.status.LogLevel.TheVariants.{Off, State, All}
+use Rattle.rasta_words.specs.declared.status.LogTime.{LogTime}
+use Rattle.rasta_words.specs.declared.status.LogTime.TheVariants.{Utc, Run}
 use Rattle.rasta_words.specs.declared.status.Expected.{Expected}
 use Rattle.rasta_words.specs.declared.status.Expected.TheVariants.{Up, Settled}
 use Rattle.rasta_words.specs.declared.status.CountsForm.{CountsForm}
 use Rattle.rasta_words.specs.declared.status.CountsForm.TheVariants as counts_form
 use Rattle.rasta_words.specs.declared.status.Telling.{Telling}
 use Rattle.rasta_words.specs.Choices.{file_rule, is_flagged}
+use Rattle.rasta_words.specs.Seconds.{AreSecondsChosen}
 use Rattle.rasta_words.specs.declared.command_line.RunRequest.{RunRequest}
 use Rattle.settings_file.specs.declared.Word.{Word}
 use Rattle.settings_file.specs.declared.Word.TheVariants.{Il, Fe, Pair}
@@ -23,8 +26,8 @@ ends_word Il = codes "il"
 ends_word Fe = codes "fe"
 ends_word Pair = codes "pair"
 
--- `--turns N` of il FILE (--turns N | --until-end) [--log off|state|all] [--expect up|settled] [--keep] [--stats text|json [--every N]]; fe and pair have
--- the same
+-- `--turns N` of il FILE (--turns N | --until-end) [--log off|state|all] [--time utc|run] [--expect up|settled] [--keep] [--stats text|json|prometheus
+-- [--every N]]; fe and pair have the same
 abbrev pub turns_rule : Rule
 turns_rule = record (new_rule (codes "turns")) { long = Some (codes "turns") }
 
@@ -36,9 +39,25 @@ until_end_rule = record (new_rule (codes "until-end")) { long = Some (codes "unt
 abbrev pub log_rule : Rule
 log_rule = record (new_rule (codes "log")) { long = Some (codes "log") }
 
+-- `--time`
+abbrev pub time_rule : Rule
+time_rule = record (new_rule (codes "time")) { long = Some (codes "time") }
+
 -- `--expect`
 abbrev pub expect_rule : Rule
 expect_rule = record (new_rule (codes "expect")) { long = Some (codes "expect") }
+
+-- `--keep`, a flag
+abbrev pub keep_rule : Rule
+keep_rule = record (new_rule (codes "keep")) { long = Some (codes "keep"); action = Some SetTrue }
+
+-- `--stats`
+abbrev pub stats_rule : Rule
+stats_rule = record (new_rule (codes "stats")) { long = Some (codes "stats") }
+
+-- `--every N`
+abbrev pub every_rule : Rule
+every_rule = record (new_rule (codes "every")) { long = Some (codes "every") }
 
 -- the command of this name with `--turns`
 abbrev pub turns_app : Text → App
@@ -52,21 +71,13 @@ ending_app name = with_rule (turns_app name) until_end_rule
 abbrev pub logged_app : Text → App
 logged_app name = with_rule (ending_app name) log_rule
 
+-- with `--time`, too
+abbrev pub timed_app : Text → App
+timed_app name = with_rule (logged_app name) time_rule
+
 -- with `--expect`, too
 abbrev pub expecting_app : Text → App
-expecting_app name = with_rule (logged_app name) expect_rule
-
--- `--keep`, a flag
-abbrev pub keep_rule : Rule
-keep_rule = record (new_rule (codes "keep")) { long = Some (codes "keep"); action = Some SetTrue }
-
--- `--stats`
-abbrev pub stats_rule : Rule
-stats_rule = record (new_rule (codes "stats")) { long = Some (codes "stats") }
-
--- `--every N`
-abbrev pub every_rule : Rule
-every_rule = record (new_rule (codes "every")) { long = Some (codes "every") }
+expecting_app name = with_rule (timed_app name) expect_rule
 
 -- with `--keep`, too
 abbrev pub keeping_app : Text → App
@@ -109,6 +120,16 @@ abbrev pub IsLogChosen : Option Text → LogLevel → Type 0
 IsLogChosen None level = level ≡ Off
 IsLogChosen (Some word) level = word ≡ log_word level
 
+-- the word for the times of the log
+abbrev pub time_word : LogTime → Text
+time_word Utc = codes "utc"
+time_word Run = codes "run"
+
+-- the times of the log that the word of `--time` names; `Utc` without the option
+abbrev pub IsTimeChosen : Option Text → LogTime → Type 0
+IsTimeChosen None time = time ≡ Utc
+IsTimeChosen (Some word) time = word ≡ time_word time
+
 -- the word for an expected state
 abbrev pub expected_word : Expected → Text
 expected_word Up = codes "up"
@@ -128,21 +149,7 @@ IsEndChosen (Some word) expected = IsEndWritten word expected
 abbrev pub form_word : CountsForm → Text
 form_word counts_form.Text = codes "text"
 form_word counts_form.Json = codes "json"
-
--- the word is a number of seconds from 1 to 86,400 (a day), in decimal digits, after an optional plus
-abbrev pub IsSeconds : Text → ℕ → Type 0
-IsSeconds word seconds =
-    IsNumeral 10 (without_leading_plus word) × (digits_value 10 (without_leading_plus word) ≡ seconds) × (1 ≤ seconds) × (seconds ≤ 86400)
-
--- the word names these seconds
-abbrev pub IsWrittenIn : Text → Option ℕ → Type 0
-IsWrittenIn word None = ⊥
-IsWrittenIn word (Some seconds) = IsSeconds word seconds
-
--- the seconds that the word of `--every` names; without the option none, so counts are printed only at the end
-abbrev pub AreSecondsChosen : Option Text → Option ℕ → Type 0
-AreSecondsChosen None every = every ≡ None
-AreSecondsChosen (Some word) every = IsWrittenIn word every
+form_word counts_form.Prometheus = codes "prometheus"
 
 -- the counts have the form of the first word and the seconds of the second
 abbrev pub AreTold : Text → Option Text → Option Telling → Type 0
@@ -160,8 +167,8 @@ abbrev pub IsRun : List Row → RunRequest → Type 0
 IsRun rows r =
     (first_of (codes "file") rows ≡ Some r.file.now)
     × IsLengthChosen (first_of (codes "turns") rows) (is_flagged (first_of (codes "until-end") rows)) r.length
-    × IsLogChosen (first_of (codes "log") rows) r.log × IsEndChosen (first_of (codes "expect") rows) r.expected
-    × (is_flagged (first_of (codes "keep") rows) ≡ r.keep)
+    × IsLogChosen (first_of (codes "log") rows) r.log × IsTimeChosen (first_of (codes "time") rows) r.time
+    × IsEndChosen (first_of (codes "expect") rows) r.expected × (is_flagged (first_of (codes "keep") rows) ≡ r.keep)
     × AreCountsChosen (first_of (codes "stats") rows) (first_of (codes "every") rows) r.counts
 
 -- no run has the values of these entries

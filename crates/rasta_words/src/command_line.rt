@@ -11,9 +11,9 @@ use crate::follow_options::choices;
 use crate::program_command::rasta_command;
 use crate::rejection::{Choice, Rejection};
 use crate::run_options::ends_run;
-use crate::{Expected, LogLevel, RunLength, Telling};
-use capture::Ports;
-use capture_text::Remarkable;
+use crate::{Expected, LogLevel, LogTime, RunLength, Telling};
+use capture::{Ports, Span};
+use capture_text::{Remarkable, TimeForm};
 use clap::ArgMatches;
 use safe_pdu::CodeLength;
 use settings_file::Word;
@@ -65,6 +65,8 @@ pub struct RunRequest<'a> {
     pub length: RunLength,
     /// `--log`: what goes to standard error; `Off` by default.
     pub log: LogLevel,
+    /// `--time`: the times of the log; `Utc` by default.
+    pub time: LogTime,
     /// `--expect`: the state in which each end must be when the run is over.
     pub expected: Option<Expected>,
     /// `--keep`: an end that has lost its connection is opened again.
@@ -92,6 +94,19 @@ pub struct FollowRequest<'a> {
     pub ports: Option<Ports>,
     /// `--json`: only the summary is printed, as one JSON object.
     pub json: bool,
+    /// Which times are read, and how they are printed.
+    pub times: FollowTimes,
+}
+
+/// The times of a recorded connection that is analysed.
+#[derive(Clone, Copy, Debug, PartialEq, Eq)]
+pub struct FollowTimes {
+    /// `--time`: the form of times in lines; seconds since the first datagram by default.
+    pub form: TimeForm,
+    /// `--from` and `--to`: only datagrams between these instants are read.
+    pub span: Span,
+    /// `--every`: the sums so far are also printed each time that these seconds have passed in the recording.
+    pub every: Option<u32>,
 }
 
 /// Why words are not a command. Its text is for standard error, except that of a call for help.

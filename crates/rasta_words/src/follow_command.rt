@@ -3,20 +3,21 @@
 ghost use Rattle.std.specs.Prelude.{◌≡◌, IfOk, false};
 ghost use Rattle.clap.specs.declared.Command.TheViews.{out-Command};
 ghost use Rattle.clap.specs.Words.{app_of};
-ghost use Rattle.rasta_words.specs.Choices.{chosen_app, follow_app, length_app, limited_app, only_app, ported_app, summing_app, telling_app};
+ghost use Rattle.rasta_words.specs.Choices.{beginning_app, chosen_app, bounded_app, follow_app, length_app, limited_app, only_app, ported_app, periodic_app, summing_app, telling_app, clocked_app};
 
 use clap::{Arg, ArgAction, Command};
 use std::alloc::{AllocError, Global};
 
 /// Declares `follow`.
+#[inline(never)]
 pub fn follow_command<'a>(alloc: Global) -> Result<Command<'a>, AllocError>
-    // `follow_command` declares the subcommand `follow` with the options of `summing_app` and the required
+    // `follow_command` declares the subcommand `follow` with the options of `periodic_app` and the required
     // argument `file`.
     ensures app { IfOk result (λ command. app_of command ≡ follow_app) }
     // No argument that `follow_command` declares is global.
     ensures local { IfOk result (λ command. (out-Command command).has_globals ≡ false) }
 {
-    let command = summing_command(alloc)?;
+    let command = periodic_command(alloc)?;
     let file = Arg::new(alloc, "file").required(true).help(
         "Capture file, or - for standard input: pcap, pcapng, or the output of `tshark -T fields -e frame.time_epoch -e ip.src -e udp.srcport -e ip.dst -e udp.dstport -e udp.payload`",
     );
@@ -24,6 +25,67 @@ pub fn follow_command<'a>(alloc: Global) -> Result<Command<'a>, AllocError>
 }
 
 /// Declares `follow` without its file.
+#[inline(never)]
+fn periodic_command<'a>(alloc: Global) -> Result<Command<'a>, AllocError>
+    // `periodic_command` declares the subcommand `follow` with the options of `bounded_app` and `--every`.
+    ensures app { IfOk result (λ command. app_of command ≡ periodic_app) }
+    // No argument that `periodic_command` declares is global.
+    ensures local { IfOk result (λ command. (out-Command command).has_globals ≡ false) }
+{
+    let command = bounded_command(alloc)?;
+    let every = Arg::new(alloc, "every").long("every").help(
+        "Also print the summary so far each time that so many seconds have passed in the recording: 1 to 86400",
+    );
+    command.arg(every)
+}
+
+/// Declares `follow` without `--every` and its file.
+#[inline(never)]
+fn bounded_command<'a>(alloc: Global) -> Result<Command<'a>, AllocError>
+    // `bounded_command` declares the subcommand `follow` with the options of `beginning_app` and `--to`.
+    ensures app { IfOk result (λ command. app_of command ≡ bounded_app) }
+    // No argument that `bounded_command` declares is global.
+    ensures local { IfOk result (λ command. (out-Command command).has_globals ≡ false) }
+{
+    let command = beginning_command(alloc)?;
+    let to = Arg::new(alloc, "to").long("to").help(
+        "Read only datagrams up to this instant [default: the end]",
+    );
+    command.arg(to)
+}
+
+/// Declares `follow` without `--every`, `--to` and its file.
+#[inline(never)]
+fn beginning_command<'a>(alloc: Global) -> Result<Command<'a>, AllocError>
+    // `beginning_command` declares the subcommand `follow` with the options of `clocked_app` and `--from`.
+    ensures app { IfOk result (λ command. app_of command ≡ beginning_app) }
+    // No argument that `beginning_command` declares is global.
+    ensures local { IfOk result (λ command. (out-Command command).has_globals ≡ false) }
+{
+    let command = clocked_command(alloc)?;
+    let from = Arg::new(alloc, "from").long("from").help(
+        "Read only datagrams from this instant on: seconds since the first datagram, @ and seconds since 1970, or a date and time in UTC such as 2026-11-27T03:12:00 [default: the first datagram]",
+    );
+    command.arg(from)
+}
+
+/// Declares `follow` without instants, `--every` and its file.
+#[inline(never)]
+fn clocked_command<'a>(alloc: Global) -> Result<Command<'a>, AllocError>
+    // `clocked_command` declares the subcommand `follow` with the options of `summing_app` and `--time`.
+    ensures app { IfOk result (λ command. app_of command ≡ clocked_app) }
+    // No argument that `clocked_command` declares is global.
+    ensures local { IfOk result (λ command. (out-Command command).has_globals ≡ false) }
+{
+    let command = summing_command(alloc)?;
+    let time = Arg::new(alloc, "time").long("time").help(
+        "Form of times in lines: since (seconds since the first datagram), epoch (seconds since 1970) or utc [default: since]",
+    );
+    command.arg(time)
+}
+
+/// Declares `follow` without times and its file.
+#[inline(never)]
 fn summing_command<'a>(alloc: Global) -> Result<Command<'a>, AllocError>
     // `summing_command` declares the subcommand follow with the options of `ported_app` and the flag `--json`.
     ensures app { IfOk result (λ command. app_of command ≡ summing_app) }
@@ -39,6 +101,7 @@ fn summing_command<'a>(alloc: Global) -> Result<Command<'a>, AllocError>
 }
 
 /// Declares `follow` with `--code`, `--iv`, `--only`, `--t-max`, `--messages` and `--ports`.
+#[inline(never)]
 fn ported_command<'a>(alloc: Global) -> Result<Command<'a>, AllocError>
     // `ported_command` declares the subcommand follow with the options of `telling_app` and `--ports`.
     ensures app { IfOk result (λ command. app_of command ≡ ported_app) }
@@ -53,6 +116,7 @@ fn ported_command<'a>(alloc: Global) -> Result<Command<'a>, AllocError>
 }
 
 /// Declares `follow` with `--code`, `--iv`, `--only`, `--t-max` and `--messages`.
+#[inline(never)]
 fn telling_command<'a>(alloc: Global) -> Result<Command<'a>, AllocError>
     // `telling_command` declares the subcommand follow with the options of `limited_app` and the flag
     // `--messages`.
@@ -69,6 +133,7 @@ fn telling_command<'a>(alloc: Global) -> Result<Command<'a>, AllocError>
 }
 
 /// Declares `follow` with `--code`, `--iv`, `--only` and `--t-max`.
+#[inline(never)]
 fn limited_command<'a>(alloc: Global) -> Result<Command<'a>, AllocError>
     // `limited_command` declares the subcommand `follow` with the options of `only_app` and `--t-max`.
     ensures app { IfOk result (λ command. app_of command ≡ limited_app) }
@@ -83,6 +148,7 @@ fn limited_command<'a>(alloc: Global) -> Result<Command<'a>, AllocError>
 }
 
 /// Declares `follow` with `--code`, `--iv` and `--only`.
+#[inline(never)]
 fn only_command<'a>(alloc: Global) -> Result<Command<'a>, AllocError>
     // `only_command` declares the subcommand `follow` with the options of `chosen_app` and `--only`.
     ensures app { IfOk result (λ command. app_of command ≡ only_app) }
@@ -97,6 +163,7 @@ fn only_command<'a>(alloc: Global) -> Result<Command<'a>, AllocError>
 }
 
 /// Declares `follow` with `--code` and `--iv`.
+#[inline(never)]
 fn chosen_command<'a>(alloc: Global) -> Result<Command<'a>, AllocError>
     // `chosen_command` declares the subcommand `follow` with the option of `length_app` and `--iv`.
     ensures app { IfOk result (λ command. app_of command ≡ chosen_app) }
@@ -111,6 +178,7 @@ fn chosen_command<'a>(alloc: Global) -> Result<Command<'a>, AllocError>
 }
 
 /// Declares `follow` with `--code` only.
+#[inline(never)]
 fn length_command<'a>(alloc: Global) -> Result<Command<'a>, AllocError>
     // `length_command` declares the subcommand `follow` with the option `--code` only.
     ensures app { IfOk result (λ command. app_of command ≡ length_app) }

@@ -10,6 +10,7 @@ ghost use Rattle.rasta_words.specs.Choices.{ArePortsChosen, HasChoices, HasNoCho
 
 use crate::command_line::FollowRequest;
 use crate::entries::{code_length, entry, is_chosen};
+use crate::follow_times::chosen_times;
 use crate::rejection::{Choice, Rejection};
 use capture::{Ports, read_ports};
 use capture_text::Remarkable;
@@ -17,7 +18,7 @@ use clap::ArgMatches;
 use safe_pdu::CodeLength;
 
 /// Returns the choices of the entries of `follow`. The options are read in the order `--code`, `--only`, `--t-max`,
-/// `--ports`.
+/// `--ports`, then those of times.
 pub fn choices<'a>(entries: &ArgMatches<'a>) -> Result<FollowRequest<'a>, Rejection<'a>>
     // The choices that `choices` returns have the values of the entries.
     ensures found { IfOk result (HasChoices (rows_of (found_of entries.now))) }
@@ -33,6 +34,7 @@ pub fn choices<'a>(entries: &ArgMatches<'a>) -> Result<FollowRequest<'a>, Reject
         return Err(Rejection::Missing);
     };
     let ports = chosen_ports(entry(entries, "ports"))?;
+    let times = chosen_times(entries)?;
     Ok(FollowRequest {
         code,
         iv: entry(entries, "iv"),
@@ -42,6 +44,7 @@ pub fn choices<'a>(entries: &ArgMatches<'a>) -> Result<FollowRequest<'a>, Reject
         file,
         ports,
         json: is_chosen(entry(entries, "json")),
+        times,
     })
 }
 

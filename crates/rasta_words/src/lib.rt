@@ -5,13 +5,16 @@ mod command_line;
 mod entries;
 mod follow_command;
 mod follow_options;
+mod follow_times;
 mod program_command;
 mod rejection;
 mod run_command;
 mod run_options;
 mod status;
 
-pub use command_line::{FollowRequest, Request, RunRequest, WordsFault, command};
+pub use command_line::{FollowRequest, FollowTimes, Request, RunRequest, WordsFault, command};
 pub use program_command::VERSION;
 pub use rejection::{Choice, Rejection};
-pub use status::{CountsForm, Expected, Fault, LogLevel, RunLength, Status, Telling, report};
+pub use status::{
+    CountsForm, Expected, Fault, LogLevel, LogTime, RunLength, Status, Telling, report,
+};

@@ -14,6 +14,7 @@ use std::alloc::{AllocError, Global};
 pub const VERSION: &str = "0.3.0";
 
 /// Declares the whole program.
+#[inline(never)]
 pub fn rasta_command<'a>(alloc: Global) -> Result<Command<'a>, AllocError>
     // `rasta_command` declares the whole program with all its subcommands.
     ensures app { IfOk result (λ command. app_of command ≡ rasta_app) }
@@ -24,6 +25,7 @@ pub fn rasta_command<'a>(alloc: Global) -> Result<Command<'a>, AllocError>
 }
 
 /// Declares the program without `check`.
+#[inline(never)]
 fn both_command<'a>(alloc: Global) -> Result<Command<'a>, AllocError>
     // `both_command` declares the program with all subcommands except that for a settings file alone.
     ensures app { IfOk result (λ command. app_of command ≡ both_app) }
@@ -39,6 +41,7 @@ fn both_command<'a>(alloc: Global) -> Result<Command<'a>, AllocError>
 }
 
 /// Declares the program without `pair` and `check`.
+#[inline(never)]
 fn ends_command<'a>(alloc: Global) -> Result<Command<'a>, AllocError>
     // `ends_command` declares the program with all subcommands except that for both ends and that for a settings
     // file alone.
@@ -51,6 +54,7 @@ fn ends_command<'a>(alloc: Global) -> Result<Command<'a>, AllocError>
 }
 
 /// Declares the program with `il` and the commands that use no sockets.
+#[inline(never)]
 fn il_command<'a>(alloc: Global) -> Result<Command<'a>, AllocError>
     // `il_command` declares the program with `il` and the subcommands that use no sockets.
     ensures app { IfOk result (λ command. app_of command ≡ il_app) }
@@ -62,6 +66,7 @@ fn il_command<'a>(alloc: Global) -> Result<Command<'a>, AllocError>
 }
 
 /// Declares the program with the commands that use no sockets.
+#[inline(never)]
 fn file_command<'a>(alloc: Global) -> Result<Command<'a>, AllocError>
     // `file_command` declares the program with `md4`, `show`, `sim` and `follow`.
     ensures app { IfOk result (λ command. app_of command ≡ file_app) }
@@ -72,6 +77,7 @@ fn file_command<'a>(alloc: Global) -> Result<Command<'a>, AllocError>
 }
 
 /// Declares the program with the commands that read no capture.
+#[inline(never)]
 fn local_command<'a>(alloc: Global) -> Result<Command<'a>, AllocError>
     // `local_command` declares the program with `md4`, `show` and `sim`.
     ensures app { IfOk result (λ command. app_of command ≡ local_app) }
@@ -82,6 +88,7 @@ fn local_command<'a>(alloc: Global) -> Result<Command<'a>, AllocError>
 }
 
 /// Declares the program with the commands that read no file.
+#[inline(never)]
 fn plain_command<'a>(alloc: Global) -> Result<Command<'a>, AllocError>
     // `plain_command` declares the program with `md4` and `show`.
     ensures app { IfOk result (λ command. app_of command ≡ plain_app) }
@@ -92,6 +99,7 @@ fn plain_command<'a>(alloc: Global) -> Result<Command<'a>, AllocError>
 }
 
 /// Declares the program with `md4` only.
+#[inline(never)]
 fn digest_command<'a>(alloc: Global) -> Result<Command<'a>, AllocError>
     // `digest_command` declares the program with the subcommand `md4` only, which must name a subcommand.
     ensures app { IfOk result (λ command. app_of command ≡ digest_app) }
@@ -109,6 +117,7 @@ fn digest_command<'a>(alloc: Global) -> Result<Command<'a>, AllocError>
 }
 
 /// Declares `show`.
+#[inline(never)]
 fn show_command<'a>(alloc: Global) -> Result<Command<'a>, AllocError>
     // `show_command` declares the subcommand `show` with the options of `coded_app` and the required argument
     // `hex`.
@@ -124,6 +133,7 @@ fn show_command<'a>(alloc: Global) -> Result<Command<'a>, AllocError>
 }
 
 /// Declares `show` with its options.
+#[inline(never)]
 fn coded_command<'a>(alloc: Global) -> Result<Command<'a>, AllocError>
     // `coded_command` declares the subcommand `show` with `--code` and the option `--iv`.
     ensures app { IfOk result (λ command. app_of command ≡ coded_app) }
@@ -138,6 +148,7 @@ fn coded_command<'a>(alloc: Global) -> Result<Command<'a>, AllocError>
 }
 
 /// Declares `show` with `--code` only.
+#[inline(never)]
 fn code_command<'a>(alloc: Global) -> Result<Command<'a>, AllocError>
     // `code_command` declares the subcommand `show` with the required option `--code` only.
     ensures app { IfOk result (λ command. app_of command ≡ code_app) }
@@ -154,6 +165,7 @@ fn code_command<'a>(alloc: Global) -> Result<Command<'a>, AllocError>
 }
 
 /// Declares `check`.
+#[inline(never)]
 fn check_command<'a>(alloc: Global) -> Result<Command<'a>, AllocError>
     // `check_command` declares the subcommand `check` with the required argument `file`.
     ensures app { IfOk result (λ command. app_of command ≡ check_app) }
@@ -169,6 +181,7 @@ fn check_command<'a>(alloc: Global) -> Result<Command<'a>, AllocError>
 }
 
 /// Declares `sim`.
+#[inline(never)]
 fn sim_command<'a>(alloc: Global) -> Result<Command<'a>, AllocError>
     // `sim_command` declares the subcommand `sim` with the required argument `script`.
     ensures app { IfOk result (λ command. app_of command ≡ sim_app) }
@@ -182,6 +195,7 @@ fn sim_command<'a>(alloc: Global) -> Result<Command<'a>, AllocError>
 }
 
 /// Declares `md4`.
+#[inline(never)]
 fn md4_command<'a>(alloc: Global) -> Result<Command<'a>, AllocError>
     // `md4_command` declares the subcommand `md4` with the required argument `hex`.
     ensures app { IfOk result (λ command. app_of command ≡ md4_app) }

@@ -14,6 +14,8 @@ pub enum Choice {
     Turns,
     /// `--log` of `il`, `fe` and `pair`.
     Log,
+    /// `--time` of `il`, `fe` and `pair`.
+    LogTime,
     /// `--expect` of `il`, `fe` and `pair`.
     Expect,
     /// `--stats` of `il`, `fe` and `pair`.
@@ -28,6 +30,14 @@ pub enum Choice {
     TMax,
     /// `--ports` of `follow`.
     Ports,
+    /// `--time` of `follow`.
+    Times,
+    /// `--from` of `follow`.
+    From,
+    /// `--to` of `follow`.
+    To,
+    /// `--every` of `follow`.
+    Period,
 }
 
 /// Why the entries of a subcommand are not a request.
@@ -60,12 +70,15 @@ impl Choice {
             Choice::ShowCode | Choice::Code => "code",
             Choice::Turns => "turns",
             Choice::Log => "log",
+            Choice::LogTime | Choice::Times => "time",
             Choice::Expect => "expect",
             Choice::Stats => "stats",
-            Choice::Every => "every",
+            Choice::Every | Choice::Period => "every",
             Choice::Only => "only",
             Choice::TMax => "t-max",
             Choice::Ports => "ports",
+            Choice::From => "from",
+            Choice::To => "to",
         }
     }
 
@@ -75,14 +88,17 @@ impl Choice {
             Choice::ShowCode | Choice::Code => "0, 8 or 16",
             Choice::Turns => "1 to 1000000",
             Choice::Log => "off, state or all",
+            Choice::LogTime => "utc or run",
             Choice::Expect => "up or settled",
-            Choice::Stats => "text or json",
-            Choice::Every => "1 to 86400",
+            Choice::Stats => "text, json or prometheus",
+            Choice::Every | Choice::Period => "1 to 86400",
             Choice::Only => {
                 "opens, repeat, differs, ahead, late, stale, anew, resent, age, waits, reason or fault"
             }
             Choice::TMax => "1 to 4294967295",
             Choice::Ports => "1 to 4 ranges such as 46101-46102",
+            Choice::Times => "since, epoch or utc",
+            Choice::From | Choice::To => "90.5, @1795749120 or 2026-11-27T03:12:00",
         }
     }
 
@@ -91,6 +107,7 @@ impl Choice {
         match self {
             Choice::ShowCode => SHOW_USAGE,
             Choice::Code | Choice::Only | Choice::TMax | Choice::Ports => FOLLOW_USAGE,
+            Choice::Times | Choice::From | Choice::To | Choice::Period => FOLLOW_USAGE,
             _ => RUN_USAGE,
         }
     }
@@ -102,11 +119,11 @@ const SHOW_USAGE: &str =
 
 /// The usage of `follow`.
 const FOLLOW_USAGE: &str =
-    "Usage: rasta follow [--code <0|8|16>] [--iv <iv>] [--json] [--messages] [--only <word>] [--ports <ports>] [--t-max <ms>] <file>\n\nFor more information, try 'rasta follow --help'.";
+    "Usage: rasta follow [--code <0|8|16>] [--iv <iv>] [--json] [--messages] [--only <word>] [--ports <ports>] [--t-max <ms>] [--time <since|epoch|utc>] [--from <instant>] [--to <instant>] [--every <seconds>] <file>\n\nFor more information, try 'rasta follow --help'.";
 
 /// The usage of `il`, `fe` and `pair`.
 const RUN_USAGE: &str =
-    "Usage: rasta <il|fe|pair> [--log <off|state|all>] [--expect <up|settled>] [--keep] [--stats <text|json> [--every <seconds>]] <--turns <turns>|--until-end> <file>\n\nFor more information, try 'rasta --help'.";
+    "Usage: rasta <il|fe|pair> [--log <off|state|all>] [--time <utc|run>] [--expect <up|settled>] [--keep] [--stats <text|json|prometheus> [--every <seconds>]] <--turns <turns>|--until-end> <file>\n\nFor more information, try 'rasta --help'.";
 
 /// The usage of the program.
 const USAGE: &str = "Usage: rasta <COMMAND>\n\nFor more information, try 'rasta --help'.";

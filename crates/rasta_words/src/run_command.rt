@@ -3,12 +3,15 @@
 ghost use Rattle.std.specs.Prelude.{◌≡◌, IfOk, false};
 ghost use Rattle.clap.specs.declared.Command.TheViews.{out-Command};
 ghost use Rattle.clap.specs.Words.{app_of};
-ghost use Rattle.rasta_words.specs.Runs.{counting_app, ending_app, expecting_app, keeping_app, logged_app, net_app, repeating_app, turns_app};
+ghost use Rattle.rasta_words.specs.Runs.{counting_app, ending_app, expecting_app, keeping_app, logged_app, net_app, repeating_app, timed_app, turns_app};
 
 use clap::{Arg, ArgAction, Command};
 use std::alloc::{AllocError, Global};
 
 /// Declares a command of ends over sockets.
+///
+/// No function here is inlined: one stack frame would hold all arguments of all commands.
+#[inline(never)]
 pub fn net_command<'a>(
     alloc: Global,
     name: &'a str,
@@ -28,6 +31,7 @@ pub fn net_command<'a>(
 }
 
 /// Declares a command of ends over sockets without its file.
+#[inline(never)]
 fn repeating_command<'a>(
     alloc: Global,
     name: &'a str,
@@ -46,6 +50,7 @@ fn repeating_command<'a>(
 }
 
 /// Declares a command of ends over sockets without its file and `--every`.
+#[inline(never)]
 fn counting_command<'a>(
     alloc: Global,
     name: &'a str,
@@ -58,12 +63,14 @@ fn counting_command<'a>(
 {
     let command = keeping_command(alloc, name, about)?;
     let stats = Arg::new(alloc, "stats").long("stats").help(
-        "Write counts to standard error at the end: text or json [default: no counts]",
+        "Write counts to standard error at the end: text, json or prometheus [default: no counts]",
     );
     command.arg(stats)
 }
 
-/// Declares a command of ends over sockets with `--turns`, `--until-end`, `--log`, `--expect` and `--keep`.
+/// Declares a command of ends over sockets with `--turns`, `--until-end`, `--log`, `--time`, `--expect`
+/// and `--keep`.
+#[inline(never)]
 fn keeping_command<'a>(
     alloc: Global,
     name: &'a str,
@@ -83,25 +90,46 @@ fn keeping_command<'a>(
     command.arg(keep)
 }
 
-/// Declares a command of ends over sockets with `--turns`, `--until-end`, `--log` and `--expect`.
+/// Declares a command of ends over sockets with `--turns`, `--until-end`, `--log`, `--time` and `--expect`.
+#[inline(never)]
 fn expecting_command<'a>(
     alloc: Global,
     name: &'a str,
     about: &'a str,
 ) -> Result<Command<'a>, AllocError>
-    // `expecting_command` declares a subcommand of this `name` with the options of `logged_app` and `--expect`.
+    // `expecting_command` declares a subcommand of this `name` with the options of `timed_app` and `--expect`.
     ensures app { IfOk result (λ command. app_of command ≡ expecting_app name.entry.now) }
     // No argument that `expecting_command` declares is global.
     ensures local { IfOk result (λ command. (out-Command command).has_globals ≡ false) }
 {
-    let command = logged_command(alloc, name, about)?;
+    let command = timed_command(alloc, name, about)?;
     let expect = Arg::new(alloc, "expect").long("expect").help(
         "Exit with status 4 unless, at the end, the session is established (up), or every telegram to be put is also confirmed (settled) [default: nothing is expected]",
     );
     command.arg(expect)
 }
 
+/// Declares a command of ends over sockets with `--turns`, `--until-end`, `--log` and `--time`.
+#[inline(never)]
+fn timed_command<'a>(
+    alloc: Global,
+    name: &'a str,
+    about: &'a str,
+) -> Result<Command<'a>, AllocError>
+    // `timed_command` declares a subcommand of this `name` with the options of `logged_app` and `--time`.
+    ensures app { IfOk result (λ command. app_of command ≡ timed_app name.entry.now) }
+    // No argument that `timed_command` declares is global.
+    ensures local { IfOk result (λ command. (out-Command command).has_globals ≡ false) }
+{
+    let command = logged_command(alloc, name, about)?;
+    let time = Arg::new(alloc, "time").long("time").help(
+        "Times of the log: utc, or run (milliseconds since the start of the run) [default: utc]",
+    );
+    command.arg(time)
+}
+
 /// Declares a command of ends over sockets with `--turns`, `--until-end` and `--log`.
+#[inline(never)]
 fn logged_command<'a>(
     alloc: Global,
     name: &'a str,
@@ -120,6 +148,7 @@ fn logged_command<'a>(
 }
 
 /// Declares a command of ends over sockets with `--turns` and `--until-end`.
+#[inline(never)]
 fn ending_command<'a>(
     alloc: Global,
     name: &'a str,
@@ -142,6 +171,7 @@ fn ending_command<'a>(
 }
 
 /// Declares a command of ends over sockets with `--turns` only.
+#[inline(never)]
 fn turns_command<'a>(
     alloc: Global,
     name: &'a str,

@@ -3,19 +3,20 @@
 ghost use Rattle.std.specs.Prelude.{◌≡◌, ℕ, Option, Some, Ok, IsErr, IfOk, IfErr, IfSome, false};
 ghost use Rattle.std.specs.Option.{option_copied};
 ghost use Rattle.clap.specs.Words.{found_of, rows_of};
-ghost use Rattle.rasta_words.specs.Runs.{HasNoRun, IsEndChosen, IsLogChosen, IsLengthChosen, IsRun, AreCountsChosen, AreSecondsChosen, IsSeconds, expected_word, form_word, log_word, IsTurns};
+ghost use Rattle.rasta_words.specs.Runs.{HasNoRun, IsEndChosen, IsLogChosen, IsTimeChosen, IsLengthChosen, IsRun, AreCountsChosen, expected_word, form_word, log_word, time_word, IsTurns};
+ghost use Rattle.rasta_words.specs.Seconds.{AreSecondsChosen, IsSeconds};
 ghost use Rattle.rasta_words.specs.Rejections.{AreCountsRejected, IsLengthRejected, IsRunRejected, NamesGiven};
 ghost use Rattle.rasta_words.specs.declared.rejection.Choice.TheVariants as choice;
 
 use crate::command_line::RunRequest;
 use crate::entries::{entry, is_chosen};
 use crate::rejection::{Choice, Rejection};
-use crate::{CountsForm, Expected, LogLevel, RunLength, Telling};
+use crate::{CountsForm, Expected, LogLevel, LogTime, RunLength, Telling};
 use clap::ArgMatches;
 use settings_file::Word;
 
 /// Returns how the entries of `il`, `fe` and `pair` have these ends run. The options are read in the order `--turns`
-/// and `--until-end`, `--log`, `--expect`, `--stats`, `--every`.
+/// and `--until-end`, `--log`, `--time`, `--expect`, `--stats`, `--every`.
 pub fn ends_run<'a>(word: Word, entries: &ArgMatches<'a>) -> Result<RunRequest<'a>, Rejection<'a>>
     // The run that `ends_run` returns is of these ends, and its values are those of the entries.
     ensures found { IfOk result (λ running. (running.word ≡ word) × IsRun (rows_of (found_of entries.now)) running) }
@@ -32,6 +33,7 @@ pub fn ends_run<'a>(word: Word, entries: &ArgMatches<'a>) -> Result<RunRequest<'
         is_chosen(entry(entries, "until-end")),
     )?;
     let log = chosen_log(entry(entries, "log"))?;
+    let time = chosen_time(entry(entries, "time"))?;
     let expected = chosen_end(entry(entries, "expect"))?;
     let counts = chosen_counts(entry(entries, "stats"), entry(entries, "every"))?;
     Ok(RunRequest {
@@ -39,6 +41,7 @@ pub fn ends_run<'a>(word: Word, entries: &ArgMatches<'a>) -> Result<RunRequest<'
         file,
         length,
         log,
+        time,
         expected,
         keep: is_chosen(entry(entries, "keep")),
         counts,
@@ -77,7 +80,7 @@ fn chosen_counts<'a>(
 
 /// Returns the form of counts that a word names.
 fn counts_form(word: &str) -> Option<CountsForm>
-    // The word of the form that `counts_form` returns is the one given: `text` or `json`.
+    // The word of the form that `counts_form` returns is the one given: `text`, `json` or `prometheus`.
     ensures found { IfSome result (λ form. word.now ≡ form_word form) }
     // `counts_form` returns a form for each of its words.
     ensures only { (form : CountsForm) → word.now ≡ form_word form → result ≡ Some form }
@@ -85,6 +88,7 @@ fn counts_form(word: &str) -> Option<CountsForm>
     match word {
         "text" => Some(CountsForm::Text),
         "json" => Some(CountsForm::Json),
+        "prometheus" => Some(CountsForm::Prometheus),
         _ => None,
     }
 }
@@ -111,7 +115,7 @@ fn chosen_seconds<'a>(word: Option<&'a str>) -> Result<Option<u32>, Rejection<'a
 }
 
 /// Returns the number of seconds that a word names.
-fn seconds(word: &str) -> Option<u32>
+pub(crate) fn seconds(word: &str) -> Option<u32>
     // The result of `seconds` is the decimal number of the word, 1 to 86,400.
     ensures found { IfSome result (IsSeconds word.now) }
     // `seconds` returns the number of each word that names 1 to 86,400.
@@ -194,6 +198,41 @@ fn log_level(word: &str) -> Option<LogLevel>
         "off" => Some(LogLevel::Off),
         "state" => Some(LogLevel::State),
         "all" => Some(LogLevel::All),
+        _ => None,
+    }
+}
+
+/// Returns the times of the log that a word names: `Utc` if there is no word.
+fn chosen_time<'a>(word: Option<&'a str>) -> Result<LogTime, Rejection<'a>>
+    // The times that `chosen_time` returns are those of the word, and `Utc` without one.
+    ensures found { IfOk result (IsTimeChosen (option_copied word.entry)) }
+    // If the word, or its absence, chooses times, `chosen_time` returns them.
+    ensures only { (time : LogTime) → IsTimeChosen (option_copied word.entry) time → result ≡ Ok time }
+    // If `chosen_time` fails, the word is the value of `LogTime` that it rejects.
+    ensures refused { IfErr result (NamesGiven choice.LogTime (option_copied word.entry)) }
+{
+    match word {
+        None => Ok(LogTime::Utc),
+        Some(word) => match log_time(word) {
+            Some(time) => Ok(time),
+            None => Err(Rejection::Value {
+                option: Choice::LogTime,
+                value: word,
+            }),
+        },
+    }
+}
+
+/// Returns the times of the log with this word.
+fn log_time(word: &str) -> Option<LogTime>
+    // The word of the times that `log_time` returns is the one given: `utc` or `run`.
+    ensures found { IfSome result (λ time. word.now ≡ time_word time) }
+    // `log_time` returns times for each of its words.
+    ensures only { (time : LogTime) → word.now ≡ time_word time → result ≡ Some time }
+{
+    match word {
+        "utc" => Some(LogTime::Utc),
+        "run" => Some(LogTime::Run),
         _ => None,
     }
 }

@@ -55,6 +55,15 @@ pub enum LogLevel {
     All,
 }
 
+/// The times of log lines.
+#[derive(Clone, Copy, Debug, PartialEq, Eq)]
+pub enum LogTime {
+    /// The date and time of UTC, to milliseconds.
+    Utc,
+    /// The milliseconds since the start of the run.
+    Run,
+}
+
 /// How long ends run.
 #[derive(Clone, Copy, Debug, PartialEq, Eq)]
 pub enum RunLength {
@@ -81,6 +90,8 @@ pub enum CountsForm {
     Text,
     /// As JSON.
     Json,
+    /// In the text format of Prometheus.
+    Prometheus,
 }
 
 /// How and when counts are printed: at the end of a run, and before.

@@ -2,8 +2,9 @@
 
 use crate::assertions::{assert_equal, assert_true};
 use capture::{
-    Address, Following, Header, Heard, Host, Judged, LineFault, PAYLOAD_ROOM, Record, Remark,
-    Remarks, Totals, Window, hear, judge, note, read_line, sum_up,
+    Address, Following, Header, Heard, Host, Instant, Judged, LineFault, PAYLOAD_ROOM, Record,
+    Remark, Remarks, Span, Totals, Window, hear, is_between, judge, note, read_instant, read_line,
+    sum_up,
 };
 use red_layer::pdu::RedFault;
 use safe_pdu::{CodeLength, CodeRule, Kind};
@@ -47,6 +48,45 @@ fn reads_a_heartbeat(rt: HostRuntime) {
         &rt,
         hear(buffer.get(..7).unwrap_or(&[]), &rule),
         Heard::NoRed(RedFault::Short),
+    );
+}
+
+// Instants in each form, with the seconds that `date -u +%s` prints, and texts that are none.
+#[test]
+fn reads_instants(rt: HostRuntime) {
+    let cases: [(&[u8], Option<Instant>); 14] = [
+        (b"0", Some(Instant::Since(0))),
+        (b"90.5", Some(Instant::Since(90_500_000))),
+        (b"0.1234567", Some(Instant::Since(123_456))),
+        (b"@1795749120", Some(Instant::At(1_795_749_120_000_000))),
+        (
+            b"2026-11-27T03:12:00.000001Z",
+            Some(Instant::At(1_795_749_120_000_001)),
+        ),
+        (
+            b"2024-02-29T23:59:59",
+            Some(Instant::At(1_709_251_199_000_000)),
+        ),
+        (b"2100-02-29T00:00:00", None),
+        (b"2026-13-01T00:00:00", None),
+        (b"1969-12-31T23:59:59", None),
+        (b"2026-11-27T24:00:00", None),
+        (b"2026-11-27 03:12:00", None),
+        (b"-1", None),
+        (b"1@2", None),
+        (b"", None),
+    ];
+    for (text, instant) in cases {
+        assert_equal(&rt, read_instant(text), instant);
+    }
+    let span = Span {
+        from: Some(Instant::Since(2)),
+        to: Some(Instant::At(15)),
+    };
+    assert_true(&rt, is_between(&span, 10, 12) && is_between(&span, 10, 15));
+    assert_true(
+        &rt,
+        !is_between(&span, 10, 11) && !is_between(&span, 10, 16),
     );
 }
 

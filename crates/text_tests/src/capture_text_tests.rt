@@ -1,8 +1,8 @@
 //! Whole captures, and the text that is to be printed of each, worked out by hand.
 
 use crate::assertions::{assert_equal, assert_true};
-use capture::{Judged, Remarks};
-use capture_text::{Asked, FollowStatus, OutputForm, Remarkable, run, write_remarks};
+use capture::{Judged, Remarks, Span};
+use capture_text::{Asked, FollowStatus, OutputForm, Remarkable, TimeForm, run, write_remarks};
 use md4::INITIAL_VALUE;
 use safe_pdu::{CodeLength, CodeRule, Kind, Leaving};
 use std::alloc::Allocator;
@@ -140,6 +140,12 @@ fn asked(length: CodeLength, only: Option<Remarkable>) -> Asked {
         messages: false,
         ports: None,
         form: OutputForm::Lines,
+        time: TimeForm::Since,
+        span: Span {
+            from: None,
+            to: None,
+        },
+        every: None,
     }
 }
 
@@ -179,6 +185,7 @@ fn loses_on_one_channel(rt: HostRuntime) -> Result<(), Fail> {
 0.020000 line 5 1->2 ch 1 red 1 HB sn 101 cs 500 ts 1020 cts 7000 age 0 ms
 0.030000 line 6 1->2 ch 1 red 2 HB sn 102 cs 500 ts 1030 cts 7000 age 0 ms
 0.030040 line 7 1->2 ch 2 red 2 HB sn 102 cs 500 ts 1030 cts 7000 channel ahead 1 all repeat of line 6 age 0 ms
+sum first datagram at 2023-11-14T22:13:20.000000Z
 sum 1->2 opened by ConnReq times 1 PDUs 3 missing 0 repeats 2 late 0 differs 0 stale 0 heartbeats 2 requests 0 resent 0 disconnects 0 \
 silence 0.020000 age 0 of 1800 waits 30 of 1800 last 0.030000 no DiscReq
 sum 1->2 ch 1 10.0.0.1:8001-10.0.0.2:8002 datagrams 3 PDUs 3 missing 0 repeats 0 late 0 differs 0 stale 0 damaged 0
@@ -219,6 +226,7 @@ fn asks_again(rt: HostRuntime) -> Result<(), Fail> {
 0.030000 line 4 2->1 ch 1 red 30 RetrReq sn 601 cs 200 ts 8030 cts 2000 age 20 ms
 0.040000 line 5 1->2 ch 1 red 13 RetrResp sn 203 cs 601 ts 2040 cts 8030 age 0 ms
 0.041000 line 6 1->2 ch 1 red 14 RetrData sn 204 cs 601 ts 2041 cts 8030 resent age 0 ms
+sum first datagram at 2023-11-14T22:13:20.000000Z
 sum 1->2 opening not seen PDUs 4 missing 1 repeats 1 late 0 differs 0 stale 0 heartbeats 1 requests 0 resent 1 disconnects 0 \
 silence 0.020000 age 0 of 1800 waits 41 of 1800 last 0.041000 no DiscReq
 sum 1->2 ch 1 10.0.0.1:8001-10.0.0.2:8002 datagrams 4 PDUs 4 missing 1 repeats 0 late 0 differs 0 stale 0 damaged 0
@@ -259,6 +267,7 @@ fn leaves_and_opens_again(rt: HostRuntime) -> Result<(), Fail> {
     ];
     let wanted = "\
 1.850000 line 4 2->1 ch 1 red 9 DiscReq sn 702 cs 300 ts 10950 cts 5000 age 1801 ms waits 1950 ms reason 3 timeout detail 0
+sum first datagram at 2023-11-14T22:13:20.000000Z
 sum 1->2 opened by ConnReq times 1 PDUs 3 missing 0 repeats 0 late 0 differs 0 stale 0 heartbeats 2 requests 0 resent 0 disconnects 0 \
 silence 1.801000 age 0 of 1801 waits 1801 of 1801 reached last 3.000000 no DiscReq
 sum 1->2 ch 1 10.0.0.1:8001-10.0.0.2:8002 datagrams 3 PDUs 3 missing 0 repeats 0 late 0 differs 0 stale 0 damaged 0
@@ -298,6 +307,7 @@ fn names_what_is_forged(rt: HostRuntime) -> Result<(), Fail> {
     let wanted = "\
 0.000000 line 1 1->2 ch 1 red 7 HB sn 101 cs 500 ts 10 cts 5
 0.000500 line 2 10.0.0.1:8001->10.0.0.2:8002 red 8 safe fault 3 Code
+sum first datagram at 2023-11-14T22:13:20.000000Z
 sum 1->2 opening not seen PDUs 1 missing 0 repeats 0 late 0 differs 0 stale 0 heartbeats 1 requests 0 resent 0 disconnects 0 \
 silence 0.000000 age 0 of 1800 waits 0 of 1800 last 0.000000 no DiscReq
 sum 1->2 ch 1 10.0.0.1:8001-10.0.0.2:8002 datagrams 2 PDUs 1 missing 0 repeats 0 late 0 differs 0 stale 0 damaged 1
@@ -374,6 +384,7 @@ fn prints_telegrams(rt: HostRuntime) -> Result<(), Fail> {
 0.000000 line 1 1->2 ch 1 red 10 Data sn 200 cs 600 ts 2000 cts 8000
 unit fault 2 Length
 0.020000 line 2 1->2 ch 1 red 11 HB sn 201 cs 600 ts 2020 cts 8000
+sum first datagram at 2023-11-14T22:13:20.000000Z
 sum 1->2 opening not seen PDUs 2 missing 0 repeats 0 late 0 differs 0 stale 0 heartbeats 1 requests 0 resent 0 disconnects 0 \
 silence 0.020000 age 0 of 1800 waits 0 of 1800 last 0.020000 no DiscReq
 sum 1->2 ch 1 10.0.0.1:8001-10.0.0.2:8002 datagrams 2 PDUs 2 missing 0 repeats 0 late 0 differs 0 stale 0 damaged 0

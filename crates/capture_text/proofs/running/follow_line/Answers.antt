@@ -1,37 +1,11 @@
-use Rattle.std.proofs.Common.{sym, ap, ◌∙◌, subst, cond, [], OnOk}
+use Rattle.std.proofs.Common.{subst}
 use Rattle.std.specs.Io.KnownBytes.{Appends}
-use Rattle.capture_text.specs.Capture.{read_by, text_printed, text_told, with_long, with_text}
-use Rattle.capture_text.specs.FaultText.{fault_text}
-use Rattle.capture_text.specs.Steps.{without_end}
-use Rattle.capture.specs.Numbers.{counted}
-use Rattle.capture.specs.declared.line.LineFault.TheVariants.{Long}
-use Rattle.capture_text.proofs.Following.{not_long}
+use Rattle.std.proofs.KnownBytes.{Appends-trans}
+use Rattle.capture_text.specs.Capture.{sums_printed}
 use Rattle.capture_text.proofs.running.follow_line.Goals as goal
-
-pub returns-clause-read : goal.returns-clause-read
-returns-clause-read g c =
-    let a = c.args.asked.now in
-    let r = read_by c.args.course.now in
-    let line = c.args.line.now in
-    c.take_text.ensures.read ∙ ap (with_text a r) c.without_feed.ensures
-    ∙ ap (λ b. cond b (with_long r) (with_text a r (without_end line))) (sym (not_long line c.if-line-gt-LINE_MAX.false))
 
 pub returns-clause-printed : goal.returns-clause-printed
 returns-clause-printed g c =
-    let a = c.args.asked.now in
-    let r = read_by c.args.course.now in
-    let line = c.args.line.now in
-    subst (λ l. OnOk c.take_text.result (Appends (g.W.Write.contents c.args.writer.now) (g.W.Write.contents c.take_text.new.writer) l))
-    (ap (text_printed a r) c.without_feed.ensures
-    ∙ ap (λ b. cond b [] (text_printed a r (without_end line))) (sym (not_long line c.if-line-gt-LINE_MAX.false)))
-    c.take_text.ensures.printed
-
-pub returns-clause-told : goal.returns-clause-told
-returns-clause-told g c =
-    let a = c.args.asked.now in
-    let r = read_by c.args.course.now in
-    let line = c.args.line.now in
-    subst (λ l. OnOk c.take_text.result (Appends (g.E.Write.contents c.args.err.now) (g.E.Write.contents c.take_text.new.err) l))
-    (ap (text_told a r) c.without_feed.ensures
-    ∙ ap (λ b. cond b (fault_text (counted r.lines 1) Long) (text_told a r (without_end line))) (sym (not_long line c.if-line-gt-LINE_MAX.false)))
-    c.take_text.ensures.told
+    Appends-trans _ _ _ _ _ c.in_ok-take_any.ensures.printed
+    (subst (λ s. Appends (g.W.Write.contents c.take_any.new.writer) (g.W.Write.contents c.write_due.new.writer) (sums_printed c.args.asked.now s))
+    c.in_ok-take_any.ensures.read c.in_ok-write_due.ensures.printed)

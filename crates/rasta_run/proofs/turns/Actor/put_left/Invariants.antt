@@ -9,9 +9,17 @@ abbrev pub invariant-puts : goal.invariant-puts
 invariant-puts g l =
     record {
       time : l.self.end.time ≤ l.now;
+      kept :
+          l.self ≡ record l.initial.self {
+            end = l.self.end;
+            left = l.self.left;
+            put = l.self.put;
+            refused_entries = l.self.refused_entries;
+            log = l.self.log;
+          };
       along :
           (done : List Put) × (length done ≡ l.counter) × (l.initial.self.left.now ≡ done ++ l.self.left.now)
-          × FoldsTo (Passes (λ o. g.C.Channels.told o.inner) l.now)
-          (l.initial.self.end, l.initial.self.put, g.W.Write.contents l.initial.writer) done
-          (l.self.end, l.self.put, g.W.Write.contents l.writer);
+          × FoldsTo (Passes (λ o. g.C.Channels.told o.inner) g.T.Application.refuses l.now)
+          (l.initial.self.end, l.initial.self.put, l.initial.app, l.initial.self.refused_entries) done
+          (l.self.end, l.self.put, l.app, l.self.refused_entries);
     }

@@ -1,0 +1,49 @@
+-- One or two ends that run: what they leave undone, how they are at the end, and when they are over.
+use Rattle.std.specs.Prelude.{ℕ, ◌+◌, ◌-◌, ◌^◌, ◌==◌, min, max, length, Bool, true, Option, Some, None}
+use Rattle.rasta_run.specs.Progress as progress
+use Rattle.rasta_run.specs.Standing.{meets}
+use Rattle.rasta_run.specs.Undone as undone
+use Rattle.rasta_run.specs.declared.turns.Actor.{Actor}
+use Rattle.rasta_run.specs.declared.undone.Undone.{Undone}
+use Rattle.rasta_words.specs.declared.status.Expected.{Expected}
+use Rattle.stack_end.specs.Certain.{confirmed_in}
+use Rattle.stack_end.specs.EndValue.{inside}
+use Rattle.stack_end.specs.Turns.{is_settled}
+
+-- what an end leaves undone, if this many lines of input were not offered to it
+abbrev pub left_by : {C A : Type 0} → Actor C A → (lines : ℕ) → Undone
+left_by a lines =
+    record {
+      lines = min (lines + a.refused_lines) (2 ^ 64 - 1);
+      entries = min (length a.left.now + a.refused_entries) (2 ^ 64 - 1);
+      doubt = min (a.lost + undone.doubt_of a.put a.before (confirmed_in (inside a.end).upper)) (2 ^ 64 - 1);
+    }
+
+-- an end is in the expected state
+abbrev pub stands : {C A : Type 0} → Option Expected → (lines : ℕ) → Actor C A → Bool
+stands expected lines a = meets expected (inside a.end).upper.session.phase (is_settled (inside a.end)) (undone.is_nothing (left_by a lines))
+
+-- the second end is, if there is one
+abbrev pub second_stands : {C A : Type 0} → Option Expected → Option (Actor C A) → Bool
+second_stands expected None = true
+second_stands expected (Some a) = stands expected 0 a
+
+-- when an end gives up
+abbrev pub limit_of : {C A : Type 0} → Actor C A → ℕ
+limit_of a = progress.limit_of a.progress.at a.keeper.config.t_max
+
+-- an end is over, once its input is done
+abbrev pub over : {C A : Type 0} → (input_done : Bool) → (now : ℕ) → Actor C A → Bool
+over input_done now a =
+    progress.is_over input_done
+    (progress.is_finished (inside a.end).upper.machine.connection a.is_kept (length a.left.now == 0) (is_settled (inside a.end))) (limit_of a) now
+
+-- the second end is, if there is one: it has no input
+abbrev pub second_over : {C A : Type 0} → (now : ℕ) → Option (Actor C A) → Bool
+second_over now None = true
+second_over now (Some a) = over true now a
+
+-- when the later of all ends gives up
+abbrev pub later_limit : {C A : Type 0} → Actor C A → Option (Actor C A) → ℕ
+later_limit a None = limit_of a
+later_limit a (Some b) = max (limit_of a) (limit_of b)

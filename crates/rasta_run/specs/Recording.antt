@@ -1,0 +1,63 @@
+-- What the recorder of an end keeps of the datagrams that are sent and received, and of the end's notes.
+use Rattle.std.specs.Prelude.{ℕ, ◌%◌, ◌==◌, nat_eq, Bool, true, false, List, slice_set, Option, Some, None, if◌then◌else◌}
+use Rattle.pdu_text.specs.declared.causes.Cause.{Cause}
+use Rattle.pdu_text.specs.declared.lines.Happening.{Happening}
+use Rattle.pdu_text.specs.declared.lines.Happening.TheVariants as happening
+use Rattle.red_layer.specs.declared.RedEvent.{RedEvent}
+use Rattle.safe_machine.specs.declared.DropCause.{DropCause}
+use Rattle.safe_machine.specs.declared.Step.{Step}
+use Rattle.safe_machine.specs.declared.Step.TheVariants as step
+use Rattle.rasta_run.specs.Counting.{channel_under, closing_after, dropped_on, one_more, sent_on}
+use Rattle.rasta_run.specs.Headers.{header_seen, kind_seen}
+use Rattle.rasta_run.specs.Telling.{drop_cause, event_cause, last_of, made_told}
+use Rattle.rasta_run.specs.declared.header.Header.{Header}
+use Rattle.rasta_run.specs.declared.recorder.Recorder.{Recorder}
+
+-- an event is kept at the place of its number
+abbrev pub with_event : Happening → Recorder → Recorder
+with_event h r = record r { kept = slice_set r.kept (r.happened % 256) h; happened = one_more r.happened }
+
+-- the same, if there is one
+abbrev pub with_some : Option Happening → Recorder → Recorder
+with_some None r = r
+with_some (Some h) r = with_event h r
+
+-- the event of a datagram that was to be sent: only the first channel has one, since all carry the same
+abbrev pub sent_event : (channel : ℕ) → List ℕ → Option Happening
+sent_event channel datagram = if channel == 1 then made_told (kind_seen datagram) else None
+
+-- a datagram was to be sent on a channel, and was or was not
+abbrev pub after_sent : (channel : ℕ) → List ℕ → Bool → Recorder → Recorder
+after_sent channel datagram went r = with_some (sent_event channel datagram) (record r { channels = sent_on channel went r.channels })
+
+-- a datagram of a channel was dropped
+abbrev pub after_drop : (channel : ℕ) → Cause → Recorder → Recorder
+after_drop channel cause r = with_event (happening.Dropped channel cause) (record r { last_cause = Some (last_of r.last_cause cause) })
+
+-- the last datagram was dropped, if there is a cause
+abbrev pub after_cause : Option Cause → Recorder → Recorder
+after_cause None r = r
+after_cause (Some cause) r = after_drop r.came.0 cause r
+
+-- the redundancy layer handled the last datagram
+abbrev pub after_event : RedEvent → Recorder → Recorder
+after_event event r = after_cause (event_cause event) r
+
+-- the header of the part with this number, if it is that of the last datagram
+abbrev pub header_under : (number : ℕ) → Option Header → Option Header
+header_under number None = None
+header_under number (Some h) = if nat_eq h.number number then Some h else None
+
+-- the safety machine dropped the part with this number; one that is not of the last datagram has no known channel
+abbrev pub after_part : (number : ℕ) → DropCause → Recorder → Recorder
+after_part number cause r =
+    let channel = channel_under number r.came.0 r.came.1 in
+    after_drop channel (drop_cause cause (header_under number r.came.1)) (record r { channels = dropped_on channel cause r.channels })
+
+-- the safety machine handled the part with this number
+abbrev pub after_step : (number : ℕ) → Step → Recorder → Recorder
+after_step number (step.Dropped cause) r = after_part number cause r
+after_step number (step.Left reason detail) r = record r { closing = one_more r.closing }
+after_step number step.Nothing r = record r { closing = one_more r.closing }
+after_step number step.Taken r = r
+after_step number step.Gap r = r

@@ -1,0 +1,101 @@
+-- The time at the start of a line of the log: that of the run, or UTC.
+use Rattle.std.specs.Prelude.{◌≡◌, ◌⊎◌, ℕ, ◌+◌, ◌/◌, ◌%◌, ◌≤◌, ◌++◌, ◌-◌, ◌^◌, ◌==◌, min, drop, List, [], ◌∷◌, codes, not, Bool, true, false, Option, Some, None}
+use Rattle.std.specs.List.{position}
+use Rattle.std.specs.Io.KnownBytes.{Appends}
+use Rattle.pdu_text.specs.Lines.{joined}
+use Rattle.pdu_text.specs.LogLines.{happening_text}
+use Rattle.pdu_text.specs.Pieces.{digit, log_line, three_digits}
+use Rattle.pdu_text.specs.declared.lines.Happening.{Happening}
+use Rattle.rasta_run.specs.Calendar.{IsDate, days_of_years, years_most}
+use Rattle.rasta_run.specs.Noticing.{notice_line}
+use Rattle.rasta_run.specs.Silence.{said_event}
+use Rattle.rasta_run.specs.Telling.{is_off}
+use Rattle.rasta_run.specs.declared.calendar.Date.{Date}
+use Rattle.rasta_run.specs.declared.logging.Log.{Log}
+use Rattle.rasta_run.specs.declared.logging.Said.{Said}
+use Rattle.rasta_run.specs.declared.noticing.Notice.{Notice}
+use Rattle.rasta_words.specs.declared.status.LogTime.{LogTime}
+use Rattle.rasta_words.specs.declared.status.LogTime.TheVariants.{Utc, Run}
+
+-- the milliseconds of a day
+abbrev pub day_length : ℕ
+day_length = 86_400_000
+
+-- the last two decimal digits
+abbrev pub two_digits : ℕ → List ℕ
+two_digits n = digit 10 n ∷ digit 1 n ∷ []
+
+-- the last four decimal digits
+abbrev pub four_digits : ℕ → List ℕ
+four_digits n = digit 1000 n ∷ digit 100 n ∷ digit 10 n ∷ digit 1 n ∷ []
+
+-- YEAR-MONTH-DAY
+unfoldable pub date_text : Date → List ℕ
+date_text d =
+    joined (four_digits (1970 + d.years) ∷ codes "-" ∷ two_digits (d.months + 1) ∷ codes "-" ∷ two_digits (d.days + 1) ∷ [])
+
+-- two digits, and a text after them
+unfoldable pub pair_text : ℕ → List ℕ → List ℕ
+pair_text n text = joined (two_digits n ∷ text ∷ [])
+
+-- HOUR:MINUTE:SECOND.MILLISECOND, of milliseconds of a day
+unfoldable pub clock_text : ℕ → List ℕ
+clock_text ms =
+    joined
+    (pair_text (ms / 3_600_000) (codes ":") ∷ pair_text (ms / 60_000 % 60) (codes ":") ∷ pair_text (ms / 1_000 % 60) (codes ".")
+    ∷ three_digits (ms % 1_000) ∷ [])
+
+-- the date and the time of day, in UTC
+unfoldable pub utc_text : Date → ℕ → List ℕ
+utc_text d ms = joined (date_text d ∷ codes "T" ∷ clock_text ms ∷ codes "Z" ∷ [])
+
+-- a list from a place on, or all of it
+abbrev pub from_place : Option ℕ → List ℕ → List ℕ
+from_place None line = line
+from_place (Some place) line = drop place line
+
+-- a line after the time at its start: from the first blank on
+abbrev pub after_time : List ℕ → List ℕ
+after_time line = from_place (position (λ octet. octet == 32) line) line
+
+-- a line is written with this time in UTC, in milliseconds since 1970, in place of that of the run; unless its year has five digits
+abbrev pub StampsUtc : (at : ℕ) → (line written : List ℕ) → Type 0
+StampsUtc at line written =
+    ((d : Date) × IsDate (at / day_length) d × (written ≡ utc_text d (at % day_length) ++ after_time line))
+    ⊎ ((days_of_years years_most ≤ at / day_length) × (written ≡ line))
+
+-- a line is written with the time that the log has
+abbrev pub Stamps : LogTime → (at : ℕ) → (line written : List ℕ) → Type 0
+Stamps Run at line written = written ≡ line
+Stamps Utc at line written = StampsUtc at line written
+
+-- the time in UTC, in milliseconds since 1970, at a time of the run
+abbrev pub utc_at : Log → ℕ → ℕ
+utc_at log now = min (log.zero + now) (2 ^ 64 - 1)
+
+-- a line was written to the log at this time of the run
+abbrev pub Logs : Log → ℕ → List ℕ → Option (List ℕ) → Option (List ℕ) → Type 0
+Logs log now line before after = (written : List ℕ) × Stamps log.time (utc_at log now) line written × Appends before after written
+
+-- a line was written to the log, or nothing
+abbrev pub LogsIf : Bool → Log → ℕ → List ℕ → Option (List ℕ) → Option (List ℕ) → Type 0
+LogsIf true log now line before after = Logs log now line before after
+LogsIf false log now line before after = Appends before after []
+
+-- an event was logged, if it is one that the log has
+abbrev pub LogsEvent : Bool → Log → ℕ → Happening → Option (List ℕ) → Option (List ℕ) → Type 0
+LogsEvent told log now h before after = LogsIf told log now (log_line now log.side (happening_text h)) before after
+
+-- a notice was logged, if there is one and the log is not off
+abbrev pub LogsNotice : Option Notice → Log → ℕ → Option (List ℕ) → Option (List ℕ) → Type 0
+LogsNotice None log now before after = Appends before after []
+LogsNotice (Some notice) log now before after = LogsIf (not (is_off log.level)) log now (notice_line now log.side notice) before after
+
+-- an event of a channel was logged, if there is one and the log is not off
+abbrev pub LogsSome : Option Happening → Log → ℕ → Option (List ℕ) → Option (List ℕ) → Type 0
+LogsSome None log now before after = Appends before after []
+LogsSome (Some h) log now before after = LogsEvent (not (is_off log.level)) log now h before after
+
+-- the change of a channel, numbered from 1, was logged, if it is one and the log is not off
+abbrev pub LogsChange : Said → (channel : ℕ) → Log → ℕ → Option (List ℕ) → Option (List ℕ) → Type 0
+LogsChange said channel log now before after = LogsSome (said_event said channel) log now before after
