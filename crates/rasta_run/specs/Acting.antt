@@ -1,11 +1,13 @@
 -- One or two ends that run: what they leave undone, how they are at the end, and when they are over.
-use Rattle.std.specs.Prelude.{ℕ, ◌+◌, ◌-◌, ◌^◌, ◌==◌, min, max, length, Bool, true, Option, Some, None}
+use Rattle.std.specs.Prelude.{ℕ, ◌+◌, ◌-◌, ◌^◌, ◌==◌, ◌&&◌, ◌||◌, not, min, max, length, Bool, true, false, Option, Some, None}
 use Rattle.rasta_run.specs.Progress as progress
 use Rattle.rasta_run.specs.Standing.{meets}
 use Rattle.rasta_run.specs.Undone as undone
 use Rattle.rasta_run.specs.declared.turns.Actor.{Actor}
 use Rattle.rasta_run.specs.declared.undone.Undone.{Undone}
 use Rattle.rasta_words.specs.declared.status.Expected.{Expected}
+use Rattle.rasta_words.specs.declared.status.RunLength.{RunLength}
+use Rattle.rasta_words.specs.declared.status.RunLength.TheVariants.{Turns, UntilEnd}
 use Rattle.stack_end.specs.Certain.{confirmed_in}
 use Rattle.stack_end.specs.EndValue.{inside}
 use Rattle.stack_end.specs.Turns.{is_settled}
@@ -27,6 +29,20 @@ stands expected lines a = meets expected (inside a.end).upper.session.phase (is_
 abbrev pub second_stands : {C A : Type 0} → Option Expected → Option (Actor C A) → Bool
 second_stands expected None = true
 second_stands expected (Some a) = stands expected 0 a
+
+-- nothing is left undone by the second end, if there is one
+abbrev pub second_done : {C A : Type 0} → Option (Actor C A) → Bool
+second_done None = true
+second_done (Some a) = undone.is_nothing (left_by a 0)
+
+-- a run lasts until its input ends
+abbrev pub is_until_end : RunLength → Bool
+is_until_end UntilEnd = true
+is_until_end (Turns count) = false
+
+-- nothing is left undone that a run was to do: one of counted turns leaves nothing undone
+abbrev pub is_finished : {C A : Type 0} → RunLength → (lines : ℕ) → Actor C A → Option (Actor C A) → Bool
+is_finished length lines a b = not (is_until_end length) || (undone.is_nothing (left_by a lines) && second_done b)
 
 -- when an end gives up
 abbrev pub limit_of : {C A : Type 0} → Actor C A → ℕ

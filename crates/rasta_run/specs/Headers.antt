@@ -1,5 +1,5 @@
 -- The fields of a datagram, in bytes that may not be a PDU at all.
-use Rattle.std.specs.Prelude.{ℕ, nat_lt, List, length, drop, Option, Some, None, if◌then◌else◌}
+use Rattle.std.specs.Prelude.{ℕ, ◌-◌, nat_lt, List, [], length, take, drop, Option, Some, None, if◌then◌else◌}
 use Rattle.byteorder.specs.Endian.{little_number}
 use Rattle.safe_pdu.specs.declared.Kind.{Kind}
 use Rattle.safe_pdu.specs.Places.{kind_of}
@@ -18,3 +18,9 @@ header_seen octets =
 -- the type of the safety PDU, if there are enough bytes and a type has this number
 abbrev pub kind_seen : List ℕ → Option Kind
 kind_seen octets = if nat_lt (length octets) 12 then None else kind_of (number_at 2 10 octets)
+
+-- the bytes between the headers of both layers and a safety code of this length, if there are enough
+abbrev pub body_seen : List ℕ → (code : ℕ) → List ℕ
+body_seen octets code =
+    if nat_lt (length octets - code) 36 then []
+    else take (length octets - code - 36) (drop 36 octets)

@@ -6,7 +6,7 @@ use Rattle.pdu_text.specs.Lines.{joined}
 use Rattle.pdu_text.specs.Names.{side_name}
 use Rattle.pdu_text.specs.Pieces.{three_digits}
 use Rattle.rasta_run.specs.declared.noticing.Notice.{Notice}
-use Rattle.rasta_run.specs.declared.noticing.Notice.TheVariants.{Deaf, Receives, InDoubt, NoTurn, Fruitless, Session, Unread}
+use Rattle.rasta_run.specs.declared.noticing.Notice.TheVariants.{Deaf, Receives, SendsFail, SendsSucceed, Unanswered, Drops, WrongRequest, InDoubt, NoTurn, Fruitless, Session, Unread}
 
 -- receptions succeed again, after this many turns in which one failed
 unfoldable pub receives_text : ℕ → List ℕ
@@ -29,10 +29,33 @@ fruitless_text count =
 unfoldable pub session_text : ℕ → List ℕ
 session_text count = joined (codes "a session again, after " ∷ decimal count ∷ codes " openings without one" ∷ [])
 
+-- sends on this channel, from 1, fail
+unfoldable pub sends_fail_text : ℕ → List ℕ
+sends_fail_text channel = joined (codes "sends on channel " ∷ decimal channel ∷ codes " fail: the system refuses them" ∷ [])
+
+-- sends on this channel succeed again, after this many that failed
+unfoldable pub sends_succeed_text : (channel failed : ℕ) → List ℕ
+sends_succeed_text channel failed =
+    joined (codes "sends on channel " ∷ decimal channel ∷ codes " succeed again: none failed for T_max; " ∷ decimal failed ∷ codes " failed before" ∷ [])
+
+-- a requested retransmission did not come for this many milliseconds
+unfoldable pub unanswered_text : ℕ → List ℕ
+unanswered_text milliseconds =
+    joined (codes "the requested retransmission did not come: " ∷ decimal milliseconds ∷ codes " ms from the request to the end of the connection" ∷ [])
+
+-- this many more datagrams were dropped, for causes that are logged
+unfoldable pub drops_text : ℕ → List ℕ
+drops_text count = joined (codes "dropped " ∷ decimal count ∷ codes " more datagrams, for causes that are logged" ∷ [])
+
 -- the text of a notice
 abbrev pub notice_text : Notice → List ℕ
 notice_text Deaf = codes "a reception fails: the system refuses it"
 notice_text (Receives turns) = receives_text turns
+notice_text (SendsFail channel) = sends_fail_text channel
+notice_text (SendsSucceed channel failed) = sends_succeed_text channel failed
+notice_text (Unanswered milliseconds) = unanswered_text milliseconds
+notice_text (Drops count) = drops_text count
+notice_text WrongRequest = codes "a connection request came, which only an interlocking makes: the peer is one, too"
 notice_text (InDoubt count) = in_doubt_text count
 notice_text (NoTurn milliseconds) = no_turn_text milliseconds
 notice_text (Fruitless count) = fruitless_text count

@@ -5,6 +5,8 @@ use Rattle.pdu_text.specs.declared.lines.Happening.{Happening}
 use Rattle.pdu_text.specs.declared.lines.Happening.TheVariants as happening
 use Rattle.red_layer.specs.declared.RedEvent.{RedEvent}
 use Rattle.safe_machine.specs.declared.DropCause.{DropCause}
+use Rattle.safe_pdu.specs.declared.Kind.{Kind}
+use Rattle.safe_pdu.specs.declared.Kind.TheVariants.{ConnReq, ConnResp, RetrReq, RetrResp, DiscReq, Heartbeat, Data, RetrData}
 use Rattle.safe_machine.specs.declared.Step.{Step}
 use Rattle.safe_machine.specs.declared.Step.TheVariants as step
 use Rattle.rasta_run.specs.Counting.{channel_under, closing_after, dropped_on, one_more, sent_on}
@@ -12,6 +14,30 @@ use Rattle.rasta_run.specs.Headers.{header_seen, kind_seen}
 use Rattle.rasta_run.specs.Telling.{drop_cause, event_cause, last_of, made_told}
 use Rattle.rasta_run.specs.declared.header.Header.{Header}
 use Rattle.rasta_run.specs.declared.recorder.Recorder.{Recorder}
+
+-- a datagram of this type requests a connection
+abbrev pub is_request : Option Kind → Bool
+is_request (Some ConnReq) = true
+is_request (Some ConnResp) = false
+is_request (Some RetrReq) = false
+is_request (Some RetrResp) = false
+is_request (Some DiscReq) = false
+is_request (Some Heartbeat) = false
+is_request (Some Data) = false
+is_request (Some RetrData) = false
+is_request None = false
+
+-- the last datagram with the type of a Data, after one more of this type
+abbrev pub data_after : Option Kind → (datagram before : List ℕ) → List ℕ
+data_after (Some Data) datagram before = datagram
+data_after (Some ConnReq) datagram before = before
+data_after (Some ConnResp) datagram before = before
+data_after (Some RetrReq) datagram before = before
+data_after (Some RetrResp) datagram before = before
+data_after (Some DiscReq) datagram before = before
+data_after (Some Heartbeat) datagram before = before
+data_after (Some RetrData) datagram before = before
+data_after None datagram before = before
 
 -- an event is kept at the place of its number
 abbrev pub with_event : Happening → Recorder → Recorder

@@ -1,5 +1,5 @@
 -- The events that are recorded for the log.
-use Rattle.std.specs.Prelude.{ℕ, Bool, true, false, not, ◌&&◌, ◌||◌, ◌-◌, ◌%◌, nat_le, nat_lt, List, slice_index_or, Option, Some, None, if◌then◌else◌}
+use Rattle.std.specs.Prelude.{ℕ, Bool, true, false, not, ◌&&◌, ◌||◌, ◌+◌, ◌-◌, ◌^◌, ◌%◌, min, nat_eq, nat_le, nat_lt, List, [], slice_index_or, Option, Some, None, if◌then◌else◌}
 use Rattle.end_settings.specs.declared.Side.{Side}
 use Rattle.end_settings.specs.declared.Side.TheVariants.{Interlocking, FieldElement}
 use Rattle.red_layer.specs.declared.RedEvent.{RedEvent}
@@ -11,6 +11,8 @@ use Rattle.pdu_text.specs.declared.causes.Cause.{Cause}
 use Rattle.pdu_text.specs.declared.causes.Cause.TheVariants.{Early, Part, Stranger}
 use Rattle.pdu_text.specs.declared.lines.Happening.{Happening}
 use Rattle.pdu_text.specs.declared.lines.Happening.TheVariants.{State, Phase, Anew, Left, PeerLeft, Asked, Resent, PutRefused, InitRefused, Silent, Heard, Dropped}
+use Rattle.pdu_text.specs.MessageText.{unit_lines}
+use Rattle.rasta_run.specs.Headers.{body_seen}
 use Rattle.rasta_run.specs.Standing.{is_up}
 use Rattle.rasta_words.specs.declared.status.LogLevel.{LogLevel}
 use Rattle.rasta_words.specs.declared.status.LogLevel.TheVariants as level
@@ -24,6 +26,8 @@ use Rattle.stack_end.specs.declared.departure.Departure.{Departure as Stated}
 use Rattle.stack_end.specs.declared.departure.Leaver.{Leaver}
 use Rattle.stack_end.specs.declared.departure.Leaver.TheVariants as by
 use Rattle.rasta_run.specs.declared.header.Header.{Header}
+use Rattle.rasta_run.specs.declared.noticing.Notice.{Notice}
+use Rattle.rasta_run.specs.declared.noticing.Notice.TheVariants.{Drops, Unanswered, WrongRequest}
 
 -- why the redundancy layer dropped a datagram; none if it did not
 abbrev pub event_cause : RedEvent → Option Cause
@@ -189,6 +193,88 @@ is_repeat (Early event.Full) = false
 is_repeat (Early (event.Fault why)) = false
 is_repeat (Part why) = false
 is_repeat (Stranger sender receiver) = false
+
+-- the number of datagrams dropped for known causes, after one more was dropped
+abbrev pub drops_after : (new : Bool) → Cause → ℕ → ℕ
+drops_after new why drops = if new || is_repeat why then drops else min (drops + 1) (2 ^ 64 - 1)
+
+-- the same after an event, if its cause is known or none
+abbrev pub drops_with : Option Cause → (new : Bool) → ℕ → ℕ
+drops_with None new drops = drops
+drops_with (Some why) new drops = drops_after new why drops
+
+-- the same after any event: only the level of states leaves drops out
+abbrev pub drops_by : LogLevel → (new : Bool) → Happening → ℕ → ℕ
+drops_by level.State new h drops = drops_with (dropped_cause h) new drops
+drops_by level.Off new h drops = drops
+drops_by level.All new h drops = drops
+
+-- datagrams dropped for known causes are to be logged: there are some, and the last count is a minute ago
+abbrev pub are_drops_due : (drops at now : ℕ) → Bool
+are_drops_due drops at now = nat_lt 0 drops && nat_le 60_000 (now - at)
+
+-- the notice of them
+abbrev pub drops_notice : (due : Bool) → (drops : ℕ) → Option Notice
+drops_notice true drops = Some (Drops drops)
+drops_notice false drops = None
+
+-- the time so far, or now
+abbrev pub since : Option ℕ → ℕ → ℕ
+since None now = now
+since (Some at) now = at
+
+-- since when a retransmission is awaited
+abbrev pub asked_by : Option ℕ → ConnectionState → ℕ → Option ℕ
+asked_by before state.RetrReq now = Some (since before now)
+asked_by before state.Closed now = None
+asked_by before state.Down now = None
+asked_by before state.Start now = None
+asked_by before state.Up now = None
+asked_by before state.RetrRun now = None
+
+-- the notice of a retransmission that was awaited when the connection ended
+abbrev pub awaited_notice : Option ℕ → ℕ → Option Notice
+awaited_notice None now = None
+awaited_notice (Some at) now = Some (Unanswered (now - at))
+
+-- the same, if the connection is closed
+abbrev pub request_notice : Option ℕ → ConnectionState → ℕ → Option Notice
+request_notice asked state.Closed now = awaited_notice asked now
+request_notice asked state.Down now = None
+request_notice asked state.Start now = None
+request_notice asked state.Up now = None
+request_notice asked state.RetrReq now = None
+request_notice asked state.RetrRun now = None
+
+-- a connection request that came is one that no peer may make: that at an interlocking
+abbrev pub is_wrong_request : Side → (came : Bool) → Bool
+is_wrong_request Interlocking came = came
+is_wrong_request FieldElement came = false
+
+-- the notice of the first one
+abbrev pub wrong_request_notice : (first : Bool) → Option Notice
+wrong_request_notice true = Some WrongRequest
+wrong_request_notice false = None
+
+-- the end itself disconnects for a fault of the session
+abbrev pub is_session_fault : Happening → Bool
+is_session_fault (Left leaving) = nat_eq leaving.reason 4
+is_session_fault (State s) = false
+is_session_fault (Phase p) = false
+is_session_fault (Anew number) = false
+is_session_fault (PeerLeft leaving) = false
+is_session_fault Asked = false
+is_session_fault Resent = false
+is_session_fault (PutRefused fault) = false
+is_session_fault (InitRefused fault) = false
+is_session_fault (Silent channel) = false
+is_session_fault (Heard channel) = false
+is_session_fault (Dropped channel why) = false
+
+-- the messages of a Data with a safety code of this length, if they are shown
+abbrev pub data_lines : (shown : Bool) → (octets : List ℕ) → (code : ℕ) → List ℕ
+data_lines true octets code = unit_lines Data (body_seen octets code)
+data_lines false octets code = []
 
 -- nothing is logged
 abbrev pub is_off : LogLevel → Bool

@@ -4,6 +4,10 @@ use Rattle.std.specs.Fmt.{decimal}
 use Rattle.udp_channels.specs.declared.udp.UdpFault.{UdpFault}
 use Rattle.udp_channels.specs.declared.udp.UdpFault.TheVariants as udp
 use Rattle.end_settings.specs.declared.Side.{Side}
+use Rattle.end_settings.specs.declared.Side.TheVariants as side
+use Rattle.settings_file.specs.declared.values.Ends.{Ends}
+use Rattle.settings_file.specs.declared.values.Ends.TheVariants as ends
+use Rattle.settings_file.specs.declared.values.Settings.{Settings as Entry}
 use Rattle.pdu_text.specs.Lines.{joined}
 use Rattle.pdu_text.specs.Names.{side_name}
 use Rattle.rasta_words.specs.declared.status.Fault.{Fault}
@@ -30,6 +34,13 @@ fault_of_stop (stopped.Unopened u) = fault_of u.fault
 abbrev pub fault_of_end : OpenFault → Fault
 fault_of_end end.BadConfig = Settings
 fault_of_end end.Memory = Memory
+
+-- the settings of the end of this side, or those of the only end
+abbrev pub settings_of : Ends → Side → Entry
+settings_of (ends.Il il) side = il
+settings_of (ends.Fe fe) side = fe
+settings_of (ends.Pair il fe) side.Interlocking = il
+settings_of (ends.Pair il fe) side.FieldElement = fe
 
 -- whose address it is
 abbrev pub whose_text : Bool → List ℕ

@@ -1,7 +1,7 @@
 //! The fields of datagrams that the log names. The end itself tests whether a datagram is a PDU; this does not.
 
 ghost use Rattle.std.specs.Prelude.{◌≡◌};
-ghost use Rattle.rasta_run.specs.Headers.{header_seen, kind_seen};
+ghost use Rattle.rasta_run.specs.Headers.{body_seen, header_seen, kind_seen};
 
 use octets::places::{u16_at, u32_at};
 use safe_pdu::Kind;
@@ -11,6 +11,9 @@ const KIND_END: usize = 12;
 
 /// Where the identifier of the sender ends.
 const SENDER_END: usize = 20;
+
+/// Where the body of the safety PDU begins.
+const BODY: usize = 36;
 
 /// The number and the identifiers in a datagram.
 #[derive(Clone, Copy, Debug, PartialEq, Eq)]
@@ -48,4 +51,17 @@ pub fn kind_of(datagram: &[u8]) -> Option<Kind>
         return None;
     }
     Kind::of(u16_at(datagram, 10))
+}
+
+/// Returns the body of the safety PDU in a datagram with a safety code of this length in bytes; empty if there are too
+/// few bytes.
+pub(crate) fn body_of(datagram: &[u8], code: usize) -> &[u8]
+    // `body_of` returns the bytes between the 36 bytes of both headers and the safety code.
+    ensures { result.now ≡ body_seen datagram.now code }
+{
+    let end = datagram.len().saturating_sub(code);
+    if end < BODY {
+        return &[];
+    }
+    &datagram[BODY..end]
 }

@@ -3,7 +3,7 @@
 //! The events of a turn are kept in a ring of 256 and logged after the reception; the log says how many were left
 //! out.
 
-ghost use Rattle.std.specs.Prelude.{◌≡◌, ◌+◌, ◌<◌, Bool, Some, false, nat_le, slice_index_or, slice_set, true, OnOk, if◌then◌else◌};
+ghost use Rattle.std.specs.Prelude.{◌≡◌, ◌+◌, ◌<◌, ◌&&◌, ◌||◌, not, Bool, None, Some, false, nat_le, slice_index_or, slice_set, true, OnOk, if◌then◌else◌};
 ghost use Rattle.octets.specs.declared.limits.TheConstants.{CHANNELS_MAX};
 ghost use Rattle.std.specs.Io.KnownBytes.{Appends};
 ghost use Rattle.rasta_run.specs.Silence.{heard_now, hears, hears_all, hears_at, said_of, unheard};
@@ -12,27 +12,35 @@ ghost use Rattle.pdu_text.specs.Endings.{ending_text};
 ghost use Rattle.pdu_text.specs.LogLines.{channel_text, missed_text};
 ghost use Rattle.pdu_text.specs.Pieces.{log_line};
 ghost use Rattle.rasta_run.specs.Noticing.{notice_line};
+ghost use Rattle.rasta_run.specs.Sending.{sends_all, sends_at, sends_notice, sends_now, unsent};
 ghost use Rattle.rasta_run.specs.Telling as telling;
 ghost use Rattle.stack_end.specs.EndValue.{inside};
 
-use crate::Recorder;
-use crate::noticing::{Notice, write_notice};
+use crate::events::{
+    departure_told, dropped_cause, drops_after, explanation_of, is_of_opening, is_repeat,
+    is_session_fault, quiet_after,
+};
+use crate::header::body_of;
+use crate::noticing::{
+    Notice, are_drops_due, asked_by, drops_notice, is_wrong_request, request_notice, write_notice,
+    wrong_request_notice,
+};
+use crate::sending::Sending;
 use crate::stamping::{write_stamped, zero_of};
+use crate::{ChannelCounts, Recorder};
 use arrayvec::ArrayVec;
 use end_settings::Side;
 use octets::Milliseconds;
 use octets::limits::CHANNELS_MAX;
-use pdi_session::Phase;
 use pdu_text::{
-    Cause, Departure, Ending, Happening, write_channel, write_ending, write_happening,
+    Cause, Departure, Ending, Happening, show_body, write_channel, write_ending, write_happening,
     write_missed, write_text,
 };
 use rasta_words::{LogLevel, LogTime};
-use red_layer::RedEvent;
 use safe_machine::ConnectionState;
-use safe_pdu::Leaving;
+use safe_pdu::Kind;
 use settings_file::Settings;
-use stack_end::{End, Leaver, Listener, Statistics};
+use stack_end::{End, Listener, Statistics};
 use std::alloc::Allocator;
 use std::io;
 use std::io::Write;
@@ -119,6 +127,18 @@ pub struct Log {
     cause_count: usize,
     /// Whether openings are only counted, because several in a row got no session.
     is_quiet: bool,
+    /// The number of datagrams dropped for these causes since that was last logged.
+    drops: u64,
+    /// When that was, in milliseconds.
+    drops_at: Milliseconds,
+    /// How the sends of each channel go.
+    sends: [Sending; CHANNELS_MAX],
+    /// Since when a retransmission is awaited, in milliseconds, if one is.
+    asked: Option<u64>,
+    /// Whether it was logged that a connection request came at an interlocking.
+    has_request: bool,
+    /// The length of the safety code, in bytes.
+    code: usize,
 }
 
 impl Log {
@@ -132,7 +152,9 @@ impl Log {
     ) -> Self
         // A new log is of this end, with this level, this time in its lines and the T_max of the settings.
         ensures { (result.side ≡ side) × (result.level ≡ level) × (result.time ≡ time)
-            × (result.t_max ≡ settings.now.config.t_max) × (result.told ≡ 0) × (result.is_quiet ≡ false) }
+            × (result.t_max ≡ settings.now.config.t_max) × (result.told ≡ 0) × (result.is_quiet ≡ false)
+            × (result.drops ≡ 0) × (result.drops_at ≡ now) × (result.asked ≡ None)
+            × (result.has_request ≡ false) × (result.code ≡ settings.now.config.code) }
     {
         let unheard = Listening {
             came: 0,
@@ -151,6 +173,12 @@ impl Log {
             causes: [None; CAUSES_MAX],
             cause_count: 0,
             is_quiet: false,
+            drops: 0,
+            drops_at: now,
+            sends: [Sending::none(now); CHANNELS_MAX],
+            asked: None,
+            has_request: false,
+            code: settings.config.code as usize,
         }
     }
 
@@ -207,7 +235,15 @@ impl Log {
         let mut missed = 0u64;
         'events: for number in self.told..recorder.happened {
             match recorder.happening(number) {
-                Some(happening) => self.tell_explained(happening, departure, now, err),
+                Some(happening) => {
+                    self.tell_explained(
+                        happening,
+                        departure,
+                        recorder.last_data.as_slice(),
+                        now,
+                        err,
+                    );
+                }
                 None => missed = missed.wrapping_add(1),
             }
         }
@@ -229,25 +265,47 @@ impl Log {
         self.pass(line.as_slice(), now, err)
     }
 
-    /// Logs one event, after the one that explains it.
+    /// Logs one event, after the one that explains it. If that is a fault of the session, the messages of the last Data
+    /// follow.
     fn tell_explained<E: Write>(
         &mut self,
         happening: Happening,
         departure: Option<Departure>,
+        last: &[u8],
         now: Milliseconds,
         err: &mut E,
     )
-        // `tell_explained` changes only which causes are known, and whether openings are only counted.
+        // `tell_explained` changes only which causes are known, how often they came, and whether openings are only counted.
         ensures { self.new ≡ record self.old {
           causes = self.new.causes;
           cause_count = self.new.cause_count;
           is_quiet = self.new.is_quiet;
+          drops = self.new.drops;
         } }
     {
         if let Some(explanation) = explanation_of(happening, departure) {
             let _ = self.tell(explanation, now, err);
+            let _ = self.show_data(explanation, last, err);
         }
         let _ = self.tell(happening, now, err);
+    }
+
+    /// Writes the messages of a Data, as `rasta show` does, if the event is that the end disconnects for a fault of the
+    /// session, and is logged.
+    ///
+    /// # Errors
+    ///
+    /// - The error of the writer; what it wrote before stays written.
+    fn show_data<E: Write>(&self, event: Happening, last: &[u8], err: &mut E) -> io::Result<()>
+        // If `show_data` succeeds, it has appended the lines of the messages for such an event, and else nothing.
+        ensures { OnOk result (Appends (E.contents err.old) (E.contents err.new)
+            (telling.data_lines (telling.is_session_fault event && (not self.now.is_quiet && not (telling.is_off self.now.level))) last.now self.now.code)) }
+    {
+        if self.is_quiet || self.is_off() || !is_session_fault(event) {
+            return write_text(err, "");
+        }
+        let _clean = show_body(err, Kind::Data, body_of(last, self.code))?;
+        Ok(())
     }
 
     /// Logs one event, if the level includes it. At the level of states each cause for dropping is logged once, and
@@ -268,11 +326,12 @@ impl Log {
             self.new now happening (E.contents err.old) (E.contents err.new)) }
         // Once the session is established, `tell` no longer leaves openings out.
         ensures quiet { self.new.is_quiet ≡ telling.quiet_after happening self.old.is_quiet }
-        // `tell` changes only which causes are known, and whether openings are only counted.
+        // `tell` changes only which causes are known, how often they came, and whether openings are only counted.
         ensures kept { self.new ≡ record self.old {
           causes = self.new.causes;
           cause_count = self.new.cause_count;
           is_quiet = self.new.is_quiet;
+          drops = self.new.drops;
         } }
     {
         if !self.tells(happening) {
@@ -321,23 +380,25 @@ impl Log {
 
     /// Returns whether an event is logged, and records its cause.
     fn tells(&mut self, happening: Happening) -> bool
-        // `tells` returns whether the level includes the event; at the level of states a drop counts only if its
-        // cause is `new`.
-        ensures told { (new : Bool) × (result ≡ telling.is_told self.old.level self.new.is_quiet new happening) }
+        // `tells` returns whether the level includes the event; at the level of states a drop is included only if its
+        // cause is `new`, and else it is counted, unless it is a copy.
+        ensures told { (new : Bool) × (result ≡ telling.is_told self.old.level self.new.is_quiet new happening)
+            × (self.new.drops ≡ telling.drops_by self.old.level new happening self.old.drops) }
         // After `tells` openings are only counted if they were before and this is not a session.
         ensures quiet { self.new.is_quiet ≡ telling.quiet_after happening self.old.is_quiet }
-        // `tells` changes only which causes are known, and whether openings are only counted.
+        // `tells` changes only which causes are known, how often they came, and whether openings are only counted.
         ensures kept { self.new ≡ record self.old {
           causes = self.new.causes;
           cause_count = self.new.cause_count;
           is_quiet = self.new.is_quiet;
+          drops = self.new.drops;
         } }
     {
         self.is_quiet = quiet_after(happening, self.is_quiet);
         match (self.level, dropped_cause(happening)) {
             (LogLevel::Off, _) => false,
             (LogLevel::All, _) => true,
-            (LogLevel::State, Some(cause)) => self.is_new(cause),
+            (LogLevel::State, Some(cause)) => self.is_first(cause),
             (LogLevel::State, None) => !(self.is_quiet && is_of_opening(happening)),
         }
     }
@@ -384,6 +445,22 @@ impl Log {
         ensures { self.new ≡ record self.old { is_quiet = is_quiet } }
     {
         self.is_quiet = is_quiet;
+    }
+
+    /// Records a cause for dropping, and returns whether it is new. One that is known is counted, unless it is a copy.
+    fn is_first(&mut self, cause: Cause) -> bool
+        // `is_first` counts a cause that is not new, unless it is that of a copy.
+        ensures drops { self.new.drops ≡ telling.drops_after result cause self.old.drops }
+        // `is_first` changes nothing else but which causes are known.
+        ensures kept { self.new ≡ record self.old {
+          causes = self.new.causes;
+          cause_count = self.new.cause_count;
+          drops = self.new.drops;
+        } }
+    {
+        let is_new = self.is_new(cause);
+        self.drops = drops_after(is_new, cause, self.drops);
+        is_new
     }
 
     /// Records a cause for dropping, and returns whether it is new. A copy of an earlier datagram is none.
@@ -474,6 +551,123 @@ impl Log {
         }
     }
 
+    /// Logs the channels on which sends begin to fail, and those on which they succeed again.
+    pub fn look_at_sends<E: Write>(
+        &mut self,
+        counts: &[ChannelCounts; CHANNELS_MAX],
+        now: Milliseconds,
+        err: &mut E,
+    )
+        // `look_at_sends` compares the counts of each channel of the end with those before; it changes nothing else.
+        ensures { self.new ≡ record self.old {
+          sends = sends_all counts.now self.old.count now self.old.t_max self.old.sends;
+        } }
+    {
+        let _ = self.look_at_send(counts, now, 0, err);
+        let _ = self.look_at_send(counts, now, 1, err);
+        let _ = self.look_at_send(counts, now, 2, err);
+        let _ = self.look_at_send(counts, now, 3, err);
+    }
+
+    /// Logs whether sends on the channel at a place, from 0, begin to fail or succeed again, if the end has it.
+    ///
+    /// # Errors
+    ///
+    /// - The error of the writer; what it wrote before stays written.
+    fn look_at_send<E: Write>(
+        &mut self,
+        counts: &[ChannelCounts; CHANNELS_MAX],
+        now: Milliseconds,
+        place: usize,
+        err: &mut E,
+    ) -> io::Result<()>
+        requires { place < CHANNELS_MAX }
+        // `look_at_send` compares the counts of this channel with those before, and of no other; it changes nothing
+        // else.
+        ensures kept { self.new ≡ record self.old {
+          sends = sends_at counts.now self.old.count now self.old.t_max place self.old.sends;
+        } }
+        // If `look_at_send` succeeds, it has appended the line of the channel's change, or nothing.
+        ensures told { OnOk result (LogsNotice (if nat_le self.old.count place then None
+            else sends_notice (slice_index_or self.old.sends place (unsent 0)) (sends_now self.old.sends counts.now place now self.old.t_max)
+            (place + 1)) self.new now (E.contents err.old) (E.contents err.new)) }
+    {
+        if place >= self.count {
+            return write_text(err, "");
+        }
+        let notice = self.sends[place].look(&counts[place], place + 1, now, self.t_max);
+        self.notice(notice, now, err)
+    }
+
+    /// Logs a requested retransmission that has not come, if the end is now closed.
+    ///
+    /// # Errors
+    ///
+    /// - The error of the writer; what it wrote before stays written.
+    pub fn look_at_request<E: Write>(
+        &mut self,
+        state: ConnectionState,
+        now: Milliseconds,
+        err: &mut E,
+    ) -> io::Result<()>
+        // `look_at_request` records since when a retransmission is awaited; it changes nothing else.
+        ensures kept { self.new ≡ record self.old { asked = telling.asked_by self.old.asked state now } }
+        // If `look_at_request` succeeds, it has appended the line of a retransmission that was awaited when the
+        // connection ended, or nothing.
+        ensures told { OnOk result (LogsNotice (telling.request_notice self.old.asked state now) self.new now
+            (E.contents err.old) (E.contents err.new)) }
+    {
+        let notice = request_notice(self.asked, state, now);
+        self.asked = asked_by(self.asked, state, now);
+        self.notice(notice, now, err)
+    }
+
+    /// Logs once that a connection request came at an interlocking, which its peer must not make.
+    ///
+    /// # Errors
+    ///
+    /// - The error of the writer; what it wrote before stays written.
+    pub fn look_for_request<E: Write>(
+        &mut self,
+        came: bool,
+        now: Milliseconds,
+        err: &mut E,
+    ) -> io::Result<()>
+        // `look_for_request` records that a request came at an interlocking; it changes nothing else.
+        ensures kept { self.new ≡ record self.old { has_request = self.old.has_request || telling.is_wrong_request self.old.side came } }
+        // If `look_for_request` succeeds, it has appended the line of such a request, if it is the first one.
+        ensures told { OnOk result (LogsNotice (telling.wrong_request_notice (not self.old.has_request && telling.is_wrong_request self.old.side came))
+            self.new now (E.contents err.old) (E.contents err.new)) }
+    {
+        let is_wrong = is_wrong_request(self.side, came);
+        let notice = wrong_request_notice(!self.has_request && is_wrong);
+        self.has_request = self.has_request || is_wrong;
+        self.notice(notice, now, err)
+    }
+
+    /// Logs how many datagrams were dropped for causes that are logged, at most once a minute.
+    ///
+    /// # Errors
+    ///
+    /// - The error of the writer; what it wrote before stays written.
+    pub fn tell_drops<E: Write>(&mut self, now: Milliseconds, err: &mut E) -> io::Result<()>
+        // If there are some and the last count is a minute ago, `tell_drops` begins to count again; else it changes
+        // nothing.
+        ensures kept { self.new ≡ (if telling.are_drops_due self.old.drops self.old.drops_at now
+            then record self.old { drops = 0; drops_at = now } else self.old) }
+        // If `tell_drops` succeeds, it has appended the line with their number, if that is due, or nothing.
+        ensures told { OnOk result (LogsNotice (telling.drops_notice (telling.are_drops_due self.old.drops self.old.drops_at now)
+            self.old.drops) self.new now (E.contents err.old) (E.contents err.new)) }
+    {
+        let is_due = are_drops_due(self.drops, self.drops_at, now);
+        let notice = drops_notice(is_due, self.drops);
+        if is_due {
+            self.drops = 0;
+            self.drops_at = now;
+        }
+        self.notice(notice, now, err)
+    }
+
     /// Returns how an end disconnected, if it had a connection: a field element has none before it accepts a ConnReq.
     pub fn departure<C: Listener, A: Allocator>(&self, end: &End<C, A>) -> Option<Departure>
         // `departure` returns how the end came to be closed, and `None` for a field element that accepted no ConnReq.
@@ -512,90 +706,6 @@ impl Log {
         match self.level {
             LogLevel::Off => true,
             LogLevel::State | LogLevel::All => false,
-        }
-    }
-}
-
-/// Returns the cause of a drop, if the event is one.
-fn dropped_cause(happening: Happening) -> Option<Cause>
-    // `dropped_cause` returns the cause of a dropped datagram, and `None` for any other event.
-    ensures { result ≡ telling.dropped_cause happening }
-{
-    match happening {
-        Happening::Dropped(_, cause) => Some(cause),
-        _ => None,
-    }
-}
-
-/// Returns whether an event is one of an opening that gets no session.
-fn is_of_opening(happening: Happening) -> bool
-    // `is_of_opening` is true for a state, a phase, an opening and a departure.
-    ensures { result ≡ telling.is_of_opening happening }
-{
-    match happening {
-        Happening::State(_)
-        | Happening::Phase(_)
-        | Happening::Anew(_)
-        | Happening::Left(_)
-        | Happening::PeerLeft(_) => true,
-        _ => false,
-    }
-}
-
-/// Returns whether openings are only counted after an event.
-fn quiet_after(happening: Happening, is_quiet: bool) -> bool
-    // `quiet_after` returns false if the session is established, and else what was before.
-    ensures { result ≡ telling.quiet_after happening is_quiet }
-{
-    match happening {
-        Happening::Phase(phase) => is_quiet && phase != Phase::Established,
-        _ => is_quiet,
-    }
-}
-
-/// Returns whether a cause is that of a datagram that repeats an earlier one.
-fn is_repeat(cause: Cause) -> bool
-    // `is_repeat` is true for datagrams that are old or came before.
-    ensures { result ≡ telling.is_repeat cause }
-{
-    match cause {
-        Cause::Early(RedEvent::Old | RedEvent::Again) => true,
-        _ => false,
-    }
-}
-
-/// Returns the event that explains another one: that of a closed connection, by how the end came to be closed.
-fn explanation_of(happening: Happening, departure: Option<Departure>) -> Option<Happening>
-    // `explanation_of` returns who disconnects for a connection that is closed, and `None` for any other event.
-    ensures { result ≡ telling.explained happening departure }
-{
-    match (happening, departure) {
-        (Happening::State(ConnectionState::Closed), Some(Departure::Own(leaving))) => {
-            Some(Happening::Left(leaving))
-        }
-        (Happening::State(ConnectionState::Closed), Some(Departure::Peer(leaving))) => {
-            Some(Happening::PeerLeft(leaving))
-        }
-        _ => None,
-    }
-}
-
-/// Returns a departure as the log states it.
-fn departure_told(departure: Option<stack_end::Departure>) -> Option<Departure>
-    // `departure_told` returns who disconnected with its reason and detail, and `None` if nobody did.
-    ensures { result ≡ telling.departure_told departure }
-{
-    match departure {
-        None => None,
-        Some(departure) => {
-            let leaving = Leaving {
-                detail: departure.detail,
-                reason: departure.reason,
-            };
-            match departure.by {
-                Leaver::Own => Some(Departure::Own(leaving)),
-                Leaver::Peer => Some(Departure::Peer(leaving)),
-            }
         }
     }
 }

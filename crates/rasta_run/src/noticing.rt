@@ -3,13 +3,18 @@
 ghost use Rattle.std.specs.Prelude.{◌≡◌, OnOk};
 ghost use Rattle.std.specs.Io.KnownBytes.{Appends};
 ghost use Rattle.rasta_run.specs.Noticing as noticing;
+ghost use Rattle.rasta_run.specs.Telling as telling;
 
 use crate::stamping::spell;
 use end_settings::Side;
 use octets::Milliseconds;
 use pdu_text::{side_name, write_text};
+use safe_machine::ConnectionState;
 use std::io;
 use std::io::Write;
+
+/// The least time between two counts of datagrams dropped for causes that are logged, in milliseconds.
+const DROPS_WAIT: u64 = 60_000;
 
 /// What happened to the run of an end.
 #[derive(Clone, Copy, Debug, PartialEq, Eq)]
@@ -18,6 +23,16 @@ pub enum Notice {
     Deaf,
     /// Receptions succeed again, after this many turns in which one failed.
     Receives(u64),
+    /// The system refuses sends on this channel, numbered from 1.
+    SendsFail(usize),
+    /// Sends on this channel succeed again, after this many that failed.
+    SendsSucceed(usize, u64),
+    /// The connection ended this many milliseconds after a retransmission was requested, which did not come.
+    Unanswered(u64),
+    /// This many more datagrams were dropped, for causes that are logged.
+    Drops(u64),
+    /// A connection request came at an interlocking.
+    WrongRequest,
     /// The connection is lost, and this many telegrams were put and not confirmed.
     InDoubt(u64),
     /// The end took no turn for this many milliseconds.
@@ -73,6 +88,14 @@ fn write_what<W: Write>(writer: &mut W, notice: Notice) -> io::Result<()>
     match notice {
         Notice::Deaf => write_text(writer, "a reception fails: the system refuses it"),
         Notice::Receives(turns) => write_receives(writer, turns),
+        Notice::SendsFail(channel) => write_sends_fail(writer, channel),
+        Notice::SendsSucceed(channel, failed) => write_sends_succeed(writer, channel, failed),
+        Notice::Unanswered(milliseconds) => write_unanswered(writer, milliseconds),
+        Notice::Drops(count) => write_drops(writer, count),
+        Notice::WrongRequest => write_text(
+            writer,
+            "a connection request came, which only an interlocking makes: the peer is one, too",
+        ),
         Notice::InDoubt(count) => write_in_doubt(writer, count),
         Notice::NoTurn(milliseconds) => write_no_turn(writer, milliseconds),
         Notice::Fruitless(count) => write_fruitless(writer, count),
@@ -90,6 +113,57 @@ fn write_receives<W: Write>(writer: &mut W, turns: u64) -> io::Result<()>
     write!(
         writer,
         "receptions succeed again; one failed in {turns} turns"
+    )
+}
+
+/// Writes that sends on a channel fail.
+#[tactic(auto, unfolding(crate::specs::Noticing::sends_fail_text))]
+fn write_sends_fail<W: Write>(writer: &mut W, channel: usize) -> io::Result<()>
+    // If `write_sends_fail` succeeds, it has appended the number of the channel.
+    ensures { OnOk result (Appends (W.contents writer.old) (W.contents writer.new)
+        (noticing.sends_fail_text channel)) }
+{
+    write!(
+        writer,
+        "sends on channel {channel} fail: the system refuses them"
+    )
+}
+
+/// Writes that sends on a channel succeed again.
+#[tactic(auto, unfolding(crate::specs::Noticing::sends_succeed_text))]
+fn write_sends_succeed<W: Write>(writer: &mut W, channel: usize, failed: u64) -> io::Result<()>
+    // If `write_sends_succeed` succeeds, it has appended the numbers of the channel and of the sends that failed.
+    ensures { OnOk result (Appends (W.contents writer.old) (W.contents writer.new)
+        (noticing.sends_succeed_text channel failed)) }
+{
+    write!(
+        writer,
+        "sends on channel {channel} succeed again: none failed for T_max; {failed} failed before"
+    )
+}
+
+/// Writes that a requested retransmission did not come.
+#[tactic(auto, unfolding(crate::specs::Noticing::unanswered_text))]
+fn write_unanswered<W: Write>(writer: &mut W, milliseconds: u64) -> io::Result<()>
+    // If `write_unanswered` succeeds, it has appended the time from the request to the end of the connection.
+    ensures { OnOk result (Appends (W.contents writer.old) (W.contents writer.new)
+        (noticing.unanswered_text milliseconds)) }
+{
+    write!(
+        writer,
+        "the requested retransmission did not come: {milliseconds} ms from the request to the end of the connection"
+    )
+}
+
+/// Writes how many more datagrams were dropped.
+#[tactic(auto, unfolding(crate::specs::Noticing::drops_text))]
+fn write_drops<W: Write>(writer: &mut W, count: u64) -> io::Result<()>
+    // If `write_drops` succeeds, it has appended the number of datagrams.
+    ensures { OnOk result (Appends (W.contents writer.old) (W.contents writer.new) (noticing.drops_text count)) }
+{
+    write!(
+        writer,
+        "dropped {count} more datagrams, for causes that are logged"
     )
 }
 
@@ -140,4 +214,72 @@ fn write_session<W: Write>(writer: &mut W, count: u64) -> io::Result<()>
         writer,
         "a session again, after {count} openings without one"
     )
+}
+
+/// Returns whether datagrams dropped for known causes are to be logged.
+pub fn are_drops_due(drops: u64, at: Milliseconds, now: Milliseconds) -> bool
+    // `are_drops_due` is true if there are some, and the last count is at least a minute ago.
+    ensures { result ≡ telling.are_drops_due drops at now }
+{
+    drops > 0 && now.saturating_sub(at) >= DROPS_WAIT
+}
+
+/// Returns the notice of datagrams dropped for known causes, if it is due.
+pub fn drops_notice(is_due: bool, drops: u64) -> Option<Notice>
+    // `drops_notice` returns the number if it is due, and else `None`.
+    ensures { result ≡ telling.drops_notice is_due drops }
+{
+    match is_due {
+        true => Some(Notice::Drops(drops)),
+        false => None,
+    }
+}
+
+/// Returns whether a connection request that came is one that no peer may make.
+pub fn is_wrong_request(side: Side, came: bool) -> bool
+    // `is_wrong_request` is true for one that came at an interlocking.
+    ensures { result ≡ telling.is_wrong_request side came }
+{
+    match side {
+        Side::Interlocking => came,
+        Side::FieldElement => false,
+    }
+}
+
+/// Returns the notice of such a request.
+pub fn wrong_request_notice(is_first: bool) -> Option<Notice>
+    // `wrong_request_notice` returns the notice of the first one, and else `None`.
+    ensures { result ≡ telling.wrong_request_notice is_first }
+{
+    match is_first {
+        true => Some(Notice::WrongRequest),
+        false => None,
+    }
+}
+
+/// Returns since when a retransmission is awaited.
+pub fn asked_by(before: Option<u64>, state: ConnectionState, now: Milliseconds) -> Option<u64>
+    // `asked_by` returns the time so far, or `now`, for an end that awaits one, and `None` for any other.
+    ensures { result ≡ telling.asked_by before state now }
+{
+    match (state, before) {
+        (ConnectionState::RetrReq, Some(at)) => Some(at),
+        (ConnectionState::RetrReq, None) => Some(now),
+        _ => None,
+    }
+}
+
+/// Returns the notice of a retransmission that was awaited since `asked`, if the connection is now closed.
+pub fn request_notice(
+    asked: Option<u64>,
+    state: ConnectionState,
+    now: Milliseconds,
+) -> Option<Notice>
+    // `request_notice` returns the time since the request if the connection is closed, and else `None`.
+    ensures { result ≡ telling.request_notice asked state now }
+{
+    match (state, asked) {
+        (ConnectionState::Closed, Some(at)) => Some(Notice::Unanswered(now.saturating_sub(at))),
+        _ => None,
+    }
 }

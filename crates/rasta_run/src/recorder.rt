@@ -1,18 +1,19 @@
 //! The recorder of an end: the events for its log, and what it does not count itself.
 
-ghost use Rattle.std.specs.Prelude.{◌≡◌, ◌%◌, ℕ, List, None, Option, true, false, slice_set};
+ghost use Rattle.std.specs.Prelude.{◌≡◌, ◌≤◌, ◌%◌, ◌||◌, length, ℕ, List, None, Option, true, false, slice_set};
 ghost use Rattle.pdi_session.specs.declared.Phase.{Phase};
 ghost use Rattle.pdu_text.specs.declared.lines.Happening.TheVariants as happening;
 ghost use Rattle.red_layer.specs.declared.RedEvent.{RedEvent};
 ghost use Rattle.safe_machine.specs.declared.ConnectionState.{ConnectionState};
 ghost use Rattle.safe_machine.specs.declared.Step.{Step};
 ghost use Rattle.rasta_run.specs.Counting as counting;
-ghost use Rattle.rasta_run.specs.Headers.{header_seen};
+ghost use Rattle.rasta_run.specs.Headers.{header_seen, kind_seen};
 ghost use Rattle.rasta_run.specs.Recording as recording;
 ghost use Rattle.rasta_run.specs.Telling as telling;
 
 use crate::counts::{ChannelCounts, count_dropped, count_sent};
 use crate::header::{Header, header_of, kind_of};
+use arrayvec::ArrayVec;
 use octets::limits::CHANNELS_MAX;
 use pdu_text::{Cause, Happening};
 use red_layer::RedEvent;
@@ -23,6 +24,9 @@ use stack_end::Note;
 /// The greatest number of events that are kept. A turn receives at most 64 datagrams, and few of them make more
 /// than two events.
 const KEPT: usize = 256;
+
+/// The longest datagram, in bytes.
+const DATAGRAM_MAX: usize = 1_258;
 
 /// The recorder of an end. If it does not listen, it keeps nothing, and costs one test a datagram.
 #[derive(Drop)]
@@ -37,6 +41,10 @@ pub struct Recorder {
     pub last_cause: Option<Cause>,
     /// The channel of the last datagram received, and the fields of its header.
     came: (usize, Option<Header>),
+    /// Whether a datagram with the type of a ConnReq came.
+    pub has_request: bool,
+    /// The last datagram with the type of a Data.
+    pub last_data: ArrayVec<u8, DATAGRAM_MAX>,
     /// The events, each at the place of its number.
     pub kept: [Happening; KEPT],
     /// The number of events so far, modulo 2^64.
@@ -56,6 +64,8 @@ impl Recorder {
         ensures closing { result.closing ≡ 0 }
         // In a new recorder no datagram was dropped.
         ensures last_cause { result.last_cause ≡ None }
+        // In a new recorder no ConnReq has come.
+        ensures request { result.has_request ≡ false }
     {
         Recorder {
             listens,
@@ -63,6 +73,8 @@ impl Recorder {
             closing: 0,
             last_cause: None,
             came: (0, None),
+            has_request: false,
+            last_data: ArrayVec::new(),
             kept: [Happening::Asked; KEPT],
             happened: 0,
         }
@@ -101,14 +113,24 @@ impl Recorder {
 
     /// Records a datagram that was received on a channel.
     pub(crate) fn hear_came(&mut self, channel: usize, datagram: &[u8])
-        // If the recorder listens, it keeps the channel and the header of the datagram, and changes nothing else.
-        ensures came { self.old.listens ≡ true
-            → self.new ≡ record self.old { came = (channel, header_seen datagram.now) } }
+        // If the recorder listens, it keeps the channel and the header of the datagram, and whether it is a ConnReq, and
+        // changes nothing else.
+        ensures came { self.old.listens ≡ true → self.new ≡ record self.old {
+          came = (channel, header_seen datagram.now);
+          has_request = self.old.has_request || recording.is_request (kind_seen datagram.now);
+          last_data = self.new.last_data;
+        } }
+        // If the recorder listens and the datagram is a Data, it keeps it whole.
+        ensures last_data { self.old.listens ≡ true → length datagram.now ≤ 1_258
+            → self.new.last_data.items ≡ recording.data_after (kind_seen datagram.now) datagram.now self.old.last_data.items }
         // A recorder that does not listen keeps nothing of what comes.
         ensures off { self.old.listens ≡ false → self.new ≡ self.old }
     {
         if self.listens {
             self.came = (channel, header_of(datagram));
+            let kind = kind_of(datagram);
+            self.has_request = self.has_request || is_request(kind);
+            keep_data(&mut self.last_data, kind, datagram);
         }
     }
 
@@ -227,6 +249,28 @@ impl Recorder {
     {
         self.kept[(self.happened % KEPT as u64) as usize] = happening;
         self.happened = self.happened.wrapping_add(1);
+    }
+}
+
+/// Keeps a datagram of this type in place of the last one, if it is a Data.
+fn keep_data(last: &mut ArrayVec<u8, DATAGRAM_MAX>, kind: Option<Kind>, datagram: &[u8])
+    // `keep_data` keeps a Data of up to 1,258 bytes, and changes nothing for any other type.
+    ensures { length datagram.now ≤ 1_258 → last.new.items ≡ recording.data_after kind datagram.now last.old.items }
+{
+    if kind == Some(Kind::Data) {
+        last.clear();
+        let _ = last.try_extend_from_slice(datagram);
+    }
+}
+
+/// Returns whether a datagram of this type requests a connection.
+fn is_request(kind: Option<Kind>) -> bool
+    // `is_request` is true for a ConnReq, and false for any other type and for none.
+    ensures { result ≡ recording.is_request kind }
+{
+    match kind {
+        Some(Kind::ConnReq) => true,
+        _ => false,
     }
 }
 

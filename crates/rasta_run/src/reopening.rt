@@ -189,6 +189,8 @@ impl Actor<'_, UdpChannels> {
         // If `keep` returns true, its keeper has the time of the opening, and counts the old one if that had no session.
         ensures keeper { IfOk result (λ anew. anew ≡ true → self.new.keeper ≡ keeping.kept_after (is_stale (inside self.old.end))
             (is_up (inside self.old.end).upper.session.phase) now self.old.keeper) }
+        // `keep` leaves the printer of counts as it is.
+        ensures teller { self.new.teller ≡ self.old.teller }
         // After `keep` the end's time is at most `now`.
         ensures time { self.new.end.time ≤ now }
     {

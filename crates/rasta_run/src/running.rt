@@ -1,9 +1,14 @@
 //! One end, or an interlocking and a field element in one process, which take turns.
 
-ghost use Rattle.std.specs.Prelude.{◌≡◌, ℕ, ◌≤◌, ◌+◌, ◌%◌, ◌^◌, ◌&&◌, None, true, IfOk, IfSome, OnOk};
+ghost use Rattle.std.specs.Prelude.{◌≡◌, ℕ, ◌≤◌, ◌+◌, ◌%◌, ◌^◌, ◌&&◌, ◌==◌, None, true, IfOk, IfSome, OnOk};
 ghost use Rattle.rasta_run.specs.Acting as acting;
+ghost use Rattle.rasta_run.specs.Counting.{counted_of};
+ghost use Rattle.rasta_run.specs.Counts.{looked};
+ghost use Rattle.rasta_run.specs.Pending.{unread_lines};
 ghost use Rattle.rasta_run.specs.Progress.{limit_after};
 ghost use Rattle.rasta_run.specs.Ticking.{greatest_time};
+ghost use Rattle.rasta_run.specs.Undone.{is_nothing};
+ghost use Rattle.stack_end.specs.EndValue.{channels_of, statistics_of};
 
 use crate::drawing::Random;
 use crate::input::Feed;
@@ -258,6 +263,10 @@ impl Running<'_> {
         ensures time { (self.new.first.end.time ≤ now) × IfSome self.new.second (λ a. a.end.time ≤ now) }
         // `keep` takes no turn.
         ensures turns { self.new.turns ≡ self.old.turns }
+        // If `keep` succeeds, it has looked at the counts of the first end, as it is then.
+        ensures counts { OnOk result (self.new.first.teller ≡ looked self.old.first.teller
+            (counted_of self.new.first.earlier.sums (statistics_of self.new.first.end)
+            (channels_of self.new.first.end).recorder.value self.new.first.put self.new.first.taken) now) }
     {
         let mut source = Random { system: rt };
         let second = keep_second(&mut self.second, &mut source, alloc, now, err)?;
@@ -320,6 +329,13 @@ impl Running<'_> {
         // If `finish` succeeds, its outcome says whether every end was in the expected state at its beginning.
         ensures met { IfOk result (λ outcome. outcome.is_met ≡ (acting.stands run.now.expected lines self.old.first
             && acting.second_stands run.now.expected self.old.second)) }
+        // If `finish` succeeds, its outcome says whether each end left nothing undone at its beginning, if the run lasted
+        // until its input ended.
+        ensures finished { IfOk result (λ outcome. outcome.is_finished
+            ≡ acting.is_finished run.now.length lines self.old.first self.old.second) }
+        // If `finish` succeeds, its outcome says whether no line of standard output was left out, and none waits.
+        ensures read { IfOk result (λ outcome. outcome.is_read
+            ≡ (unread_lines streams.old.out.left_out streams.new.out.octets.items == 0)) }
     {
         let first_undone = self.first.undone(lines);
         let second_undone = undone_of(&self.second);
@@ -460,7 +476,9 @@ fn keep_second<R: Files, E: Write>(
 /// Returns what the second end leaves undone: nothing, if there is none.
 fn undone_of(second: &Option<Actor<'_, UdpChannels>>) -> Undone
     // `undone_of` returns what that end leaves, to which no line of input is offered.
-    ensures { IfSome second.now (λ a. result ≡ acting.left_by a 0) }
+    ensures left { IfSome second.now (λ a. result ≡ acting.left_by a 0) }
+    // Nothing is left if nothing is left by that end, or if there is none.
+    ensures done { is_nothing result ≡ acting.second_done second.now }
 {
     match second {
         None => Undone::nothing(),

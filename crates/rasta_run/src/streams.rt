@@ -136,9 +136,10 @@ impl<O: Write, E: Write, G: Gate> Streams<O, E, G> {
         // At the end of a run no byte of standard output is lost or repeated.
         ensures whole { Keeps (append_known (O.contents self.old.out.writer) self.old.out.octets.items)
             (append_known (O.contents self.new.out.writer) self.new.out.octets.items) }
-        // `print_rest` writes what waits for standard output as long as that is ready. It fails if and only if a write
-        // has failed.
-        ensures passed { (before : G) × (after : G) × PassesAll O.contents G.asks self.old.out.stream
+        // `print_rest` writes what waits for standard output as long as that is ready, and waits for that as long as its
+        // `patience` says. It fails if and only if a write has failed.
+        ensures passed { (gate : G) × (before : G) × (after : G) × G.waits gate self.old.patience before × G.waits after 0 self.new.gate
+            × PassesAll O.contents G.asks self.old.out.stream
             (record { writer = self.old.out.writer; octets = self.old.out.octets.items; gate = before }) (is_ok result)
             (record { writer = self.new.out.writer; octets = self.new.out.octets.items; gate = after }) }
         // `print_rest` returns true if and only if nothing waits any more.
@@ -170,7 +171,13 @@ impl<O: Write, E: Write, G: Gate> Streams<O, E, G> {
     /// Writes what waits for standard error at the end of a run, as long as its reader goes on.
     pub fn log_rest(&mut self)
         // `log_rest` does not change standard output.
-        ensures { self.new.out ≡ self.old.out }
+        ensures kept { self.new.out ≡ self.old.out }
+        // `log_rest` writes what waits for standard error as long as that is ready, and waits for that as long as its
+        // `patience` says.
+        ensures passed { (before : G) × (works : Bool) × (writer : E) × (octets : List ℕ) × (after : G) × G.waits self.old.gate self.old.patience before
+            × PassesAll E.contents G.asks self.old.err.stream
+            (record { writer = self.old.err.writer; octets = self.old.err.octets.items; gate = before }) works
+            (record { writer = writer; octets = octets; gate = after }) }
     {
         self.gate.set_patience(self.patience);
         self.pass_log();
@@ -181,7 +188,9 @@ impl<O: Write, E: Write, G: Gate> Streams<O, E, G> {
     /// Logs how many lines of standard output were not printed, if any were not. Returns whether all were.
     pub fn tell_unread(&mut self, left_out: u64) -> bool
         // `tell_unread` returns true if and only if no line was left out and none waits.
-        ensures { result ≡ (unread_lines left_out self.old.out.octets.items == 0) }
+        ensures read { result ≡ (unread_lines left_out self.old.out.octets.items == 0) }
+        // `tell_unread` does not change standard output.
+        ensures kept { self.new.out ≡ self.old.out }
     {
         let unread = left_out.saturating_add(self.out.waiting());
         if unread == 0 {

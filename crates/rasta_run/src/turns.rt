@@ -160,7 +160,8 @@ impl<'a, C: Channels, A: Allocator + Copy> Actor<'a, C, A> {
         self.log_events(now, err);
     }
 
-    /// Logs the events since the last call, and the channels that became silent or receive again.
+    /// Logs the events since the last call, the channels that became silent or receive again, sends that begin to fail
+    /// or succeed again, and how many more datagrams were dropped.
     pub fn log_events<E: Write>(&mut self, now: Milliseconds, err: &mut E)
         // `log_events` changes nothing but the log.
         ensures { self.new ≡ record self.old { log = self.new.log } }
@@ -173,6 +174,10 @@ impl<'a, C: Channels, A: Allocator + Copy> Actor<'a, C, A> {
         let recorder = &self.end.channels_seen().recorder;
         self.log.catch_up(recorder, departure, now, err);
         self.log.look(&counted.sums, now, err);
+        self.log.look_at_sends(&counted.channels, now, err);
+        let _ = self.log.look_at_request(self.end.state(), now, err);
+        let _ = self.log.look_for_request(recorder.has_request, now, err);
+        let _ = self.log.tell_drops(now, err);
     }
 
     /// Returns all that is counted of the end.

@@ -100,7 +100,10 @@ fn tell_if_unread<E: Write>(side: Side, channel: usize, is_own: bool, text: &str
 }
 
 /// Returns the settings of one of the ends.
-fn settings_of(ends: &Ends, side: Side) -> &Settings {
+fn settings_of(ends: &Ends, side: Side) -> &Settings
+    // `settings_of` returns the settings of the end of this side, or those of the only end.
+    ensures { result.now ≡ unopened.settings_of ends.now side }
+{
     match (ends, side) {
         (Ends::Il(settings) | Ends::Fe(settings), _) => settings,
         (Ends::Pair(il, _), Side::Interlocking) => il,

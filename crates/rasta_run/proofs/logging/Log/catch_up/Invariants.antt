@@ -1,4 +1,4 @@
--- An event changes only which causes are known, and whether openings are only counted.
+-- An event changes only which causes are known, how often they came, and whether openings are only counted.
 use Rattle.std.proofs.Common.{◌≡◌}
 use Rattle.rasta_run.proofs.logging.Log.catch_up.Given as goal
 
@@ -8,4 +8,5 @@ invariant-events g l =
       causes = l.self.causes;
       cause_count = l.self.cause_count;
       is_quiet = l.self.is_quiet;
+      drops = l.self.drops;
     }

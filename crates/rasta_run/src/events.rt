@@ -1,0 +1,117 @@
+//! Which events of an end its log has, and what explains them.
+
+ghost use Rattle.std.specs.Prelude.{◌≡◌};
+ghost use Rattle.rasta_run.specs.Telling as telling;
+
+use pdi_session::Phase;
+use pdu_text::{Cause, Departure, Happening};
+use red_layer::RedEvent;
+use safe_machine::ConnectionState;
+use safe_pdu::Leaving;
+use stack_end::Leaver;
+
+/// Returns the cause of a drop, if the event is one.
+pub fn dropped_cause(happening: Happening) -> Option<Cause>
+    // `dropped_cause` returns the cause of a dropped datagram, and `None` for any other event.
+    ensures { result ≡ telling.dropped_cause happening }
+{
+    match happening {
+        Happening::Dropped(_, cause) => Some(cause),
+        _ => None,
+    }
+}
+
+/// Returns whether an event is one of an opening that gets no session.
+pub fn is_of_opening(happening: Happening) -> bool
+    // `is_of_opening` is true for a state, a phase, an opening and a departure.
+    ensures { result ≡ telling.is_of_opening happening }
+{
+    match happening {
+        Happening::State(_)
+        | Happening::Phase(_)
+        | Happening::Anew(_)
+        | Happening::Left(_)
+        | Happening::PeerLeft(_) => true,
+        _ => false,
+    }
+}
+
+/// Returns whether an event is that the end disconnects for a fault of the session.
+pub fn is_session_fault(event: Happening) -> bool
+    // `is_session_fault` is true for a departure of the end itself with reason 4, and false for any other event.
+    ensures { result ≡ telling.is_session_fault event }
+{
+    match event {
+        Happening::Left(leaving) => leaving.reason == 4,
+        _ => false,
+    }
+}
+
+/// Returns whether openings are only counted after an event.
+pub fn quiet_after(happening: Happening, is_quiet: bool) -> bool
+    // `quiet_after` returns false if the session is established, and else what was before.
+    ensures { result ≡ telling.quiet_after happening is_quiet }
+{
+    match happening {
+        Happening::Phase(phase) => is_quiet && phase != Phase::Established,
+        _ => is_quiet,
+    }
+}
+
+/// Returns whether a cause is that of a datagram that repeats an earlier one.
+pub fn is_repeat(cause: Cause) -> bool
+    // `is_repeat` is true for datagrams that are old or came before.
+    ensures { result ≡ telling.is_repeat cause }
+{
+    match cause {
+        Cause::Early(RedEvent::Old | RedEvent::Again) => true,
+        _ => false,
+    }
+}
+
+/// Returns the number of datagrams dropped for known causes after one more was dropped.
+pub fn drops_after(is_new: bool, cause: Cause, drops: u64) -> u64
+    // `drops_after` returns one more for a cause that is not new, unless it is that of a copy.
+    ensures { result ≡ telling.drops_after is_new cause drops }
+{
+    if is_new || is_repeat(cause) {
+        return drops;
+    }
+    drops.saturating_add(1)
+}
+
+/// Returns the event that explains another one: that of a closed connection, by how the end came to be closed.
+pub fn explanation_of(happening: Happening, departure: Option<Departure>) -> Option<Happening>
+    // `explanation_of` returns who disconnects for a connection that is closed, and `None` for any other event.
+    ensures { result ≡ telling.explained happening departure }
+{
+    match (happening, departure) {
+        (Happening::State(ConnectionState::Closed), Some(Departure::Own(leaving))) => {
+            Some(Happening::Left(leaving))
+        }
+        (Happening::State(ConnectionState::Closed), Some(Departure::Peer(leaving))) => {
+            Some(Happening::PeerLeft(leaving))
+        }
+        _ => None,
+    }
+}
+
+/// Returns a departure as the log states it.
+pub fn departure_told(departure: Option<stack_end::Departure>) -> Option<Departure>
+    // `departure_told` returns who disconnected with its reason and detail, and `None` if nobody did.
+    ensures { result ≡ telling.departure_told departure }
+{
+    match departure {
+        None => None,
+        Some(departure) => {
+            let leaving = Leaving {
+                detail: departure.detail,
+                reason: departure.reason,
+            };
+            match departure.by {
+                Leaver::Own => Some(Departure::Own(leaving)),
+                Leaver::Peer => Some(Departure::Peer(leaving)),
+            }
+        }
+    }
+}
