@@ -13,8 +13,9 @@ use std::process::Abort;
 use std::test::Fail;
 
 /// A note as it is kept: of a telegram its message type, and the first octet and the length of its payload.
-#[derive(Clone, Copy, Debug, PartialEq, Eq)]
+#[derive(Clone, Copy, Debug, Default, PartialEq, Eq)]
 enum Heard {
+    #[default]
     Datagram,
     Part,
     Take(u16, u8, usize),

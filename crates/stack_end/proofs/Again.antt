@@ -1,6 +1,6 @@
 -- An end that is opened again: no call changes its settings, so that each layer is as newly opened.
-use Rattle.stack_end.proofs.Words.{[], ap, Arrives, Bool, ClosedByUser, Closes, Completes, Datagram, datagrams, Dialogue, EndSettings, Err, Event, false}
-use Rattle.stack_end.proofs.Words.{if◌then◌else◌, Input, is_nil, judge_messages, judge_read, judge_units, judge_unpacked, Judged, Leaving, length, List, meets, None, number_behind}
+use Rattle.stack_end.proofs.Words.{[], ap, Arrives, Bool, by_cond, ClosedByUser, Closes, Completes, Datagram, datagrams, Dialogue, EndSettings, Err, Event, false}
+use Rattle.stack_end.proofs.Words.{if◌then◌else◌, Input, Inside, is_nil, judge_messages, judge_read, judge_units, judge_unpacked, Judged, Leaving, length, List, meets, None, number_behind}
 use Rattle.stack_end.proofs.Words.{Ok, opens, Option, Part, passed_by, Puts, Receiver, red_after, RedTick, refl, Result, rises, rule_of, sendings, session_in, Settings, Some, subst}
 use Rattle.stack_end.proofs.Words.{suc, sym, Tele, tele_seen, TeleFault, true, unit_seen, unit_text, unless_leaving, Unspecified, View, zero, ℕ, ◌%◌, ◌^◌, ◌∙◌, ◌∷◌, ◌≡◌, PackFault, take, comes_up}
 use Rattle.pdi_session.specs.SessionStep.{opened as session_opened, SessionState}
@@ -15,6 +15,7 @@ use Rattle.safe_machine.proofs.one.Turning.{opened-cases, opening_law_holds}
 use Rattle.safe_machine.specs.Moves.{Move, move}
 use Rattle.safe_machine.specs.Moves.Move.{Guards, Leaves, Sends, Ticks}
 use Rattle.safe_machine.specs.Octets.{arrive_octets, heard as heard_move, seen_by}
+use Rattle.safe_machine.specs.State.{State}
 use Rattle.safe_machine.specs.Step.{may_send, opened}
 use Rattle.safe_machine.specs.View.{kept_of}
 use Rattle.safe_machine.specs.World.{Side}
@@ -23,7 +24,8 @@ use Rattle.end_settings.specs.EndSettings.{connection_of, session_of}
 use Rattle.stack_end.proofs.Turning.{behind-wrap, datagrams-are, opens-made}
 use Rattle.stack_end.specs.Ends.{answered, Call, call, Close, Deliver, did, EndState, goes_on, handed_up, heard, InitDone, is_shut, leaves, moved, new_end, packed, packed_up_to}
 use Rattle.stack_end.specs.Ends.{part, parts, Put, receives, sends, settle, Tick, with_input, with_machine, with_session}
-use Rattle.stack_end.specs.Reopening.{after_calls, AgainLaw}
+use Rattle.stack_end.specs.Fields.{BothStand, Stands}
+use Rattle.stack_end.specs.Reopening.{after_calls, AgainLaw, IsAgain, reopens}
 use Rattle.stack_end.specs.Statistics.{none_made, with_made}
 use Rattle.std.proofs.Common.{zero-add}
 

@@ -1,18 +1,18 @@
 -- The own time last confirmed never goes back in a call, and what is taken comes after a timeout check that passed.
-use Rattle.stack_end.proofs.Words.{[], above, ap, arith, Bool, dialogue_of, false, Fields, followed, goes_on, goes_up, guards, hears, hears_units, if◌then◌else◌}
-use Rattle.stack_end.proofs.Words.{Inside, inl, inr, Input, is_closed, is_over, judge_units, judged_at, Leaving, leaves, List, machine_turn, MachineTurn, None}
+use Rattle.stack_end.proofs.Words.{[], above, ap, append-nil, arith, Bool, dialogue_of, false, Fields, followed, goes_on, goes_up, guards, hears, hears_units, if◌then◌else◌}
+use Rattle.stack_end.proofs.Words.{Inside, inl, inr, Input, is_closed, is_over, judge_units, judged_at, Leaving, leaves, List, machine_hears, machine_turn, MachineTurn, None}
 use Rattle.stack_end.proofs.Words.{notes, Ok, Option, packs, packs_up_to, Part, part, parts, passed_by, receives, refl, rules, sends, session_turn, settles, Some, still}
 use Rattle.stack_end.proofs.Words.{Closes, meets, RedTick, subst, suc, sym, true, Turn, View, zero, ℕ, ◌++◌, ◌+◌, ◌<◌, ◌∙◌, ◌∷◌, ◌≡◌, ◌≢◌, ◌⊎◌, Err, Result, Datagram, can_pack}
-use Rattle.std.specs.Prelude.{◌-◌, nat_le}
-use Rattle.safe_machine.specs.Connections.{is_live}
+use Rattle.std.specs.Prelude.{◌-◌, nat_le, nat_lt, ◌&&◌}
+use Rattle.safe_machine.specs.Connections.{in_turn, is_live}
 use Rattle.safe_machine.specs.Decision.{as_client, by_connection, by_table, cts_step, distance}
 use Rattle.safe_machine.specs.Deadlines.{beat_due}
 use Rattle.safe_machine.specs.Made.{carries, leaving_body}
 use Rattle.safe_machine.specs.Octets.{heard as heard_move}
 use Rattle.safe_machine.specs.Turned.{turn as machine_move, handed}
-use Rattle.safe_machine.specs.Turns.{answers_ahead, answers_early, answers_next, asks, both_confirmed, carries_out, responds, counted, guards as machine_guards, hands, leaves as machine_leaves}
-use Rattle.safe_machine.specs.Turns.{passed, replies, requested, resends, says, sends_unit, has_room, still as machine_still, takes_unit, ticks as machine_ticks}
-use Rattle.safe_machine.specs.Turns.{units_confirmed}
+use Rattle.safe_machine.specs.Turns.{accepts as machine_accepts, answers_ahead, answers_early, answers_next, asks, both_confirmed, carries_out, responds, counted, guards as machine_guards, hands, leaves as machine_leaves}
+use Rattle.safe_machine.specs.Turns.{passed, replies, requested, resends, says, sends as machine_sends, sends_unit, has_room, still as machine_still, takes_unit, ticks as machine_ticks}
+use Rattle.safe_machine.specs.Turns.{units_confirmed, beats}
 use Rattle.safe_machine.specs.declared.ConnectionState.{ConnectionState}
 use Rattle.safe_machine.specs.declared.ConnectionState.TheVariants.{Closed, Down, RetrReq as Requesting, RetrRun, Start, Up}
 use Rattle.safe_machine.specs.retrans.Units.{octets_of}
@@ -25,8 +25,8 @@ use Rattle.safe_pdu.specs.declared.reasons.Detail.{Detail}
 use Rattle.safe_pdu.specs.declared.reasons.Detail.TheVariants.{Limit, Unspecified}
 use Rattle.safe_pdu.specs.declared.reasons.Reason.{Reason}
 use Rattle.safe_pdu.specs.declared.reasons.Reason.TheVariants.{ProtocolError, Timeout, UnexpectedPdu}
-use Rattle.stack_end.specs.Timely.{t_max_of, TimelyLaw, TurnTimely}
-use Rattle.stack_end.specs.Turns.{arrives, passes, ticks}
+use Rattle.stack_end.specs.Timely.{IsTimely, t_max_of, TimelyLaw, TurnTimely}
+use Rattle.stack_end.specs.Turns.{arrives, closing, departs, passes, ticks}
 use Rattle.stack_end.proofs.Packing.{guards-none, part-taken, sends-none, ticks-none}
 
 -- one machine after another: T_max stays, and what was less than T_max old at this time still is
