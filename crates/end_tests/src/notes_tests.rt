@@ -49,8 +49,11 @@ impl Channels for Hearing {
         let heard = match note {
             Note::Redundancy(_, _) => Heard::Datagram,
             Note::Step(_, _) => Heard::Part,
-            Note::Take(kind, payload) =>
-                Heard::Take(*kind, payload.first().copied().unwrap_or(0), payload.len()),
+            Note::Take(kind, payload) => Heard::Take(
+                *kind,
+                payload.first().copied().unwrap_or(0),
+                payload.len(),
+            ),
             Note::State(state) => Heard::State(*state),
             Note::Phase(phase) => Heard::Phase(*phase),
         };

@@ -490,8 +490,8 @@ impl<C: Channels, A: Allocator> End<C, A> {
         self.layers.upper.confirmed()
     }
 
-    /// Returns the own time last confirmed by the peer, in milliseconds. A telegram taken came in a PDU that confirms
-    /// a PDU which this end made at that time or later.
+    /// Returns the own time last confirmed by the peer, in milliseconds. After a call at which a telegram was taken it is
+    /// less than T_max old (`timely_law`).
     pub fn confirmed_time(&self) -> Milliseconds
         // The result is the confirmed timestamp that the safety machine keeps.
         ensures { result ≡ (inside self.now).upper.machine.confirmed_at }
@@ -502,8 +502,8 @@ impl<C: Channels, A: Allocator> End<C, A> {
     /// Returns the margin to T_max: how long it is until T_max ends the connection, in milliseconds, if the peer confirms
     /// nothing more. Returns 0 if it is reached, and `None` without a connection.
     pub fn margin(&self, now: Milliseconds) -> Option<Milliseconds>
-        // In Down and Closed the result is `None`; otherwise it is T_max less the time since `confirmed_time`, and at
-        // least 0.
+        // In Down and Closed the result is `None`; otherwise it is T_max less the time since the peer last confirmed, and
+        // at least 0.
         ensures { result ≡ margin_of now (inside self.now).upper }
     {
         self.layers.upper.margin(now)

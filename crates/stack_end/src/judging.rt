@@ -1,6 +1,6 @@
 //! Judging units: the session processes the messages of each unit that the safety machine delivers, in order.
 
-ghost use Rattle.std.specs.Prelude.{◌≡◌};
+ghost use Rattle.std.specs.Prelude.{◌≡◌, false, Some};
 ghost use Rattle.pdi_session.specs.packing.Places.{unit_seen};
 ghost use Rattle.pdi_session.specs.telegram.Places.{tele_seen};
 ghost use Rattle.pdi_session.specs.SessionStep.{FewWait};
@@ -21,6 +21,21 @@ pub(crate) struct Judgement {
     pub(crate) asked: Option<(Reason, Detail)>,
     /// Whether the application took the message.
     pub(crate) is_taken: bool,
+}
+
+impl Judgement {
+    /// Returns the judgement of a message at which the end has to disconnect, and which is not taken.
+    fn leaves(why: (Reason, Detail)) -> Self
+        // The end has to disconnect with this reason and detail.
+        ensures asked { result.asked ≡ Some why }
+        // The message is not taken.
+        ensures taken { result.is_taken ≡ false }
+    {
+        Judgement {
+            asked: Some(why),
+            is_taken: false,
+        }
+    }
 }
 
 /// A message of a unit that was judged.
@@ -181,10 +196,7 @@ fn judge_message<A: Allocator, T: Taker>(
                 asked: None,
                 is_taken: session.phase() == before,
             },
-            Err(end) => Judgement {
-                asked: Some(for_session(end.detail)),
-                is_taken: false,
-            },
+            Err(end) => Judgement::leaves(for_session(end.detail)),
         };
     }
     judge_other(session, waiting, taker, message)
@@ -210,22 +222,16 @@ fn judge_other<A: Allocator, T: Taker>(
     // After such a message, there is room among the waiting messages for the session's next.
     ensures few { FewWait session.new waiting.new }
 {
-    let before = session.phase();
+    let earlier = session.phase();
     match decode(message) {
         Ok(telegram) => match session.arrive(&telegram, waiting, taker) {
             Ok(()) => Judgement {
                 asked: None,
-                is_taken: session.phase() == before,
+                is_taken: session.phase() == earlier,
             },
-            Err(end) => Judgement {
-                asked: Some(for_session(end.detail)),
-                is_taken: false,
-            },
+            Err(over) => Judgement::leaves(for_session(over.detail)),
         },
-        Err(_) => Judgement {
-            asked: Some((Reason::ServiceNotAllowed, Detail::NotWellFormed)),
-            is_taken: false,
-        },
+        Err(_) => Judgement::leaves((Reason::ServiceNotAllowed, Detail::NotWellFormed)),
     }
 }
 
