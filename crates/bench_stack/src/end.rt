@@ -10,7 +10,7 @@ use linked_list_allocator::LocalHeap;
 use octets::limits::RED_PDU_MAX;
 use pdi_session::telegram::{Name, OwnedName};
 use pdi_session::{Phase, Taker};
-use stack_end::{End, Listener};
+use stack_end::End;
 use std::alloc::{Allocator, Global};
 
 /// How many datagrams one end keeps at most for its peer.
@@ -75,8 +75,6 @@ impl Channels for Wire {
         Ok(None)
     }
 }
-
-impl Listener for Wire {}
 
 /// Counts telegrams.
 #[derive(Drop)]

@@ -1,4 +1,5 @@
-//! The channels of an end: the transport that datagrams are sent on and received from. Channels see only bytes.
+//! The channels of an end: the transport that datagrams are sent on and received from. Channels see only bytes; they
+//! can hear notes of the end's work.
 //!
 //! Channels are not trusted: they may lose, repeat, delay, reorder and damage datagrams (EN 50159).
 #![tactic(auto)]
@@ -7,8 +8,10 @@ ghost use Rattle.std.specs.Prelude.{◌≡◌, ◌≤◌, length, is_ok, IfOk, I
 ghost use Rattle.channels.specs.Told.{Told, Sends, after_receive};
 
 mod memory;
+mod note;
 
 pub use memory::{MemChannels, MemoryFault};
+pub use note::Note;
 
 /// Why a datagram was not sent, or nothing could be received.
 #[derive(Clone, Copy, Debug, PartialEq, Eq)]
@@ -55,4 +58,18 @@ pub trait Channels {
         // A successful reception appends its result to those received, `None` included; a failed one adds 1 to
         // the failed receptions. Nothing sent is affected.
         ensures told { told self.new ≡ after_receive result buffer.new (told self.old) };
+
+    /// Returns true if it wants notes; if not, an end makes none. The provided body returns false.
+    fn hears_notes(&self) -> bool {
+        false
+    }
+
+    /// Receives a note. It comes after the part that it is about, since the sender of PDUs holds the channels until
+    /// then. The provided body ignores it.
+    fn note(&mut self, note: &Note<'_>)
+        // A note changes nothing that `told` shows: neither datagrams nor counts.
+        ensures { told self.new ≡ told self.old }
+    {
+        let _note = note;
+    }
 }

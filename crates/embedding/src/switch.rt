@@ -2,8 +2,9 @@
 
 ghost use Rattle.std.specs.Prelude.{◌≡◌, ◌≤◌, ◌^◌, ◌/◌, ◌%◌, ◌==◌};
 
+use channels::Channels;
 use pdi_session::{Phase, Taker};
-use stack_end::{End, Listener, PollFault};
+use stack_end::{End, PollFault};
 
 /// The message type of the command. Its payload is one byte: 1 switches on, 0 switches off.
 pub const SWITCH: u16 = 0x0100;
@@ -50,7 +51,7 @@ impl Switch {
 ///
 /// Returns the fault of `End::poll` if a channel fails. Everything received before it stays taken; the next turn
 /// tries again.
-pub fn turn<C: Listener>(end: &mut End<C>, now: u64, switch: &mut Switch) -> Result<(), PollFault>
+pub fn turn<C: Channels>(end: &mut End<C>, now: u64, switch: &mut Switch) -> Result<(), PollFault>
     requires later { end.old.time ≤ now }
     requires now { now ≤ 2 ^ 62 }
     // After a `turn`, the time of the end is at most the time of this turn.

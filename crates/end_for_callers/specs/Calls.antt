@@ -42,6 +42,7 @@ seen_end v =
                   request = u.request;
                   count = u.count;
                   max = u.max;
+                  t_max = u.t_max;
                   accepted = u.accepted;
                   departed = u.departed;
                   made = u.made;

@@ -1,8 +1,8 @@
 -- The notes of an end that wait for the caller.
 use Rattle.std.specs.Prelude.{ℕ, ◌+◌, ◌==◌, ◌&&◌, Bool, false, not, nat_lt, Option, Some, None, List, [], ◌∷◌, ◌++◌, length, if◌then◌else◌}
 use Rattle.channels.specs.Told.{counted}
-use Rattle.stack_end.specs.declared.note.Note.{Note}
-use Rattle.stack_end.specs.declared.note.Note.TheVariants as note
+use Rattle.channels.specs.declared.note.Note.{Note}
+use Rattle.channels.specs.declared.note.Note.TheVariants as note
 use Rattle.end_for_callers.specs.declared.notes.StationNote.{StationNote}
 use Rattle.end_for_callers.specs.declared.notes.StationNote.TheVariants as kept
 use Rattle.end_for_callers.specs.declared.notes.TheConstants.{NOTES_MAX}

@@ -3,11 +3,11 @@
 ghost use Rattle.std.specs.Prelude.{◌≡◌, IfOk, false};
 ghost use Rattle.end_for_callers.specs.Notes.{heard_anew, next_of, note_of, rest_of, with_note};
 
+use channels::Note;
 use circular_buffer::HeapCircularBuffer;
 use pdi_session::Phase;
 use red_layer::RedEvent;
 use safe_machine::{ConnectionState, Step};
-use stack_end::Note;
 use std::alloc::{AllocError, Global};
 use std::marker::Model;
 

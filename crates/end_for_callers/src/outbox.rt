@@ -12,9 +12,8 @@ ghost use Rattle.end_for_callers.specs.Queues.{Popped};
 use crate::CALL_DATAGRAMS;
 use crate::notes::{Notes, StationNote};
 use crate::queue::{Queue, TooSmall};
-use channels::{ChannelFault, Channels};
+use channels::{ChannelFault, Channels, Note};
 use octets::limits::{CHANNELS_MAX, RED_PDU_MAX};
-use stack_end::{Listener, Note};
 use std::alloc::{AllocError, Global};
 use std::marker::Model;
 
@@ -231,9 +230,7 @@ impl Channels for Outbox {
         let _none = buffer;
         Ok(None)
     }
-}
 
-impl Listener for Outbox {
     /// Returns true if the caller wants notes.
     fn hears_notes(&self) -> bool
         // The end makes notes if and only if they are kept.

@@ -8,6 +8,8 @@ mod assertions;
 #[cfg(test)]
 mod channels_tests;
 #[cfg(test)]
+mod notes_tests;
+#[cfg(test)]
 mod stack_end_fault_tests;
 #[cfg(test)]
 mod stack_end_tests;

@@ -8,7 +8,7 @@ use channels::{ChannelFault, Channels, MemChannels};
 use end_settings::Side;
 use pdi_session::Phase;
 use safe_machine::ConnectionState;
-use stack_end::{End, Listener, PollFault};
+use stack_end::{End, PollFault};
 use std::process::Abort;
 use std::test::Fail;
 
@@ -66,8 +66,6 @@ impl Channels for Faulty {
         }
     }
 }
-
-impl Listener for Faulty {}
 
 /// An end over such channels, with its clock in milliseconds, and what its application took.
 #[derive(Drop)]

@@ -1,11 +1,11 @@
 use crate::assertions::{assert_equal, assert_true};
 use crate::stack_end_tests::config;
+use channels::Note;
 use end_settings::{EndConfig, Side};
 use linked_list_allocator::LocalHeap;
 use pdi_session::Phase;
 use red_layer::RedEvent;
 use safe_machine::{ConnectionState, Step};
-use stack_end::Note;
 use stack_engine::{ApplyFault, Call, Doing, Event, NoteView, Pair};
 use std::alloc::Allocator;
 use std::process::Abort;

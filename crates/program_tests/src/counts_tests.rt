@@ -1,9 +1,9 @@
 use crate::assertions::assert_equal;
-use channels::{Channels, MemChannels};
+use channels::{Channels, MemChannels, Note};
 use rasta_run::{ChannelCounts, RecordedChannels, Totals};
 use safe_machine::{Detail, DropCause, Reason, Step};
 use safe_pdu::Kind;
-use stack_end::{Listener, MadeCounts, Note, PartCounts, ReceptionCounts, Statistics};
+use stack_end::{MadeCounts, PartCounts, ReceptionCounts, Statistics};
 use std::alloc::Global;
 use std::test::Fail;
 

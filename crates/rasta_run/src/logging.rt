@@ -29,6 +29,7 @@ use crate::sending::Sending;
 use crate::stamping::{write_stamped, zero_of};
 use crate::{ChannelCounts, Recorder};
 use arrayvec::ArrayVec;
+use channels::Channels;
 use end_settings::Side;
 use octets::Milliseconds;
 use octets::limits::CHANNELS_MAX;
@@ -40,7 +41,7 @@ use rasta_words::{LogLevel, LogTime};
 use safe_machine::ConnectionState;
 use safe_pdu::Kind;
 use settings_file::Settings;
-use stack_end::{End, Listener, Statistics};
+use stack_end::{End, Statistics};
 use std::alloc::Allocator;
 use std::io;
 use std::io::Write;
@@ -669,7 +670,7 @@ impl Log {
     }
 
     /// Returns how an end disconnected, if it had a connection: a field element has none before it accepts a ConnReq.
-    pub fn departure<C: Listener, A: Allocator>(&self, end: &End<C, A>) -> Option<Departure>
+    pub fn departure<C: Channels, A: Allocator>(&self, end: &End<C, A>) -> Option<Departure>
         // `departure` returns how the end came to be closed, and `None` for a field element that accepted no ConnReq.
         ensures { result ≡ telling.departure_of self.now.side (inside end.now).upper.request
             (inside end.now).upper.departed }

@@ -7,8 +7,7 @@ ghost use Rattle.std.specs.Prelude.{◌≡◌, ◌≤◌, true, length, is_ok, I
 ghost use Rattle.channels.specs.Told.{Sends, after_receive};
 
 use crate::recorder::Recorder;
-use channels::{ChannelFault, Channels};
-use stack_end::{Listener, Note};
+use channels::{ChannelFault, Channels, Note};
 use std::alloc::{AllocError, Global};
 
 /// Channels that record. Everything sent and received goes through unchanged; notes of the end are recorded, too.
@@ -54,9 +53,7 @@ impl<C: Channels> Channels for RecordedChannels<C> {
         }
         result
     }
-}
 
-impl<C: Channels> Listener for RecordedChannels<C> {
     /// Returns whether notes of the end are recorded.
     fn hears_notes(&self) -> bool
         // `hears_notes` is true if and only if the recorder listens.

@@ -14,12 +14,12 @@ ghost use Rattle.rasta_run.specs.Telling as telling;
 use crate::counts::{ChannelCounts, count_dropped, count_sent};
 use crate::header::{Header, header_of, kind_of};
 use arrayvec::ArrayVec;
+use channels::Note;
 use octets::limits::CHANNELS_MAX;
 use pdu_text::{Cause, Happening};
 use red_layer::RedEvent;
 use safe_machine::{DropCause, Step};
 use safe_pdu::Kind;
-use stack_end::Note;
 
 /// The greatest number of events that are kept. A turn receives at most 64 datagrams, and few of them make more
 /// than two events.

@@ -31,7 +31,7 @@ use pdi_session::Taker;
 use rasta_words::Fault;
 use safe_machine::ConnectionState;
 use settings_file::{Put, Settings};
-use stack_end::{End, Listener};
+use stack_end::End;
 use std::alloc::{Allocator, Global};
 use std::io;
 use std::io::Write;
@@ -423,7 +423,7 @@ impl<'a, C: Channels, A: Allocator + Copy> Actor<'a, C, A> {
 
 /// Polls an end, and returns whether all receptions succeeded. If one fails, time passes all the same, so that
 /// deadlines are met.
-fn poll_or_tick<C: Listener, A: Allocator, T: Taker>(
+fn poll_or_tick<C: Channels, A: Allocator, T: Taker>(
     end: &mut End<C, A>,
     now: Milliseconds,
     taker: &mut T,

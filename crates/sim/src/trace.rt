@@ -4,6 +4,7 @@ ghost use Rattle.std.specs.Prelude.{◌≡◌, MatchResult, IsOk, IsErr};
 
 use crate::{Label, Labels, ScriptLineFault, Sides, other};
 use arrayvec::ArrayVec;
+use channels::Note;
 use end_settings::Side;
 use octets::limits::{Q_MAX, RED_HEADER, SAFE_HEADER};
 use octets::places::{u16_at, u32_at};
@@ -14,7 +15,6 @@ use pdu_text::{
 use red_layer::RedEvent;
 use safe_machine::Step;
 use safe_pdu::Kind;
-use stack_end::Note;
 use stack_engine::NoteView;
 use std::alloc::{Allocator, Global};
 use std::fmt::Display;

@@ -303,6 +303,10 @@ again-holds side s first began calls v h next now =
           accepted = refl;
           made = machine.made;
           rule = ap (λ (m : Settings). m.rule) (opened-settings (connection_of side s) next now) ∙ rule-same side s;
+          t_max =
+              h.upper.t_max
+              ∙ ap (λ (m : Settings). m.t_max)
+              (k.machine ∙ opened-settings (connection_of side s) first began ∙ sym (opened-settings (connection_of side s) next now));
         };
       };
       sent = machine.sent;

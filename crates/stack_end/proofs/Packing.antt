@@ -226,11 +226,11 @@ up_to-none zero now v = refl
 up_to-none (suc n) now v =
     either (λ t. t.taken ≡ []) (can_pack v) (followed (packs now v) (packs_up_to n now)) (still v) (up_to-none n now (packs now v).left) refl
 
-sends-none : (now : ℕ) (v : Fields) → (sends now v).taken ≡ []
+pub sends-none : (now : ℕ) (v : Fields) → (sends now v).taken ≡ []
 sends-none now v = up_to-none _ now v
 
 -- what is taken at a part is what the session takes of its units
-part-taken : (now : ℕ) (octets : List ℕ) (v : Fields) → (part now octets v).taken ≡ (judged_at now octets v).left.history.taken
+pub part-taken : (now : ℕ) (octets : List ℕ) (v : Fields) → (part now octets v).taken ≡ (judged_at now octets v).left.history.taken
 part-taken now octets v =
     let before = v.machine.connection in
     let why = (judged_at now octets v).leaving in
@@ -286,11 +286,11 @@ input-recent {T} takes now i v t u h = (
         let first = (parts now (passed_by i v.red) v.upper).taken in
         subst (λ xs. FoldsTo takes t xs u) (ap (λ xs. first ++ xs) (sends-none now (receives now i v).left.upper) ∙ append-nil first) k
 
-guards-none : (now : ℕ) (v : Fields) → (guards now v).taken ≡ []
+pub guards-none : (now : ℕ) (v : Fields) → (guards now v).taken ≡ []
 guards-none now v =
     let t = machine_turn (machine_guards now v.machine) v in append-nil (settles t.left).taken ∙ settles-none t.left
 
-ticks-none : (now : ℕ) (v : Fields) → (ticks now v).taken ≡ []
+pub ticks-none : (now : ℕ) (v : Fields) → (ticks now v).taken ≡ []
 ticks-none now v =
     let t = machine_turn (machine_ticks now v.machine) v in append-nil (settles t.left).taken ∙ settles-none t.left
 

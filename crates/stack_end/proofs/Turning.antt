@@ -313,6 +313,7 @@ upper-machine m units v x s one has_made kept h =
                 ap (with_made m.made) h.made
                 ∙ (sym (made-append x.machine.made m.made none_made) ∙ ap (λ ms. with_made ms none_made) (sym one.made));
             rule = ap (λ (q : Settings). q.rule) kept ∙ h.rule;
+            t_max = h.t_max ∙ sym (ap (λ (q : Settings). q.t_max) kept);
           };
       red = refl;
       grew =
@@ -386,6 +387,7 @@ upper-counted n d e v x c r h =
         accepted = c;
         made = h.made;
         rule = h.rule;
+        t_max = h.t_max;
       };
       red = refl;
       grew = record { settings = refl; more = []; made = sym (append-nil x.machine.made); sent = refl; taken = r.taken };
@@ -468,6 +470,7 @@ upper-notes before octets v x h =
         accepted = h.accepted;
         made = h.made;
         rule = h.rule;
+        t_max = h.t_max;
       };
       red = refl;
       grew = record { settings = refl; more = []; made = sym (append-nil x.machine.made); sent = refl; taken = sym (append-nil x.session.history.taken) };
@@ -499,6 +502,7 @@ beside-stands v y departed parts s =
       accepted = s.accepted;
       made = s.made;
       rule = s.rule;
+      t_max = s.t_max;
     }
 
 -- the recorded departure is kept next to it
@@ -579,6 +583,7 @@ upper-packs now v x h =
         accepted = s.accepted;
         made = s.made;
         rule = s.rule;
+        t_max = s.t_max;
       };
       red = refl;
       grew = record { settings = refl; more = []; made = sym (append-nil y.machine.made); sent = refl; taken = sym (append-nil x.session.history.taken) };
@@ -671,6 +676,7 @@ whole-receives now i v x h =
       accepted = s.accepted;
       made = s.made;
       rule = s.rule;
+      t_max = s.t_max;
     } in
     let k = subst (λ (r : Receiver). UpperTurned (parts now (passed_by i v.red) v.upper) y (end_parts now (passed_by i r) y)) h.red
     (upper-parts now (passed_by i v.red) v.upper y noted_too) in
@@ -736,6 +742,7 @@ timed v x time h =
         accepted = u.accepted;
         made = u.made;
         rule = u.rule;
+        t_max = u.t_max;
       };
     }
 

@@ -24,6 +24,7 @@ fields_of u =
       request = option_map (λ a. a.items) u.request;
       count = u.count;
       max = u.max;
+      t_max = u.t_max;
       accepted = u.accepted;
       departed = u.departed;
       made = u.made;
@@ -68,6 +69,7 @@ pub record Stands (v : Fields) (x : EndState) : Type 0 where
   pub accepted : v.accepted ≡ counted (length x.session.history.put)  -- how many telegrams were put
   pub made : v.made ≡ with_made x.machine.made none_made  -- the counts of the PDUs made
   pub rule : x.machine.settings.rule ≡ rule_of x.settings  -- the machine uses the safety code of the settings
+  pub t_max : v.t_max ≡ x.machine.settings.t_max  -- T_max is that of the machine
 
 -- what is kept of all layers represents the state
 pub record BothStand (v : Inside) (x : EndState) : Type 0 where

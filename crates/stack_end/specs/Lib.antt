@@ -11,6 +11,7 @@ pub mod Later
 pub mod Kept
 pub mod EndValue
 pub mod Recent
+pub mod Timely
 pub mod Hearing
 pub mod Polling
 pub mod Bounds

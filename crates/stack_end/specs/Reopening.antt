@@ -22,6 +22,7 @@ emptied v =
       request = None;
       count = v.count;
       max = v.max;
+      t_max = v.t_max;
       accepted = 0;
       departed = None;
       made = none_made;

@@ -45,6 +45,7 @@ pub record Fields : Type 0 where
   pub request : Option (List ℕ)  -- the bytes of the ConnReq that it accepted
   pub count : ℕ  -- of its channels
   pub max : ℕ  -- messages packed into one unit
+  pub t_max : ℕ  -- T_max, in milliseconds
   pub accepted : ℕ  -- commands and status put, up to 2^64 - 1
   pub departed : Option Departure  -- how the end came to be closed
   pub made : MadeCounts  -- the PDUs made, counted by type

@@ -10,13 +10,13 @@ ghost use Rattle.stack_end.specs.Statistics.{received};
 ghost use Rattle.stack_end.specs.Turns.{above, arrives, can_pack, event_of, put_answer, puts};
 
 use crate::End;
-use crate::note::Listener;
 use crate::statistics::count_reception;
+use channels::Channels;
 use octets::Milliseconds;
 use pdi_session::{PutFault, Taker};
 use std::alloc::Allocator;
 
-impl<C: Listener, A: Allocator> End<C, A> {
+impl<C: Channels, A: Allocator> End<C, A> {
     /// Does the work of `arrive`: passes a datagram to the layers.
     pub(crate) fn take_datagram<T: Taker>(
         &mut self,

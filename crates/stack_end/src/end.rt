@@ -17,6 +17,7 @@ ghost use Rattle.stack_end.specs.Recent.{DatagramRecent, TickRecent};
 ghost use Rattle.stack_end.specs.Bounds.{IsBounded};
 ghost use Rattle.stack_end.specs.Certain.{confirmed_in};
 ghost use Rattle.stack_end.specs.Stale.{is_stale};
+ghost use Rattle.stack_end.specs.Timely.{margin_of};
 ghost use Rattle.stack_end.specs.Reopening.{reopens};
 ghost use Rattle.stack_end.specs.Statistics.{none_received, received};
 ghost use Rattle.octets.specs.declared.limits.TheConstants.{CHANNELS_MAX};
@@ -27,10 +28,9 @@ ghost use Rattle.stack_end.specs.declared.OpenFault.TheVariants.{BadConfig};
 
 use crate::departure::Departure;
 use crate::layers::Layers;
-use crate::note::Listener;
 use crate::statistics::{ReceptionCounts, Statistics};
 use crate::{OpenFault, POLL_BUFFER, POLL_DATAGRAMS, PollFault, opening};
-use channels::ChannelFault;
+use channels::{ChannelFault, Channels};
 use end_settings::{EndConfig, Side};
 use octets::Milliseconds;
 use octets::limits::CHANNELS_MAX;
@@ -68,7 +68,7 @@ impl<C, A: Allocator> Model for End<C, A> {
     ghost invariant = { λ e. IsKept e.layers };
 }
 
-impl<C: Listener, A: Allocator + Copy> End<C, A> {
+impl<C: Channels, A: Allocator + Copy> End<C, A> {
     /// Opens one side of a connection.
     ///
     /// An interlocking sends its ConnReq at once, numbered `first_sn`. A field element sends nothing and waits
@@ -115,7 +115,7 @@ impl<C: Listener, A: Allocator + Copy> End<C, A> {
     }
 }
 
-impl<C: Listener, A: Allocator> End<C, A> {
+impl<C: Channels, A: Allocator> End<C, A> {
     ghost use Rattle.stack_end.specs.Lending.{lends_channels};
 
     /// Processes a received datagram, which may contain any bytes.
@@ -490,13 +490,23 @@ impl<C: Listener, A: Allocator> End<C, A> {
         self.layers.upper.confirmed()
     }
 
-    /// Returns the own time last confirmed by the peer, in milliseconds. A telegram taken came in a PDU that confirms
-    /// a PDU which this end made at that time or later.
+    /// Returns the own time last confirmed by the peer, in milliseconds. After a call at which a telegram was taken it is
+    /// less than T_max old (`timely_law`).
     pub fn confirmed_time(&self) -> Milliseconds
         // The result is the confirmed timestamp that the safety machine keeps.
         ensures { result ≡ (inside self.now).upper.machine.confirmed_at }
     {
         self.layers.upper.machine.confirmed_time()
+    }
+
+    /// Returns the margin to T_max: how long it is until T_max ends the connection, in milliseconds, if the peer confirms
+    /// nothing more. Returns 0 if it is reached, and `None` without a connection.
+    pub fn margin(&self, now: Milliseconds) -> Option<Milliseconds>
+        // In Down and Closed the result is `None`; otherwise it is T_max less the time since the peer last confirmed, and
+        // at least 0.
+        ensures { result ≡ margin_of now (inside self.now).upper }
+    {
+        self.layers.upper.margin(now)
     }
 
     /// Returns who ended the connection, why and when, or `None` while the end is open. It stays until the end is

@@ -1,47 +1,84 @@
 //! Judging units: the session processes the messages of each unit that the safety machine delivers, in order.
 
-ghost use Rattle.std.specs.Prelude.{◌≡◌};
+ghost use Rattle.std.specs.Prelude.{◌≡◌, false, Some};
 ghost use Rattle.pdi_session.specs.packing.Places.{unit_seen};
 ghost use Rattle.pdi_session.specs.telegram.Places.{tele_seen};
 ghost use Rattle.pdi_session.specs.SessionStep.{FewWait};
-ghost use Rattle.stack_end.specs.Dialogue.{for_session, judge_messages, judge_read, judge_unpacked};
+ghost use Rattle.stack_end.specs.Dialogue.{for_session, is_taken, judge_messages, judge_read, judge_unpacked};
 ghost use Rattle.stack_end.specs.Talk.{Judges, judge_next, talk, texts_of};
 
 use octets::limits::UNIT_MESSAGES;
 use pdi_session::packing::{Waiting, unpack};
 use pdi_session::telegram::decode;
-use pdi_session::{Phase, Session, Taker};
+use pdi_session::{Phase, Session, SessionDetail, Taker};
 use safe_machine::{Detail, Reason, UnitIn};
 use std::alloc::Allocator;
 
-/// The phases of a session after each message of a unit, in order. Used for notes only.
+/// What judging a message led to.
 #[derive(Clone, Copy)]
-pub(crate) struct Phases {
-    /// The phases, the first one first.
-    list: [Phase; UNIT_MESSAGES],
-    /// The number of phases that are set.
+pub(crate) struct Judgement {
+    /// Why the end has to disconnect, or `None`.
+    pub(crate) asked: Option<(Reason, Detail)>,
+    /// Whether the application took the message.
+    pub(crate) is_taken: bool,
+}
+
+impl Judgement {
+    /// Returns the judgement of a message at which the end has to disconnect, and which is not taken.
+    fn leaves(why: (Reason, Detail)) -> Self
+        // The end has to disconnect with this reason and detail.
+        ensures asked { result.asked ≡ Some why }
+        // The message is not taken.
+        ensures taken { result.is_taken ≡ false }
+    {
+        Judgement {
+            asked: Some(why),
+            is_taken: false,
+        }
+    }
+}
+
+/// A message of a unit that was judged.
+#[derive(Clone, Copy)]
+pub(crate) struct JudgedMessage {
+    /// The phase of the session after it.
+    pub(crate) phase: Phase,
+    /// Whether the application took it.
+    pub(crate) is_taken: bool,
+}
+
+/// The messages of a unit that were judged, in order. Used for notes only.
+#[derive(Clone, Copy)]
+pub(crate) struct JudgedMessages {
+    /// The messages, the first one first.
+    list: [JudgedMessage; UNIT_MESSAGES],
+    /// The number of messages that are set.
     count: usize,
 }
 
-impl Phases {
+impl JudgedMessages {
     /// Returns an empty list: no message has been judged.
     pub(crate) fn new() -> Self {
-        Phases {
-            list: [Phase::Idle; UNIT_MESSAGES],
+        let none = JudgedMessage {
+            phase: Phase::Idle,
+            is_taken: false,
+        };
+        JudgedMessages {
+            list: [none; UNIT_MESSAGES],
             count: 0,
         }
     }
 
-    /// Adds the phase after another message. A unit has no more messages than there is room for.
-    fn push(&mut self, phase: Phase) {
+    /// Adds another message. A unit has no more messages than there is room for.
+    fn push(&mut self, message: JudgedMessage) {
         if let Some(place) = self.list.get_mut(self.count) {
-            *place = phase;
+            *place = message;
             self.count += 1;
         }
     }
 
-    /// Returns the phases added so far.
-    pub(crate) fn as_slice(&self) -> &[Phase] {
+    /// Returns the messages added so far.
+    pub(crate) fn as_slice(&self) -> &[JudgedMessage] {
         self.list.get(..self.count).unwrap_or(&self.list)
     }
 }
@@ -57,8 +94,8 @@ pub(crate) struct ToSession<'a, 'b, 'c, A: Allocator, T> {
     pub(crate) taker: &'c mut T,
     /// Why the end has to disconnect, or `None`.
     pub(crate) asked: Option<(Reason, Detail)>,
-    /// The phases of the session after each message, for notes.
-    pub(crate) phases: Phases,
+    /// The messages that were judged, for notes.
+    pub(crate) judged: JudgedMessages,
 }
 
 impl<'a, 'b, 'c, A: Allocator, T: Taker> UnitIn for ToSession<'a, 'b, 'c, A, T> {
@@ -78,7 +115,7 @@ impl<'a, 'b, 'c, A: Allocator, T: Taker> UnitIn for ToSession<'a, 'b, 'c, A, T> 
                 self.waiting,
                 self.taker,
                 unit,
-                &mut self.phases,
+                &mut self.judged,
             );
         }
     }
@@ -90,7 +127,7 @@ fn judge_unit<A: Allocator, T: Taker>(
     waiting: &mut Waiting<A>,
     taker: &mut T,
     unit: &[u8],
-    phases: &mut Phases,
+    judged: &mut JudgedMessages,
 ) -> Option<(Reason, Detail)>
     requires few { FewWait session.old waiting.old }
     // A unit that unpacks has its messages judged in order; one that does not changes nothing and disconnects with
@@ -101,7 +138,7 @@ fn judge_unit<A: Allocator, T: Taker>(
     ensures few { FewWait session.new waiting.new }
 {
     match unpack(unit) {
-        Ok(messages) => judge_messages(session, waiting, taker, &messages, phases),
+        Ok(messages) => judge_messages(session, waiting, taker, &messages, judged),
         Err(_) => Some((Reason::ProtocolError, Detail::BadUnit)),
     }
 }
@@ -112,7 +149,7 @@ fn judge_messages<A: Allocator, T: Taker>(
     waiting: &mut Waiting<A>,
     taker: &mut T,
     messages: &[&[u8]],
-    phases: &mut Phases,
+    judged: &mut JudgedMessages,
 ) -> Option<(Reason, Detail)>
     requires few { FewWait session.old waiting.old }
     // The messages are judged in order. At the first one for which the end has to disconnect, its reason is returned
@@ -123,34 +160,43 @@ fn judge_messages<A: Allocator, T: Taker>(
     ensures few { FewWait session.new waiting.new }
 {
     for message in messages {
-        let asked = judge_message(session, waiting, taker, message);
-        phases.push(session.phase());
-        if let Some(leaving) = asked {
+        let judgement = judge_message(session, waiting, taker, message);
+        judged.push(JudgedMessage {
+            phase: session.phase(),
+            is_taken: judgement.is_taken,
+        });
+        if let Some(leaving) = judgement.asked {
             return Some(leaving);
         }
     }
     None
 }
 
-/// Judges one message. Returns why the end has to disconnect, or `None`.
+/// Judges one message.
 fn judge_message<A: Allocator, T: Taker>(
     session: &mut Session,
     waiting: &mut Waiting<A>,
     taker: &mut T,
     message: &[u8],
-) -> Option<(Reason, Detail)>
+) -> Judgement
     requires few { FewWait session.old waiting.old }
     // The session processes a message that is a telegram, and the result says whether that ended it. Any other
     // message changes nothing and disconnects with reason 4, detail 3.
     ensures judged { Judges T.takes (judge_read (tele_seen message.now)) (talk session.old waiting.old taker.old)
-        (talk session.new waiting.new taker.new) result }
+        (talk session.new waiting.new taker.new) result.asked }
+    // The result says whether the application took the message: it is a telegram that the session's table takes.
+    ensures taken { result.is_taken ≡ is_taken (tele_seen message.now) session.old }
     // After one message, there is room among the waiting messages for the session's next.
     ensures few { FewWait session.new waiting.new }
 {
+    let before = session.phase();
     if let Some(telegram) = session.known(message) {
         return match session.arrive_known(&telegram, waiting, taker) {
-            Ok(()) => None,
-            Err(end) => Some(for_session(end.detail)),
+            Ok(()) => Judgement {
+                asked: None,
+                is_taken: session.phase() == before,
+            },
+            Err(end) => Judgement::leaves(for_session(end.detail)),
         };
     }
     judge_other(session, waiting, taker, message)
@@ -165,39 +211,39 @@ fn judge_other<A: Allocator, T: Taker>(
     waiting: &mut Waiting<A>,
     taker: &mut T,
     message: &[u8],
-) -> Option<(Reason, Detail)>
+) -> Judgement
     requires few { FewWait session.old waiting.old }
     // A message that is not a telegram changes nothing and disconnects with reason 4, detail 3; a telegram goes to
     // the session, and the result says whether that ended it.
     ensures judged { Judges T.takes (judge_read (tele_seen message.now)) (talk session.old waiting.old taker.old)
-        (talk session.new waiting.new taker.new) result }
+        (talk session.new waiting.new taker.new) result.asked }
+    // The result says whether the application took the message, as the session's table decides.
+    ensures taken { result.is_taken ≡ is_taken (tele_seen message.now) session.old }
     // After such a message, there is room among the waiting messages for the session's next.
     ensures few { FewWait session.new waiting.new }
 {
+    let earlier = session.phase();
     match decode(message) {
         Ok(telegram) => match session.arrive(&telegram, waiting, taker) {
-            Ok(()) => None,
-            Err(end) => Some(for_session(end.detail)),
+            Ok(()) => Judgement {
+                asked: None,
+                is_taken: session.phase() == earlier,
+            },
+            Err(over) => Judgement::leaves(for_session(over.detail)),
         },
-        Err(_) => Some((Reason::ServiceNotAllowed, Detail::NotWellFormed)),
+        Err(_) => Judgement::leaves((Reason::ServiceNotAllowed, Detail::NotWellFormed)),
     }
 }
 
 /// Returns the reason and detail with which an end disconnects when its session ends.
-fn for_session(detail: pdi_session::SessionDetail) -> (Reason, Detail)
+fn for_session(detail: SessionDetail) -> (Reason, Detail)
     // The reason is 4 (service not allowed), with the detail of the session; a telegram of another pair counts as not
     // well formed.
     ensures { result ≡ for_session detail }
 {
     match detail {
-        pdi_session::SessionDetail::VersionDiffers => (
-            Reason::ServiceNotAllowed,
-            Detail::VersionDiffers,
-        ),
-        pdi_session::SessionDetail::OutOfOrder => (Reason::ServiceNotAllowed, Detail::OutOfOrder),
-        pdi_session::SessionDetail::NotOfThisPair => (
-            Reason::ServiceNotAllowed,
-            Detail::NotWellFormed,
-        ),
+        SessionDetail::VersionDiffers => (Reason::ServiceNotAllowed, Detail::VersionDiffers),
+        SessionDetail::OutOfOrder => (Reason::ServiceNotAllowed, Detail::OutOfOrder),
+        SessionDetail::NotOfThisPair => (Reason::ServiceNotAllowed, Detail::NotWellFormed),
     }
 }

@@ -2,6 +2,7 @@
 
 ghost use Rattle.stack_end.specs.Reopening.{AgainLaw};
 ghost use Rattle.stack_end.specs.Stale.{FreshLaw, TakesRequestLaw};
+ghost use Rattle.stack_end.specs.Timely.{TimelyLaw};
 ghost use Rattle.stack_end.specs.Turned.{AnyChannelLaw, LastLaw, TellsLaw, TurnsLaw};
 
 /// The laws of an end. They hold of anything that an end can keep, and of every state (with the whole history) that
@@ -34,4 +35,11 @@ pub fn reopening_law()
     // Whatever calls an end has made since it was opened: if it is opened again, it keeps what an end newly opened with
     // the same settings on the same side keeps, and sends the same datagrams.
     ensures again { AgainLaw }
+{}
+
+/// The law of the time last confirmed. A call does nothing.
+pub fn timely_law()
+    // If anything is taken at a call's time, the own time last confirmed is less than T_max old after the call. It stays so
+    // in further calls at that time, so this holds of a poll, too.
+    ensures timely { TimelyLaw }
 {}

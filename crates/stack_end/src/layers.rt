@@ -8,9 +8,9 @@ ghost use Rattle.stack_end.specs.Kept.{IsKept};
 ghost use Rattle.stack_end.specs.Reopening.{reopens};
 ghost use Rattle.stack_end.specs.Turns.{above, arrives, closes, completes, event_of, goes_on, passes, puts, red_event};
 
-use crate::note::Listener;
 use crate::telling::{tell_change, tell_opened};
 use crate::upper::Upper;
+use channels::Channels;
 use octets::Milliseconds;
 use pdi_session::{InitFault, PutFault, Taker};
 use red_layer::{RedEvent, RedLayer};
@@ -26,7 +26,7 @@ pub(crate) struct Layers<C, A: Allocator = Global> {
     pub(crate) upper: Upper<C, A>,
 }
 
-impl<C: Listener, A: Allocator> Layers<C, A> {
+impl<C: Channels, A: Allocator> Layers<C, A> {
     /// Processes a datagram: the timeout check, and if that leaves the end open, the layers.
     pub(crate) fn arrive<T: Taker>(
         &mut self,

@@ -9,7 +9,6 @@ mod end;
 mod judging;
 mod law;
 mod layers;
-mod note;
 mod opening;
 mod sending;
 mod statistics;
@@ -18,8 +17,7 @@ mod upper;
 
 pub use departure::{Departure, Leaver};
 pub use end::End;
-pub use law::{end_law, stale_law};
-pub use note::{Listener, Note};
+pub use law::{end_law, stale_law, timely_law};
 pub use statistics::{MadeCounts, PartCounts, ReceptionCounts, Statistics};
 
 /// The length in bytes of the buffer into which a poll receives; a longer datagram is cut.

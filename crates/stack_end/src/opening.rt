@@ -20,12 +20,12 @@ ghost use Rattle.stack_end.specs.declared.OpenFault.TheVariants.{BadConfig};
 
 use crate::OpenFault;
 use crate::layers::Layers;
-use crate::note::Listener;
 use crate::sending::ToChannels;
 use crate::statistics::{MadeCounts, PartCounts};
 use crate::telling::tell_opened;
 use crate::upper::Upper;
 use arrayvec::ArrayVec;
+use channels::Channels;
 use end_settings::{EndConfig, Side};
 use octets::{Milliseconds, copy_of};
 use pdi_session::packing::{Unit, Waiting};
@@ -35,7 +35,7 @@ use safe_machine::{Machine, MachineFault};
 use std::alloc::Allocator;
 
 /// Opens the layers of an end. On failure, the channels are returned.
-pub(crate) fn open<C: Listener, A: Allocator + Copy>(
+pub(crate) fn open<C: Channels, A: Allocator + Copy>(
     alloc: A,
     channels: C,
     config: EndConfig,
@@ -96,6 +96,7 @@ pub(crate) fn open<C: Listener, A: Allocator + Copy>(
         request: None,
         count: config.channels as usize,
         max: config.n_maxpacket as usize,
+        t_max: config.t_max,
         accepted: 0,
         departed: None,
         made,
@@ -106,7 +107,7 @@ pub(crate) fn open<C: Listener, A: Allocator + Copy>(
 }
 
 /// Opens the safety machine of an end and sends the PDU that it makes, if any.
-fn open_machine<C: Listener, A: Allocator>(
+fn open_machine<C: Channels, A: Allocator>(
     alloc: A,
     config: &EndConfig,
     side: Side,

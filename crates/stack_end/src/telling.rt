@@ -2,8 +2,8 @@
 
 ghost use Rattle.std.specs.Prelude.{◌≡◌};
 
-use crate::judging::Phases;
-use crate::note::{Listener, Note};
+use crate::judging::JudgedMessages;
+use channels::{Channels, Note};
 use octets::limits::SAFE_HEADER;
 use pdi_session::Phase;
 use pdi_session::packing::unpack;
@@ -20,7 +20,7 @@ pub(crate) struct Seen {
 }
 
 /// Notes the state of an end that was opened.
-pub(crate) fn tell_opened<C: Listener>(channels: &mut C, state: ConnectionState)
+pub(crate) fn tell_opened<C: Channels>(channels: &mut C, state: ConnectionState)
     // The note of an opening changes nothing that `told` shows of the channels.
     ensures { C.told channels.new ≡ C.told channels.old }
 {
@@ -28,7 +28,7 @@ pub(crate) fn tell_opened<C: Listener>(channels: &mut C, state: ConnectionState)
 }
 
 /// Notes what the redundancy layer did with a datagram.
-pub(crate) fn tell_event<C: Listener>(channels: &mut C, octets: &[u8], event: RedEvent)
+pub(crate) fn tell_event<C: Channels>(channels: &mut C, octets: &[u8], event: RedEvent)
     // The note of a datagram changes nothing that `told` shows of the channels.
     ensures { C.told channels.new ≡ C.told channels.old }
 {
@@ -42,17 +42,16 @@ pub(crate) fn tell_event<C: Listener>(channels: &mut C, octets: &[u8], event: Re
     channels.note(&Note::Redundancy(number, event));
 }
 
-/// Notes the machine's result for a part, then the session's result for each message of its unit. A message that
-/// leaves the phase as it was has been taken, unless it ended the session.
-pub(crate) fn tell_step<C: Listener>(
+/// Notes the machine's result for a part, then for each message of its unit that it was taken, or the phase that the
+/// session changed to.
+pub(crate) fn tell_step<C: Channels>(
     channels: &mut C,
     number: u32,
     step: Step,
     part: &[u8],
     code: usize,
     phase: Phase,
-    phases: &Phases,
-    ended: bool,
+    judged: &JudgedMessages,
 )
     // The notes of a part and its messages change nothing that `told` shows of the channels.
     ensures { C.told channels.new ≡ C.told channels.old }
@@ -61,8 +60,8 @@ pub(crate) fn tell_step<C: Listener>(
         return;
     }
     channels.note(&Note::Step(number, step));
-    let phases = phases.as_slice();
-    if phases.is_empty() {
+    let judged = judged.as_slice();
+    if judged.is_empty() {
         return;
     }
     let end = part.len().saturating_sub(code);
@@ -73,20 +72,18 @@ pub(crate) fn tell_step<C: Listener>(
         return;
     };
     let mut before = phase;
-    let mut left = phases.len();
-    for (message, after) in messages.iter().zip(phases) {
-        left = left.saturating_sub(1);
-        if *after != before {
-            channels.note(&Note::Phase(*after));
-        } else if left > 0 || !ended {
+    for (message, judged) in messages.iter().zip(judged) {
+        if judged.is_taken {
             tell_take(channels, message);
+        } else if judged.phase != before {
+            channels.note(&Note::Phase(judged.phase));
         }
-        before = *after;
+        before = judged.phase;
     }
 }
 
 /// Notes a telegram that was taken.
-fn tell_take<C: Listener>(channels: &mut C, message: &[u8])
+fn tell_take<C: Channels>(channels: &mut C, message: &[u8])
     // The note of a taken telegram changes nothing that `told` shows of the channels.
     ensures { C.told channels.new ≡ C.told channels.old }
 {
@@ -96,7 +93,7 @@ fn tell_take<C: Listener>(channels: &mut C, message: &[u8])
 }
 
 /// Notes state and phase, each if it has changed.
-pub(crate) fn tell_change<C: Listener>(channels: &mut C, before: Seen, after: Seen)
+pub(crate) fn tell_change<C: Channels>(channels: &mut C, before: Seen, after: Seen)
     // The notes of a new state and phase change nothing that `told` shows of the channels.
     ensures { C.told channels.new ≡ C.told channels.old }
 {

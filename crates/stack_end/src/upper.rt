@@ -12,15 +12,16 @@ ghost use Rattle.safe_pdu.specs.Places.{safe_seen};
 ghost use Rattle.safe_machine.specs.Octets.{heard_answer};
 ghost use Rattle.stack_end.specs.Turns.{can_pack, closes, completes, counts, departs, goes_up, guards, hears, judged_at, leaves, notes, packs_once, part, parts, puts, sends};
 ghost use Rattle.stack_end.specs.Turns.{settles, ticks, waited};
+ghost use Rattle.stack_end.specs.Timely.{margin_of};
 ghost use Rattle.stack_end.specs.Reopening.{emptied, machine_reopens};
 
 use crate::departure::{Departure, closes, own_departure, part_departure, user_leaves};
-use crate::judging::{Phases, ToSession};
-use crate::note::Listener;
+use crate::judging::{JudgedMessages, ToSession};
 use crate::sending::ToChannels;
 use crate::statistics::{MadeCounts, PartCounts};
 use crate::telling::{Seen, tell_change, tell_event, tell_step};
 use arrayvec::ArrayVec;
+use channels::Channels;
 use octets::limits::{SAFE_PDU_MAX, UNIT_MESSAGES};
 use octets::{Milliseconds, copy_of};
 use pdi_session::packing::{Unit, Waiting, pack_into};
@@ -50,6 +51,8 @@ pub(crate) struct Upper<C, A: Allocator = Global> {
     pub(crate) count: usize,
     /// The most messages packed into one unit.
     pub(crate) max: usize,
+    /// T_max.
+    pub(crate) t_max: Milliseconds,
     /// The number of commands or status put, up to 2^64 - 1.
     pub(crate) accepted: u64,
     /// How the end came to be closed, if it is.
@@ -72,11 +75,11 @@ struct Heard {
     step: Step,
     /// Why the end has to disconnect, or `None`.
     asked: Option<(Reason, Detail)>,
-    /// The phase of the session after each message.
-    phases: Phases,
+    /// The messages of its unit that the session judged.
+    judged: JudgedMessages,
 }
 
-impl<C: Listener, A: Allocator> Upper<C, A> {
+impl<C: Channels, A: Allocator> Upper<C, A> {
     /// Passes a part to the machine, and the unit that it delivers to the session.
     fn hear<T: Taker>(&mut self, octets: &[u8], now: Milliseconds, taker: &mut T) -> Heard
         requires reach { self.old.machine.expected < 2 ^ 62 }
@@ -104,13 +107,13 @@ impl<C: Listener, A: Allocator> Upper<C, A> {
             waiting: &mut self.waiting,
             taker,
             asked: None,
-            phases: Phases::new(),
+            judged: JudgedMessages::new(),
         };
         let step = self.machine.arrive(octets, now, &mut out, &mut units);
         Heard {
             step,
             asked: units.asked,
-            phases: units.phases,
+            judged: units.judged,
         }
     }
 
@@ -186,6 +189,18 @@ impl<C: Listener, A: Allocator> Upper<C, A> {
         match self.machine.state() {
             ConnectionState::Down | ConnectionState::Closed => 0,
             _ => now.saturating_sub(self.machine.confirmed_time()),
+        }
+    }
+
+    /// Returns the margin to T_max: how long it is until it ends the connection, in milliseconds.
+    pub(crate) fn margin(&self, now: Milliseconds) -> Option<Milliseconds>
+        // With a connection, the result is T_max less the time since the last confirmed timestamp, and at least 0; without
+        // one it is `None`.
+        ensures { result ≡ margin_of now (fields_of self.now) }
+    {
+        match self.machine.state() {
+            ConnectionState::Down | ConnectionState::Closed => None,
+            _ => Some(self.t_max.saturating_sub(self.waited(now))),
         }
     }
 
@@ -269,8 +284,7 @@ impl<C: Listener, A: Allocator> Upper<C, A> {
             octets,
             self.code,
             before.phase,
-            &heard.phases,
-            heard.asked.is_some(),
+            &heard.judged,
         );
         let seen = Seen {
             state: before.state,
@@ -559,7 +573,7 @@ struct ToUpper<'a, 'b, C, A: Allocator, T> {
     now: Milliseconds,
 }
 
-impl<'a, 'b, C: Listener, A: Allocator, T: Taker> Upward for ToUpper<'a, 'b, C, A, T> {
+impl<'a, 'b, C: Channels, A: Allocator, T: Taker> Upward for ToUpper<'a, 'b, C, A, T> {
     ghost use Rattle.std.specs.Prelude.{◌≡◌, ◌*◌, ◌≤◌};
     ghost use Rattle.stack_end.specs.Later.{later_reach};
 
@@ -579,7 +593,7 @@ impl<'a, 'b, C: Listener, A: Allocator, T: Taker> Upward for ToUpper<'a, 'b, C, 
     ghost later = { λ s n m le h. (later_reach s.upper.now.machine.expected n m le h.0, h.1) };
 }
 
-impl<C: Listener, A: Allocator> Upper<C, A> {
+impl<C: Channels, A: Allocator> Upper<C, A> {
     /// Passes a datagram to the redundancy layer, and each part that goes up to the layers above.
     pub(crate) fn receive<B: Allocator, T: Taker>(
         &mut self,

@@ -1,7 +1,7 @@
 -- The notes of an event, as a caller sees them.
 use Rattle.std.specs.Prelude.{◌≡◌, ℕ, ◌+◌, ◌-◌, Option, Some, None, option_map, option_and_then, List, map, length, slice_get}
 use Rattle.pdi_session.specs.SessionStep.{Item}
-use Rattle.stack_end.specs.declared.note.Note.TheVariants as note
+use Rattle.channels.specs.declared.note.Note.TheVariants as note
 use Rattle.stack_end.specs.Ends.{EndState}
 use Rattle.stack_engine.specs.declared.notes.KeptNote.{KeptNote}
 use Rattle.stack_engine.specs.declared.notes.KeptNote.TheVariants as kept

@@ -9,9 +9,8 @@ ghost use Rattle.stack_engine.specs.Keeping.{Keeping, has_part};
 use crate::notes::{KeptNote, Notes};
 use crate::telegrams::Telegrams;
 use crate::texts::Texts;
-use channels::{ChannelFault, Channels};
+use channels::{ChannelFault, Channels, Note};
 use octets::limits::{RED_HEADER, RED_PDU_MAX};
-use stack_end::{Listener, Note};
 use std::alloc::{AllocError, Allocator, Global};
 use std::collections::VecDeque;
 use std::marker::Model;
@@ -188,9 +187,7 @@ impl<A: Allocator + Copy> Channels for Keeper<A> {
         let _none = buffer;
         Ok(None)
     }
-}
 
-impl<A: Allocator + Copy> Listener for Keeper<A> {
     fn hears_notes(&self) -> bool {
         true
     }

@@ -4,10 +4,10 @@ ghost use Rattle.std.specs.Prelude.{◌≡◌, ◌==◌, option_map};
 
 use crate::telegrams::Telegrams;
 use crate::texts::Texts;
+use channels::Note;
 use pdi_session::Phase;
 use red_layer::RedEvent;
 use safe_machine::{ConnectionState, Step};
-use stack_end::Note;
 use std::alloc::{Allocator, Global};
 use std::collections::VecDeque;
 

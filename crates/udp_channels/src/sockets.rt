@@ -8,7 +8,6 @@ ghost use Rattle.channels.specs.declared.ChannelFault.TheVariants as channel_fau
 ghost use Rattle.udp_channels.specs.declared.sockets.Reception.{Reception};
 
 use channels::{ChannelFault, Channels};
-use stack_end::Listener;
 use std::alloc::{Allocator, Global};
 use std::marker::Model;
 
@@ -253,9 +252,7 @@ impl<S: Socket, A: Allocator> Channels for SocketChannels<S, A> {
         }
         result
     }
-}
 
-impl<S: Socket, A: Allocator> Listener for SocketChannels<S, A> {
     /// Returns false: nothing listens for notes here.
     fn hears_notes(&self) -> bool
         // Channels over sockets receive no notes.

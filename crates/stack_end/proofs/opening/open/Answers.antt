@@ -47,5 +47,6 @@ returns-clause-stands g c =
             accepted = refl;
             made = c.in-Ok-open_machine.ensures.made;
             rule = search rules;
+            t_max = search rules;
           };
     }

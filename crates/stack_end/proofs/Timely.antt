@@ -1,0 +1,331 @@
+-- The own time last confirmed never goes back in a call, and what is taken comes after a timeout check that passed.
+use Rattle.stack_end.proofs.Words.{[], above, ap, append-nil, arith, Bool, dialogue_of, false, Fields, followed, goes_on, goes_up, guards, hears, hears_units, if◌then◌else◌}
+use Rattle.stack_end.proofs.Words.{Inside, inl, inr, Input, is_closed, is_over, judge_units, judged_at, Leaving, leaves, List, machine_hears, machine_turn, MachineTurn, None}
+use Rattle.stack_end.proofs.Words.{notes, Ok, Option, packs, packs_up_to, Part, part, parts, passed_by, receives, refl, rules, sends, session_turn, settles, Some, still}
+use Rattle.stack_end.proofs.Words.{Closes, meets, RedTick, subst, suc, sym, true, Turn, View, zero, ℕ, ◌++◌, ◌+◌, ◌<◌, ◌∙◌, ◌∷◌, ◌≡◌, ◌≢◌, ◌⊎◌, Err, Result, Datagram, can_pack}
+use Rattle.std.specs.Prelude.{◌-◌, nat_le, nat_lt, ◌&&◌}
+use Rattle.safe_machine.specs.Connections.{in_turn, is_live}
+use Rattle.safe_machine.specs.Decision.{as_client, by_connection, by_table, cts_step, distance}
+use Rattle.safe_machine.specs.Deadlines.{beat_due}
+use Rattle.safe_machine.specs.Made.{carries, leaving_body}
+use Rattle.safe_machine.specs.Octets.{heard as heard_move}
+use Rattle.safe_machine.specs.Turned.{turn as machine_move, handed}
+use Rattle.safe_machine.specs.Turns.{accepts as machine_accepts, answers_ahead, answers_early, answers_next, asks, both_confirmed, carries_out, responds, counted, guards as machine_guards, hands, leaves as machine_leaves}
+use Rattle.safe_machine.specs.Turns.{passed, replies, requested, resends, says, sends as machine_sends, sends_unit, has_room, still as machine_still, takes_unit, ticks as machine_ticks}
+use Rattle.safe_machine.specs.Turns.{units_confirmed, beats}
+use Rattle.safe_machine.specs.declared.ConnectionState.{ConnectionState}
+use Rattle.safe_machine.specs.declared.ConnectionState.TheVariants.{Closed, Down, RetrReq as Requesting, RetrRun, Start, Up}
+use Rattle.safe_machine.specs.retrans.Units.{octets_of}
+use Rattle.safe_pdu.specs.Pdu.{Pdu}
+use Rattle.safe_pdu.specs.Places.{safe_seen}
+use Rattle.safe_pdu.specs.declared.Kind.{Kind}
+use Rattle.safe_pdu.specs.declared.Kind.TheVariants.{ConnReq, ConnResp, Data, DiscReq, Heartbeat, RetrData, RetrReq, RetrResp}
+use Rattle.safe_pdu.specs.declared.SafeFault.{SafeFault}
+use Rattle.safe_pdu.specs.declared.reasons.Detail.{Detail}
+use Rattle.safe_pdu.specs.declared.reasons.Detail.TheVariants.{Limit, Unspecified}
+use Rattle.safe_pdu.specs.declared.reasons.Reason.{Reason}
+use Rattle.safe_pdu.specs.declared.reasons.Reason.TheVariants.{ProtocolError, Timeout, UnexpectedPdu}
+use Rattle.stack_end.specs.Timely.{IsTimely, t_max_of, TimelyLaw, TurnTimely}
+use Rattle.stack_end.specs.Turns.{arrives, closing, departs, passes, ticks}
+use Rattle.stack_end.proofs.Packing.{guards-none, part-taken, sends-none, ticks-none}
+
+-- one machine after another: T_max stays, and what was less than T_max old at this time still is
+record Ages (now : ℕ) (v w : View) : Type 0 where
+  limit : w.settings.t_max ≡ v.settings.t_max
+  stays : now - v.confirmed_at < v.settings.t_max → now - w.confirmed_at < w.settings.t_max
+
+-- the time last confirmed stays, moves on, or becomes this time
+stays-same : (c d m n now : ℕ) → d ≡ c → n ≡ m → now - c < m → now - d < n
+stays-same c d m n now e f h = omega (arith, e, f, h)
+
+stays-on : (c d k m n now : ℕ) → d ≡ c + k → n ≡ m → now - c < m → now - d < n
+stays-on c d k m n now e f h = omega (arith, e, f, h)
+
+stays-now : (c d m n now : ℕ) → d ≡ now → n ≡ m → now - c < m → now - d < n
+stays-now c d m n now e f h = omega (arith, e, f, h)
+
+ages-same : (now : ℕ) (v w : View) → w.settings.t_max ≡ v.settings.t_max → w.confirmed_at ≡ v.confirmed_at → Ages now v w
+ages-same now v w e f = record { limit = e; stays = stays-same v.confirmed_at w.confirmed_at v.settings.t_max w.settings.t_max now f e }
+
+ages-on : (now k : ℕ) (v w : View) → w.settings.t_max ≡ v.settings.t_max → w.confirmed_at ≡ v.confirmed_at + k → Ages now v w
+ages-on now k v w e f = record { limit = e; stays = stays-on v.confirmed_at w.confirmed_at k v.settings.t_max w.settings.t_max now f e }
+
+ages-now : (now : ℕ) (v w : View) → w.settings.t_max ≡ v.settings.t_max → w.confirmed_at ≡ now → Ages now v w
+ages-now now v w e f = record { limit = e; stays = stays-now v.confirmed_at w.confirmed_at v.settings.t_max w.settings.t_max now f e }
+
+then-ages : (now : ℕ) (u v w : View) → Ages now u v → Ages now v w → Ages now u w
+then-ages now u v w a b = record { limit = b.limit ∙ a.limit; stays = λ h. b.stays (a.stays h) }
+
+-- a choice between two turns
+choice : {A : Type 0} (P : A → Type 0) (b : Bool) (x y : A) → P x → P y → P (if b then x else y)
+choice P true x y h k = h
+choice P false x y h k = k
+
+-- leaving, the timeout check and the timers
+abbrev Aged : ℕ → View → MachineTurn → Type 0
+Aged now v t = Ages now v t.left
+
+closed-ages : (now : ℕ) (v : View) (t : MachineTurn) (c : ConnectionState) → Aged now v t → Ages now v (record t.left { connection = c })
+closed-ages now v t c h = record { limit = h.limit; stays = h.stays }
+
+leaves-ages : (reason : Reason) (detail : Detail) (now : ℕ) (v : View) → Aged now v (machine_leaves reason detail now v)
+leaves-ages reason detail now v =
+    closed-ages now v (if is_live v.connection then says DiscReq (leaving_body reason detail) now v else machine_still v) Closed
+    (choice (Aged now v) (is_live v.connection) (says DiscReq (leaving_body reason detail) now v) (machine_still v) (ages-same now v _ refl refl)
+    (ages-same now v _ refl refl))
+
+guards-ages : (now : ℕ) (v : View) → Aged now v (machine_guards now v)
+guards-ages now v =
+    let over = machine_leaves Timeout Unspecified now v in
+    let many = machine_leaves ProtocolError Limit now v in
+    let rest = if nat_le v.settings.pdu_limit v.made then many else machine_still v in
+    let same = ages-same now v v refl refl in
+    choice (Aged now v) (is_live v.connection) (if nat_le (v.confirmed_at + v.settings.t_max) now then over else rest) (machine_still v)
+    (choice (Aged now v) (nat_le (v.confirmed_at + v.settings.t_max) now) over rest (leaves-ages Timeout Unspecified now v)
+    (choice (Aged now v) (nat_le v.settings.pdu_limit v.made) many (machine_still v) (leaves-ages ProtocolError Limit now v) same))
+    same
+
+ticks-ages : (now : ℕ) (v : View) → Aged now v (machine_ticks now v)
+ticks-ages now v =
+    let u = (machine_guards now v).left in
+    then-ages now v u _ (guards-ages now v)
+    (choice (Aged now u) (beat_due now u) (says Heartbeat [] now u) (machine_still u) (ages-same now u _ refl refl) (ages-same now u _ refl refl))
+
+-- an answer: units that are sent again change neither T_max nor the time last confirmed
+resends-ages : (us : List (List ℕ)) (now : ℕ) (v : View) → Aged now v (resends us now v)
+resends-ages [] now v = ages-same now v _ refl refl
+resends-ages (u ∷ us) now v = then-ages now v (counted now v) _ (ages-same now v _ refl refl) (resends-ages us now (counted now v))
+
+replies-ages : (now : ℕ) (v : View) → Aged now v (replies now v)
+replies-ages now v =
+    let u = (resends (octets_of v.ring) now (counted now v)).left in
+    then-ages now v (counted now v) _ (ages-same now v _ refl refl)
+    (then-ages now (counted now v) u _ (resends-ages (octets_of v.ring) now (counted now v)) (ages-same now u _ refl refl))
+
+unit-ages : (p : Pdu) (now : ℕ) (v : View) → Aged now v (takes_unit p now v)
+unit-ages p now v =
+    let u = record v { since = v.since + 1 } in
+    let said = says Heartbeat [] now u in
+    let one = if nat_le v.settings.mwa u.since then said else machine_still u in
+    choice (Aged now v) (carries p.kind) one (machine_still v)
+    (choice (Aged now v) (nat_le v.settings.mwa u.since) said (machine_still u) (ages-same now v said.left refl refl) (ages-same now v u refl refl))
+    (ages-same now v v refl refl)
+
+ahead-ages : (p : Pdu) (now : ℕ) (v : View) → Aged now v (answers_ahead p now v)
+ahead-ages p now v =
+    let u = requested (distance v p) (units_confirmed p v) in then-ages now v u _ (ages-same now v u refl refl) (replies-ages now u)
+
+next-ages : (p : Pdu) (now : ℕ) (v : View) → Aged now v (answers_next p now v)
+next-ages p now v =
+    let u = passed p 0 (requested 0 (both_confirmed p v)) in then-ages now v u _ (ages-on now (cts_step v p) v u refl refl) (replies-ages now u)
+
+early-ages : (p : Pdu) (now : ℕ) (v : View) → Aged now v (answers_early p now v)
+early-ages p now v =
+    let t = answers_ahead p now v in
+    let u = (asks now t.left).left in
+    grind (arith, ahead-ages, ages-same, then-ages)
+
+-- each decision: of a client that waits for its answer, by the table, and by the state of the connection
+client-ages : (k : Kind) (p : Pdu) (now : ℕ) (v : View) → Aged now v (carries_out p now (as_client v p now k) v)
+client-ages ConnResp p now v = grind (arith, leaves-ages, ages-on)
+client-ages ConnReq p now v = leaves-ages UnexpectedPdu Unspecified now v
+client-ages RetrReq p now v = leaves-ages UnexpectedPdu Unspecified now v
+client-ages RetrResp p now v = leaves-ages UnexpectedPdu Unspecified now v
+client-ages DiscReq p now v = leaves-ages UnexpectedPdu Unspecified now v
+client-ages Heartbeat p now v = leaves-ages UnexpectedPdu Unspecified now v
+client-ages Data p now v = leaves-ages UnexpectedPdu Unspecified now v
+client-ages RetrData p now v = leaves-ages UnexpectedPdu Unspecified now v
+
+table-ages : (c : ConnectionState) (k : Kind) (p : Pdu) (now d : ℕ) (v : View) → v.connection ≡ c → p.kind ≡ k
+    → Aged now v (carries_out p now (by_table v p now d) v)
+table-ages Closed k p now d v e f = grind (arith, ages-same)
+table-ages Down k p now d v e f = grind (arith, ages-same)
+table-ages Start ConnReq p now d v e f = grind (arith, leaves-ages, unit-ages, ages-same, ages-on, then-ages)
+table-ages Start ConnResp p now d v e f = grind (arith, leaves-ages, unit-ages, ages-same, ages-on, then-ages)
+table-ages Start RetrReq p now d v e f = grind (arith, leaves-ages, early-ages, next-ages, ages-same)
+table-ages Start RetrResp p now d v e f = grind (arith, leaves-ages, ages-same, ages-on)
+table-ages Start DiscReq p now d v e f = grind (arith, leaves-ages, unit-ages, ages-same, ages-on, then-ages)
+table-ages Start Heartbeat p now d v e f = grind (arith, leaves-ages, unit-ages, ages-same, ages-on, then-ages)
+table-ages Start Data p now d v e f = grind (arith, leaves-ages, unit-ages, ages-same, ages-on, then-ages)
+table-ages Start RetrData p now d v e f = grind (arith, leaves-ages, unit-ages, ages-same, ages-on, then-ages)
+table-ages Up ConnReq p now d v e f = grind (arith, leaves-ages, unit-ages, ages-same, ages-on, then-ages)
+table-ages Up ConnResp p now d v e f = grind (arith, leaves-ages, unit-ages, ages-same, ages-on, then-ages)
+table-ages Up RetrReq p now d v e f = grind (arith, leaves-ages, early-ages, next-ages, ages-same)
+table-ages Up RetrResp p now d v e f = grind (arith, leaves-ages, ages-same, ages-on)
+table-ages Up DiscReq p now d v e f = grind (arith, leaves-ages, unit-ages, ages-same, ages-on, then-ages)
+table-ages Up Heartbeat p now d v e f = grind (arith, leaves-ages, unit-ages, ages-same, ages-on, then-ages)
+table-ages Up Data p now d v e f = grind (arith, leaves-ages, unit-ages, ages-same, ages-on, then-ages)
+table-ages Up RetrData p now d v e f = grind (arith, leaves-ages, unit-ages, ages-same, ages-on, then-ages)
+table-ages Requesting ConnReq p now d v e f = grind (arith, leaves-ages, unit-ages, ages-same, ages-on, then-ages)
+table-ages Requesting ConnResp p now d v e f = grind (arith, leaves-ages, unit-ages, ages-same, ages-on, then-ages)
+table-ages Requesting RetrReq p now d v e f = grind (arith, leaves-ages, early-ages, next-ages, ages-same)
+table-ages Requesting RetrResp p now d v e f = grind (arith, leaves-ages, ages-same, ages-on)
+table-ages Requesting DiscReq p now d v e f = grind (arith, leaves-ages, unit-ages, ages-same, ages-on, then-ages)
+table-ages Requesting Heartbeat p now d v e f = grind (arith, leaves-ages, unit-ages, ages-same, ages-on, then-ages)
+table-ages Requesting Data p now d v e f = grind (arith, leaves-ages, unit-ages, ages-same, ages-on, then-ages)
+table-ages Requesting RetrData p now d v e f = grind (arith, leaves-ages, unit-ages, ages-same, ages-on, then-ages)
+table-ages RetrRun ConnReq p now d v e f = grind (arith, leaves-ages, unit-ages, ages-same, ages-on, then-ages)
+table-ages RetrRun ConnResp p now d v e f = grind (arith, leaves-ages, unit-ages, ages-same, ages-on, then-ages)
+table-ages RetrRun RetrReq p now d v e f = grind (arith, leaves-ages, early-ages, next-ages, ages-same)
+table-ages RetrRun RetrResp p now d v e f = grind (arith, leaves-ages, ages-same, ages-on)
+table-ages RetrRun DiscReq p now d v e f = grind (arith, leaves-ages, unit-ages, ages-same, ages-on, then-ages)
+table-ages RetrRun Heartbeat p now d v e f = grind (arith, leaves-ages, unit-ages, ages-same, ages-on, then-ages)
+table-ages RetrRun Data p now d v e f = grind (arith, leaves-ages, unit-ages, ages-same, ages-on, then-ages)
+table-ages RetrRun RetrData p now d v e f = grind (arith, leaves-ages, unit-ages, ages-same, ages-on, then-ages)
+
+connection-ages : (c : ConnectionState) (k : Kind) (p : Pdu) (now : ℕ) (v : View) → v.connection ≡ c → p.kind ≡ k
+    → Aged now v (carries_out p now (by_connection v p now v.connection) v)
+connection-ages Closed k p now v e f = grind (arith, ages-same)
+connection-ages Down k p now v e f = grind (arith, ages-same, ages-now)
+connection-ages Start k p now v e f = grind (arith, client-ages, table-ages, ages-same)
+connection-ages Up k p now v e f = grind (arith, table-ages, ages-same)
+connection-ages Requesting k p now v e f = grind (arith, table-ages, ages-same)
+connection-ages RetrRun k p now v e f = grind (arith, table-ages, ages-same)
+
+responds-ages : (p : Pdu) (now : ℕ) (v : View) → Aged now v (responds p now v)
+responds-ages p now v =
+    let h = connection-ages v.connection p.kind p now v refl refl in
+    grind (arith, h, ages-same)
+
+-- bytes that come
+read-ages : (read : Result Pdu SafeFault) (now : ℕ) (v : View) → Aged now v (machine_move (heard_move read now) v)
+read-ages (Ok p) now v =
+    let u = (machine_guards now v).left in then-ages now v u _ (guards-ages now v) (responds-ages p now u)
+read-ages (Err fault) now v = guards-ages now v
+
+-- what is handed up comes after a timeout check that passed
+hands-timely : (p : Pdu) (now : ℕ) (v : View) → hands p now v ≢ [] → now < v.confirmed_at + v.settings.t_max
+hands-timely p now v = search rules
+
+read-timely : (read : Result Pdu SafeFault) (now : ℕ) (v : View) → handed (heard_move read now) v ≢ [] → now < v.confirmed_at + v.settings.t_max
+read-timely (Ok p) now v some = hands-timely p now v some
+read-timely (Err fault) now v some = absurd (some refl)
+
+-- a turn of anything that has a machine: the machine ages so, and what is taken is timely
+record Tells {V : Type 0} (machine : V → View) (now : ℕ) (v : V) (t : Turn V) : Type 0 where
+  taken : (t.taken ≡ []) ⊎ (now - (machine t.left).confirmed_at < (machine t.left).settings.t_max)
+  ages : Ages now (machine v) (machine t.left)
+
+both-taken : {A : Type 0} (xs ys : List A) (X Y : Type 0) → (xs ≡ []) ⊎ X → (ys ≡ []) ⊎ Y → (X → Y) → (xs ++ ys ≡ []) ⊎ Y
+both-taken xs ys X Y (inl e) (inl f) k = inl (ap (λ zs. zs ++ ys) e ∙ f)
+both-taken xs ys X Y (inl e) (inr y) k = inr y
+both-taken xs ys X Y (inr x) r k = inr (k x)
+
+then-tells : {V : Type 0} (machine : V → View) (now : ℕ) (v : V) (t : Turn V) (next : V → Turn V) → Tells machine now v t → Tells machine now t.left (next t.left)
+    → Tells machine now v (followed t next)
+then-tells machine now v t next h k =
+    record {
+      taken = both-taken t.taken (next t.left).taken _ _ h.taken k.taken k.ages.stays;
+      ages = then-ages now (machine v) (machine t.left) _ h.ages k.ages;
+    }
+
+still-tells : {V : Type 0} (machine : V → View) (now : ℕ) (v : V) → Tells machine now v (still v)
+still-tells machine now v = record { taken = inl refl; ages = ages-same now (machine v) (machine v) refl refl }
+
+-- of the layers above the redundancy layer
+abbrev machine_of : Fields → View
+machine_of v = v.machine
+
+abbrev below : Inside → View
+below v = v.upper.machine
+
+settles-machine : (v : Fields) → (settles v).left.machine ≡ v.machine
+settles-machine v =
+    choice (λ (t : Turn Fields). t.left.machine ≡ v.machine) (is_closed v.machine.connection) (session_turn (meets Closes (dialogue_of v)) v) (still v) refl refl
+
+leaves-up : (now : ℕ) (why : Option Leaving) (v : Fields) → Ages now v.machine (leaves now why v).left.machine
+leaves-up now None v = ages-same now v.machine v.machine refl refl
+leaves-up now (Some why) v = leaves-ages why.0 why.1 now v.machine
+
+part-ages : (now : ℕ) (octets : List ℕ) (v : Fields) → Ages now v.machine (part now octets v).left.machine
+part-ages now octets v =
+    let before = v.machine.connection in
+    let why = (judged_at now octets v).leaving in
+    let u = (followed (followed (hears now octets v) (notes before octets)) (goes_up before)).left in
+    let w = (leaves now why u).left in
+    subst (λ (m : View). Ages now v.machine m) (sym (settles-machine w))
+    (then-ages now v.machine u.machine w.machine (read-ages (safe_seen v.machine.settings.rule octets) now v.machine) (leaves-up now why u))
+
+some-units : {X : Type 0} (x : X) (xs : List X) → (x ∷ xs) ≢ []
+some-units x xs e = cc
+
+before-part : (c m now : ℕ) → 0 < m → now < c + m → now - c < m
+before-part c m now positive h = omega (arith, positive, h)
+
+part-tells : (now : ℕ) (octets : List ℕ) (v : Fields) → 0 < v.machine.settings.t_max → Tells machine_of now v (part now octets v)
+part-tells now octets v positive = record { taken = by-units (hears_units octets now v.machine) refl; ages = part-ages now octets v }
+  where
+    by-units : (us : List (List ℕ)) → hears_units octets now v.machine ≡ us
+        → ((part now octets v).taken ≡ []) ⊎ (now - (part now octets v).left.machine.confirmed_at < (part now octets v).left.machine.settings.t_max)
+    by-units [] e = inl (part-taken now octets v ∙ ap (λ us. (judge_units us (dialogue_of v)).left.history.taken) e)
+    by-units (u ∷ us) e =
+        inr ((part-ages now octets v).stays
+        (before-part v.machine.confirmed_at v.machine.settings.t_max now positive
+        (read-timely (safe_seen v.machine.settings.rule octets) now v.machine (λ none. some-units u us (sym e ∙ none)))))
+
+parts-tells : (now : ℕ) (ps : List Part) (v : Fields) → 0 < v.machine.settings.t_max → Tells machine_of now v (parts now ps v)
+parts-tells now [] v positive = still-tells machine_of now v
+parts-tells now (p ∷ ps) v positive =
+    let one = part-tells now p.1 v positive in
+    then-tells machine_of now v (part now p.1 v) (parts now ps) one
+    (parts-tells now ps (part now p.1 v).left (subst (λ n. 0 < n) (sym one.ages.limit) positive))
+
+packs-ages : (now : ℕ) (v : Fields) → Ages now v.machine (packs now v).left.machine
+packs-ages now v =
+    choice (Aged now v.machine) (has_room v.machine) (sends_unit _ now v.machine) (machine_still v.machine) (ages-same now v.machine _ refl refl)
+    (ages-same now v.machine _ refl refl)
+
+up-to-ages : (n now : ℕ) (v : Fields) → Ages now v.machine (packs_up_to n now v).left.machine
+up-to-ages zero now v = ages-same now v.machine v.machine refl refl
+up-to-ages (suc n) now v =
+    choice (λ (t : Turn Fields). Ages now v.machine t.left.machine) (can_pack v) (followed (packs now v) (packs_up_to n now)) (still v)
+    (then-ages now v.machine (packs now v).left.machine _ (packs-ages now v) (up-to-ages n now (packs now v).left))
+    (ages-same now v.machine v.machine refl refl)
+
+sends-tells : (now : ℕ) (v : Fields) → Tells machine_of now v (sends now v)
+sends-tells now v = record { taken = inl (sends-none now v); ages = up-to-ages _ now v }
+
+guards-tells : (now : ℕ) (v : Fields) → Tells machine_of now v (guards now v)
+guards-tells now v =
+    let t = machine_turn (machine_guards now v.machine) v in
+    record {
+      taken = inl (guards-none now v);
+      ages = subst (λ (m : View). Ages now v.machine m) (sym (settles-machine t.left)) (guards-ages now v.machine);
+    }
+
+ticks-tells : (now : ℕ) (v : Fields) → Tells machine_of now v (ticks now v)
+ticks-tells now v =
+    let t = machine_turn (machine_ticks now v.machine) v in
+    record {
+      taken = inl (ticks-none now v);
+      ages = subst (λ (m : View). Ages now v.machine m) (sym (settles-machine t.left)) (ticks-ages now v.machine);
+    }
+
+-- of all layers
+above-tells : (now : ℕ) (next : Fields → Turn Fields) (v : Inside) → Tells machine_of now v.upper (next v.upper) → Tells below now v (above next v)
+above-tells now next v h = record { taken = h.taken; ages = h.ages }
+
+goes_on-tells : (now : ℕ) (i : Input) (v : Inside) → 0 < t_max_of v → Tells below now v (goes_on now i v)
+goes_on-tells now i v positive =
+    let h = parts-tells now (passed_by i v.red) v.upper positive in
+    let u = (receives now i v).left in
+    choice (Tells below now v) (is_over v) (still v) (followed (receives now i v) (above (sends now))) (still-tells below now v)
+    (then-tells below now v (receives now i v) (above (sends now)) record { taken = h.taken; ages = h.ages }
+    (above-tells now (sends now) u (sends-tells now u.upper)))
+
+first-tells : (now : ℕ) (i : Input) (next : Fields → Turn Fields) (v : Inside) → 0 < t_max_of v → Tells machine_of now v.upper (next v.upper)
+    → Tells below now v (if is_over v then still v else followed (above next v) (goes_on now i))
+first-tells now i next v positive h =
+    let w = (above next v).left in
+    choice (Tells below now v) (is_over v) (still v) (followed (above next v) (goes_on now i)) (still-tells below now v)
+    (then-tells below now v (above next v) (goes_on now i) (above-tells now next v h)
+    (goes_on-tells now i w (subst (λ n. 0 < n) (sym h.ages.limit) positive)))
+
+turn-timely : (now : ℕ) (v : Inside) (t : Turn Inside) → Tells below now v t → TurnTimely now v t
+turn-timely now v t h = record { taken = h.taken; stays = h.ages.stays; limit = h.ages.limit }
+
+pub timely_law_holds : TimelyLaw
+timely_law_holds now octets v positive = (
+  turn-timely now v (arrives now octets v) (first-tells now (Datagram octets now) (guards now) v positive (guards-tells now v.upper)),
+  turn-timely now v (passes now v) (first-tells now (RedTick now) (ticks now) v positive (ticks-tells now v.upper)),
+)
