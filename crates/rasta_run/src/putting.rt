@@ -1,17 +1,12 @@
 //! The telegrams that an end puts: those of its list, and those of input.
 
-ghost use Rattle.std.specs.Prelude.{◌≡◌, ◌≢◌, ◌+◌, ◌≤◌, ◌^◌, Bool, List, ℕ, Option, false, is_some, length, ◌==◌, true, IfOk, OnOk};
+ghost use Rattle.std.specs.Prelude.{◌≡◌, ◌≢◌, ◌+◌, ◌≤◌, ◌^◌, false, is_some, length, ◌==◌, true, IfOk, OnOk};
 ghost use Rattle.pdi_session.specs.FaultNames.{init_fault_name, put_fault_name};
-ghost use Rattle.pdu_text.specs.declared.lines.Happening.TheVariants as happening;
 ghost use Rattle.rasta_run.specs.Feeding.{Input, input_of};
 ghost use Rattle.rasta_run.specs.Putting.{CompletesIf, Offers, PutsBeginning, TakesInputIf, TakesLine, TakesFound, TakesNext, is_full, refusals_after};
 ghost use Rattle.rasta_run.specs.Standing.{ends_in, puts_in, takes_lines};
-ghost use Rattle.rasta_run.specs.Stamping.{LogsEvent};
-ghost use Rattle.rasta_run.specs.Telling.{is_told};
 ghost use Rattle.rasta_run.specs.Turning.{PutsIf, PutsNow};
-ghost use Rattle.rasta_run.specs.Undone.{refused_line};
 ghost use Rattle.stack_end.specs.EndValue.{inside};
-ghost use Rattle.std.specs.Io.KnownBytes.{Appends};
 
 use crate::input::Feed;
 use crate::printing::Application;
@@ -25,7 +20,6 @@ use pdu_text::Happening;
 use rasta_words::Fault;
 use settings_file::Put;
 use std::alloc::{Allocator, Global};
-use std::io;
 use std::io::{Read, Write};
 
 /// The greatest number of lines of input that are put in one turn, so that a turn ends: more than fit into one
@@ -245,7 +239,7 @@ impl<C: Channels, A: Allocator + Copy> Actor<'_, C, A> {
             }
             Err(PutFault::Full) => Ok(Offered::Full),
             Err(fault) => {
-                let _ = self.log_refusal(put.kind, origin, fault, now, err);
+                self.log_refusal(put.kind, origin, fault, now, err);
                 app.refuse(fault.name())?;
                 Ok(Offered::Refused)
             }
@@ -253,10 +247,6 @@ impl<C: Channels, A: Allocator + Copy> Actor<'_, C, A> {
     }
 
     /// Logs that a telegram was refused: where it comes from, its message type and the fault.
-    ///
-    /// # Errors
-    ///
-    /// - The error of the writer; what it wrote before stays written.
     fn log_refusal<E: Write>(
         &mut self,
         kind: u16,
@@ -264,18 +254,12 @@ impl<C: Channels, A: Allocator + Copy> Actor<'_, C, A> {
         fault: PutFault,
         now: Milliseconds,
         err: &mut E,
-    ) -> io::Result<()>
+    )
         // `log_refusal` changes nothing but the log.
-        ensures kept { self.new ≡ record self.old { log = self.new.log } }
-        // If `log_refusal` succeeds, it has logged the refusal, and then appended the line with its origin, message
-        // type and fault.
-        ensures told { OnOk result ((new : Bool) × (logged : Option (List ℕ))
-            × LogsEvent (is_told self.old.log.level self.new.log.is_quiet new (happening.PutRefused fault)) self.new.log now
-            (happening.PutRefused fault) (E.contents err.old) logged
-            × Appends logged (E.contents err.new) (refused_line origin kind (put_fault_name fault))) }
+        ensures { self.new ≡ record self.old { log = self.new.log } }
     {
-        self.log.tell(Happening::PutRefused(fault), now, err)?;
-        write_refused(err, origin, kind, fault.name())
+        let _ = self.log.tell(Happening::PutRefused(fault), now, err);
+        let _ = write_refused(err, origin, kind, fault.name());
     }
 
     /// Puts the telegrams of input, until one is refused as `Full`, if the session is established and the list of
