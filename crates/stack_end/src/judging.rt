@@ -172,7 +172,8 @@ fn judge_messages<A: Allocator, T: Taker>(
     None
 }
 
-/// Judges one message.
+/// Judges one message. A row of the session's table that does not end the session takes the telegram if and only if it
+/// leaves the phase as it was.
 fn judge_message<A: Allocator, T: Taker>(
     session: &mut Session,
     waiting: &mut Waiting<A>,
