@@ -1,7 +1,7 @@
 #!/usr/bin/env python3
-"""Reads a capture in the model, and prints what `rasta follow` must print: a line for each datagram, and the sums.
+"""Reads a capture in the model, and prints what `rasta follow` must print: a line for each datagram, or its events, and the sums.
 
-    tests/model/follow.py follow [--code 0|8|16] [--only WORD] [--ports PORTS] [--t-max MS] [--time FORM] [--from INSTANT] [--to INSTANT] [--every N] [--json] FILE
+    tests/model/follow.py follow [--code 0|8|16] [--only WORD] [--ports PORTS] [--t-max MS] [--time FORM] [--from INSTANT] [--to INSTANT] [--every N] [--json] [--events] FILE
 """
 import argparse
 import datetime
@@ -15,6 +15,7 @@ from settings import Settings  # noqa: E402
 from texts import OPENINGS, red_seen, safe_seen  # noqa: E402
 
 KEPT, PASSED_MAX, CHANNELS, CONNECTIONS, WRAP = 32, 65535, 4, 64, 2 ** 32
+DAMAGES = 8  # damaged datagrams of an end that are kept
 SESSIONS, TIMEOUT = 64, 3  # sessions that have ended and are printed
 LINE_MAX, PAYLOAD_MAX = 8192, 2048
 ONLY = ('opens', 'repeat', 'differs', 'ahead', 'late', 'stale', 'anew', 'resent', 'age', 'waits', 'reason', 'fault')
@@ -88,6 +89,7 @@ class Direction:
 
     def __init__(self):
         self.opening = self.stamp = self.left = self.parting = None
+        self.damages = {}  # by remainder of the redundancy number: number and line of the last damaged datagram
         self.since, self.confirming = None, {}  # the own timestamp last confirmed; by remainder of SN: SN, TS and CTS of the last PDU
         self.channels = [Numbers() for _ in range(CHANNELS)]
         self.together, self.sequence, self.damaged = Numbers(), Numbers(), [0] * CHANNELS
@@ -96,7 +98,7 @@ class Direction:
 
     def opens(self, opening, time):
         self.opening, self.openings, self.left, self.opened = opening, self.openings + 1, None, time
-        self.since, self.confirming = opening[2], {}
+        self.since, self.confirming, self.damages = opening[2], {}, {}
         for numbers in self.channels + [self.together, self.sequence]:
             numbers.begin()
 
@@ -118,13 +120,18 @@ class Direction:
         words += [named('all', together), named('sn', self.sequence.note(p.sn, line, octets)) if is_new else '']
         if is_new and together != 'late':
             self.stamp = p.ts
+        again = ['resent' if p.kind == 'RetrData' else '']
+        if is_new:
+            damaged, damage = self.damages.get(number % DAMAGES, (None, None))
+            asked = peer.sequence.known.get((p.cs + 1) % WRAP) if p.kind == 'RetrReq' else None
+            again += ['after damage in line %d' % damage if damaged == number else '', 'asks for line %d' % asked[0] if asked else '']
         age = None if self.confirms_nothing(p) or peer.opening and after(peer.opening[2], p.cts) is None else after(p.cts, peer.stamp)
         waits = self.waits(p, peer) if is_new else None
         left = leaving(*p.body[::-1]) if p.kind == 'DiscReq' else None
         if is_new:
             self.counts(time, p.kind, age, waits, left)
             self.parting = (time, *p.body[::-1]) if left else self.parting
-        words += ['resent' if p.kind == 'RetrData' else '', '' if age is None else 'age %d ms' % age, '' if waits is None else 'waits %d ms' % waits, left]
+        words += again + ['' if age is None else 'age %d ms' % age, '' if waits is None else 'waits %d ms' % waits, left]
         return [word for word in words if word], is_new
 
     def waits(self, p, peer):
@@ -274,9 +281,12 @@ class Connection:
             return len(self.routes) - 1
         return CHANNELS
 
-    def damages(self, source, place):
-        """Counts a datagram that is not a PDU for the end whose address sent it."""
-        self.directions[self.routes[place][0] != source].damaged[place] += 1
+    def damages(self, source, place, number, line):
+        """Counts a datagram that is not a PDU for the end whose address sent it, and keeps its redundancy number if it has one."""
+        direction = self.directions[self.routes[place][0] != source]
+        direction.damaged[place] += 1
+        if number is not None:
+            direction.damages[number % DAMAGES] = number, line
 
     def up(self):
         """Returns the time of the reply to the last ConnReq."""
@@ -349,6 +359,7 @@ class Follower:
         self.miscoded = 0  # datagrams with a wrong safety code
         self.frames, self.others = 0, [0, 0]  # lines, and how many of them have no chosen port, and another time than is asked for
         self.datagrams, self.gone = 0, [0] * 6
+        self.events = []  # of the last datagram: the name and the members of each event
 
     def line(self, time, line, source, destination, octets):
         """Returns the contents of a datagram, and the words of its remarks."""
@@ -356,8 +367,10 @@ class Follower:
         way, seen = '->'.join((source, destination)), red_seen(octets)
         number, p = (None, None) if isinstance(seen, str) else (seen[0], safe_seen(seen[1], self.rule))
         if p is None or isinstance(p, str):
-            self.damages(source, destination)
+            self.damages(source, destination, number, line)
             self.miscoded += p == 'Code'
+            layer, name = ('red', seen) if p is None else ('safe', p)
+            self.events = [('damaged', {'source': source, 'destination': destination, 'layer': layer, 'fault': FAULTS[layer].index(name) + 1, 'name': name})]
             return way if p is None else '%s red %d' % (way, number), [fault('red', seen) if p is None else fault('safe', p)]
         connection = self.connection(sorted((p.sender, p.receiver)))
         connection.last = time
@@ -366,22 +379,28 @@ class Follower:
         own, other = connection.directions[::1 if is_from_low else -1]
         words, is_new = own.follow(time, line, channel, number, p, seen[1], other)
         connection.takes(time, channel, is_from_low, p, words, is_new)
+        place = {'from': p.sender, 'to': p.receiver, 'channel': channel + 1 if channel < CHANNELS else None}
+        self.events = [(name, {**place, **more}) for name, more in events(p, words, is_new)]
         return '%d->%d ch %s red %d %s sn %d cs %d ts %d cts %d' % (
             p.sender, p.receiver, channel + 1 if channel < CHANNELS else 'other', number, p.kind, p.sn, p.cs, p.ts, p.cts), words
 
-    def damages(self, source, destination):
+    def damages(self, source, destination, number, line):
         """Handles a datagram that is not a PDU, on the channel of the latest connection that has it."""
         self.damaged += 1
         for connection in reversed(self.connections):
             place = connection.known(source, destination)
             if place is not None:
-                return connection.damages(source, place)
+                return connection.damages(source, place, number, line)
+
+    def closed(self):
+        """Returns the place of the connection that is forgotten: the first that an end has left, or else the first."""
+        return next((place for place, connection in enumerate(self.connections) if any(side.left for side in connection.sessions[-1].sides)), 0)
 
     def connection(self, ends):
         known = [connection for connection in self.connections if connection.ends == ends]
         if not known and len(self.connections) == CONNECTIONS:
             self.forgotten += 1
-            self.gone = [sum(pair) for pair in zip(self.gone, self.connections.pop(0).counts())]
+            self.gone = [sum(pair) for pair in zip(self.gone, self.connections.pop(self.closed()).counts())]
         others = [connection for connection in self.connections if connection not in known]
         self.connections = others + (known or [Connection(ends)])
         return self.connections[-1]
@@ -410,6 +429,22 @@ class Follower:
 
 def fault(layer, name):
     return '%s fault %d %s' % (layer, FAULTS[layer].index(name) + 1, name)
+
+
+def events(p, words, is_new):
+    """Returns the events of a PDU, by the remarks on it."""
+    for word in words:
+        first, _, rest = word.partition(' ')
+        if first == 'opens':
+            yield 'opens' if p.kind == 'ConnReq' else 'up', {}
+        elif first in ('channel', 'all') and rest.startswith('ahead'):
+            yield 'lost', {'on_every_channel': first == 'all', 'missing': int(rest.split()[1])}
+        elif first in ('channel', 'all') and rest == 'late':
+            yield 'late', {'on_every_channel': first == 'all'}
+        elif first == 'waits' or first == 'resent' and is_new:
+            yield first, {'waits': int(rest.split()[0])} if rest else {}
+        elif first == 'reason' and is_new:
+            yield 'left', dict(zip(('reason', 'detail'), p.body[::-1]))
 
 
 def seconds(micros):
@@ -542,12 +577,12 @@ def foreign(front):
     return next((why for octets, why in FOREIGN.items() if front.startswith(octets)), None)
 
 
-def followed(raws, code=8, only=None, t_max=1800, ports=None, as_json=False, time='since', start=None, end=None, every=None):
+def followed(raws, code=8, only=None, t_max=1800, ports=None, as_json=False, time='since', start=None, end=None, every=None, as_events=False):
     """Returns standard output, standard error and exit status."""
     follower, times, due, out, err = Follower(Settings(code=code).rule), Times(time), None, [], []
 
     def sums():
-        return [said + '\n' for said in ([follower.members(times, t_max)] if as_json else follower.sums(times, t_max))]
+        return [said + '\n' for said in ([follower.members(times, t_max)] if as_json or as_events else follower.sums(times, t_max))]
 
     raws = list(raws)
     why = foreign(raws[0]) if raws else None
@@ -569,7 +604,12 @@ def followed(raws, code=8, only=None, t_max=1800, ports=None, as_json=False, tim
             follower.others[1] += 1
             continue
         said, words = follower.line(seen[0], line, *seen[1:])
-        if is_wanted(only, t_max, words) and not as_json:
+        if is_wanted(only, t_max, words) and as_events:
+            said = times.said(seen[0])
+            out += ['{"event":"%s","time":%s,%s\n' % (name, '"%s"' % said if time == 'utc' else said,
+                                                      json.dumps({'line': line, **more}, separators=(',', ':'))[1:])
+                    for name, more in follower.events if name != 'waits' or 2 * more['waits'] >= t_max]
+        elif is_wanted(only, t_max, words) and not as_json:
             words = [word for word in words if not word.startswith('waits ') or is_long(word, t_max)]
             out.append(' '.join([times.said(seen[0]), 'line', str(line), said] + words) + '\n')
         if every and due <= seen[0]:
@@ -590,6 +630,7 @@ def main(words):
     parser.add_argument('--only', choices=ONLY)
     parser.add_argument('--ports', type=ranges)
     parser.add_argument('--json', action='store_true')
+    parser.add_argument('--events', action='store_true')
     parser.add_argument('--t-max', type=int, default=1800)
     parser.add_argument('--time', choices=('since', 'epoch', 'utc'), default='since')
     parser.add_argument('--from', dest='start', type=instant)
@@ -598,7 +639,7 @@ def main(words):
     parser.add_argument('file')
     asked = parser.parse_args(words)
     with open(asked.file, 'rb') as file:
-        out, err, status = followed(file, asked.code, asked.only, asked.t_max, asked.ports, asked.json, asked.time, asked.start, asked.end, asked.every)
+        out, err, status = followed(file, asked.code, asked.only, asked.t_max, asked.ports, asked.json, asked.time, asked.start, asked.end, asked.every, asked.events)
     sys.stdout.write(out)
     sys.stderr.write(err)
     return status

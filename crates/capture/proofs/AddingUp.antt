@@ -1,11 +1,12 @@
 -- The sums over all connections add up to the number of datagrams.
 use Rattle.std.proofs.Common.{◌≡◌, ℕ, ◌+◌, ◌-◌, ◌^◌, ◌<◌, ◌==◌, ◌&&◌, Bool, true, false, cond, List, [], ◌∷◌, length, slice_index_or, refl, arith, Option, Some, None, is_none, reverse}
 use Rattle.std.proofs.lemmas.List.{length-reverse}
-use Rattle.std.specs.List.{sum_by, remove}
+use Rattle.std.specs.List.{position, sum_by, remove}
 use Rattle.std.proofs.lemmas.List.Sums.{sum_by_push, sum_by-remove, sum_by-set, sum_by-cons}
 use Rattle.std.proofs.lemmas.List.Quantifiers.{position-Some}
 use Rattle.capture.specs.declared.connections.Connection.{Connection}
 use Rattle.capture.specs.declared.connections.TheConstants.{CONNECTIONS}
+use Rattle.capture.specs.declared.direction.Damage.{Damage}
 use Rattle.capture.specs.declared.direction.Direction.{Direction}
 use Rattle.capture.specs.declared.direction.SessionOpening.{SessionOpening}
 use Rattle.capture.specs.declared.direction.Peer.{Peer}
@@ -18,7 +19,7 @@ use Rattle.capture.specs.declared.line.Record.{Record}
 use Rattle.capture.specs.declared.window.Window.{Window}
 use Rattle.capture.specs.Numbers.{judged}
 use Rattle.capture.specs.Following.{followed, is_opened, opened_as, opened_with, opening_of, peer_of}
-use Rattle.capture.specs.Connecting.{behind_of, connection_after, connection_damaged, damage_at, damage_noted, damaged_by, damaged_on, ends_of, found, heard_in, is_from_low, is_source_low, known_place_of, left, left_at, opened, place_in, place_of, step, taken, taken_at, way_followed}
+use Rattle.capture.specs.Connecting.{behind_of, connection_after, connection_damaged, damage_at, damage_noted, damaged_by, damaged_on, ends_of, forgotten_place, found, heard_in, is_closed, is_from_low, is_source_low, known_place_of, left, left_at, opened, place_in, place_of, place_or_first, step, taken, taken_at, way_followed}
 use Rattle.capture.specs.Whole.{counted_in, gone_with, totals_of, window_counted}
 use Rattle.capture.specs.Laws.{Came, Kept, SumsAddUp, datagrams_in, datagrams_of, kept_after, kept_along, none_came}
 use Rattle.capture.proofs.Sums.{one_noted}
@@ -69,22 +70,31 @@ counted_sum t c room =
     omega (arith, low, high)
 
 -- A connection that is forgotten is counted among the forgotten ones.
-none_left : (b : Bool) (cs : List Connection) (gone : Totals) → (b ≡ true → 0 < length cs) → datagrams_of gone + weights cs < 2 ^ 64
-    → datagrams_of (cond b (counted_in gone (slice_index_or cs 0 (opened 0 0))) gone) + weights (cond b (remove cs 0) cs)
+none_left : (b : Bool) (cs : List Connection) (gone : Totals) → (b ≡ true → forgotten_place cs < length cs) → datagrams_of gone + weights cs < 2 ^ 64
+    → datagrams_of (cond b (counted_in gone (slice_index_or cs (forgotten_place cs) (opened 0 0))) gone) + weights (cond b (remove cs (forgotten_place cs)) cs)
     ≡ datagrams_of gone + weights cs
 none_left true cs gone some room =
-    let less = sum_by-remove weight cs 0 (opened 0 0) (some refl) in
-    let more = counted_sum gone (slice_index_or cs 0 (opened 0 0)) (omega (arith, less)) in
+    let less = sum_by-remove weight cs (forgotten_place cs) (opened 0 0) (some refl) in
+    let more = counted_sum gone (slice_index_or cs (forgotten_place cs) (opened 0 0)) (omega (arith, less)) in
     omega (arith, less, more)
 none_left false cs gone some room = refl
 
-full : (cs : List Connection) → (length cs == CONNECTIONS) ≡ true → 0 < length cs
-full cs h = grind arith
+place_within : (o : Option ℕ) (n : ℕ) → 0 < n → ((p : ℕ) → o ≡ Some p → p < n) → place_or_first o < n
+place_within None n some within = some
+place_within (Some p) n some within = within p refl
+
+some_kept : (cs : List Connection) → (length cs == CONNECTIONS) ≡ true → 0 < length cs
+some_kept cs h = grind arith
+
+full : (cs : List Connection) → (length cs == CONNECTIONS) ≡ true → forgotten_place cs < length cs
+full cs h =
+    place_within (position (λ (c : Connection). is_closed c) cs) (length cs) (some_kept cs h)
+    (λ p e. (position-Some _ cs p (opened 0 0) e).0)
 
 first_none : (b : Bool) (new : Connection) (cs : List Connection) (gone : Totals) → weight new ≡ 0
-    → datagrams_of (cond b (counted_in gone (slice_index_or cs 0 (opened 0 0))) gone) + weights (cond b (remove cs 0) cs)
+    → datagrams_of (cond b (counted_in gone (slice_index_or cs (forgotten_place cs) (opened 0 0))) gone) + weights (cond b (remove cs (forgotten_place cs)) cs)
     ≡ datagrams_of gone + weights cs
-    → datagrams_of (cond (b && true) (counted_in gone (slice_index_or cs 0 (opened 0 0))) gone) + weights (cond b (remove cs 0) cs)
+    → datagrams_of (cond (b && true) (counted_in gone (slice_index_or cs (forgotten_place cs) (opened 0 0))) gone) + weights (cond b (remove cs (forgotten_place cs)) cs)
     + weight new ≡ datagrams_of gone + weights cs
 first_none true new cs gone empty kept = omega (arith, kept, empty)
 first_none false new cs gone empty kept = omega (arith, kept, empty)
@@ -92,12 +102,12 @@ first_none false new cs gone empty kept = omega (arith, kept, empty)
 -- The connection that is taken out and the ones that stay have the weight of all before.
 taken_left : (o : Option ℕ) (new : Connection) (cs : List Connection) (gone : Totals) → ((p : ℕ) → o ≡ Some p → p < length cs)
     → weight new ≡ 0 → datagrams_of gone + weights cs < 2 ^ 64
-    → datagrams_of (cond ((length cs == CONNECTIONS) && is_none o) (counted_in gone (slice_index_or cs 0 (opened 0 0))) gone)
+    → datagrams_of (cond ((length cs == CONNECTIONS) && is_none o) (counted_in gone (slice_index_or cs (forgotten_place cs) (opened 0 0))) gone)
     + weights (left_at o cs) + weight (taken_at o new cs) ≡ datagrams_of gone + weights cs
 taken_left (Some p) new cs gone within empty room =
     let less = sum_by-remove weight cs p new (within p refl) in
     elim (length cs == CONNECTIONS) as (λ b.
-    datagrams_of (cond (b && false) (counted_in gone (slice_index_or cs 0 (opened 0 0))) gone) + weights (remove cs p)
+    datagrams_of (cond (b && false) (counted_in gone (slice_index_or cs (forgotten_place cs) (opened 0 0))) gone) + weights (remove cs p)
     + weight (slice_index_or cs p new) ≡ datagrams_of gone + weights cs) [
       | true ↦ omega (arith, less)
       | false ↦ omega (arith, less)
@@ -124,23 +134,23 @@ one_stepped cs line r seq h gone room =
     omega (arith, same, one, push)
 
 -- A datagram that is not a PDU changes no connection's numbers.
-damaged_same : (b : Bool) (c : Connection) (place : ℕ) → weight (damaged_by b c place) ≡ weight c
-damaged_same true c place = refl
-damaged_same false c place = refl
+damaged_same : (b : Bool) (c : Connection) (place : ℕ) (damage : Option Damage) → weight (damaged_by b c place damage) ≡ weight c
+damaged_same true c place damage = refl
+damaged_same false c place damage = refl
 
-on_same : (o : Option ℕ) (c : Connection) (r : Record) → weight (damaged_on o c r) ≡ weight c
-on_same None c r = refl
-on_same (Some place) c r = damaged_same (is_source_low (slice_index_or c.routes place None) r) c place
+on_same : (o : Option ℕ) (c : Connection) (r : Record) (damage : Option Damage) → weight (damaged_on o c r damage) ≡ weight c
+on_same None c r damage = refl
+on_same (Some place) c r damage = damaged_same (is_source_low (slice_index_or c.routes place None) r) c place damage
 
-at_same : (o : Option ℕ) (cs : List Connection) (r : Record) → ((p : ℕ) → o ≡ Some p → p < length cs)
-    → weights (damage_at o cs r) ≡ weights cs
-at_same None cs r within = refl
-at_same (Some p) cs r within =
+at_same : (o : Option ℕ) (cs : List Connection) (r : Record) (damage : Option Damage) → ((p : ℕ) → o ≡ Some p → p < length cs)
+    → weights (damage_at o cs r damage) ≡ weights cs
+at_same None cs r damage within = refl
+at_same (Some p) cs r damage within =
     let some = within p refl in
     let i = length cs - 1 - p in
     let c = slice_index_or cs i (opened 0 0) in
-    let same = on_same (known_place_of c.routes r) c r in
-    let set = sum_by-set weight cs i (connection_damaged c r) (opened 0 0) (omega (arith, some)) in
+    let same = on_same (known_place_of c.routes r) c r damage in
+    let set = sum_by-set weight cs i (connection_damaged c r damage) (opened 0 0) (omega (arith, some)) in
     omega (arith, same, set)
 
 behind_within : (cs : List Connection) (r : Record) (p : ℕ) → behind_of cs r ≡ Some p → p < length cs
@@ -149,8 +159,8 @@ behind_within cs r p h =
     let long = length-reverse cs in
     omega (arith, within, long)
 
-noted_same : (cs : List Connection) (r : Record) → weights (damage_noted cs r) ≡ weights cs
-noted_same cs r = at_same (behind_of cs r) cs r (behind_within cs r)
+noted_same : (cs : List Connection) (r : Record) (damage : Option Damage) → weights (damage_noted cs r damage) ≡ weights cs
+noted_same cs r damage = at_same (behind_of cs r) cs r damage (behind_within cs r)
 
 -- The sums over all connections.
 pub totals_sum : (cs : List Connection) (gone : Totals) → datagrams_of gone + weights cs < 2 ^ 64
@@ -171,8 +181,9 @@ one_heard : (k : Kept) (line : ℕ) (r : Record) (x : Heard) → all_of k < 2 ^ 
 one_heard k line r (Pdu seq h) room =
     let one = one_stepped k.connections line r seq h k.gone (omega arith) in
     omega (arith, one)
-one_heard k line r (NoSafe seq fault) room = let same = noted_same k.connections r in omega (arith, same)
-one_heard k line r (NoRed fault) room = let same = noted_same k.connections r in omega (arith, same)
+one_heard k line r (NoSafe seq fault) room =
+    let same = noted_same k.connections r (Some (record { number = seq; line = line })) in omega (arith, same)
+one_heard k line r (NoRed fault) room = let same = noted_same k.connections r None in omega (arith, same)
 
 pub all_along : (cs : List Came) (k : Kept) → all_of k + length cs < 2 ^ 64 → all_of (kept_along k cs) ≡ all_of k + length cs
 all_along [] k room = omega arith

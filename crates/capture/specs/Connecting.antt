@@ -8,6 +8,7 @@ use Rattle.capture.specs.declared.line.Host.{Host}
 use Rattle.capture.specs.declared.line.Host.TheVariants.{V4, V6}
 use Rattle.capture.specs.declared.line.Record.{Record}
 use Rattle.capture.specs.declared.direction.TheConstants.{CHANNELS}
+use Rattle.capture.specs.declared.direction.Damage.{Damage}
 use Rattle.capture.specs.declared.direction.Direction.{Direction}
 use Rattle.capture.specs.declared.direction.Place.{Place}
 use Rattle.capture.specs.declared.direction.Remarks.{Remarks}
@@ -15,7 +16,7 @@ use Rattle.capture.specs.declared.connections.TheConstants.{CONNECTIONS}
 use Rattle.capture.specs.declared.connections.Route.{Route}
 use Rattle.capture.specs.declared.connections.Connection.{Connection}
 use Rattle.capture.specs.Numbers.{counted}
-use Rattle.capture.specs.Following.{followed, open_direction, peer_of, remarks_of}
+use Rattle.capture.specs.Following.{damages_after, followed, open_direction, peer_of, remarks_of}
 use Rattle.capture.specs.Sessions.{open_sessions, sessions_after}
 
 -- A connection between two ends without PDUs.
@@ -39,9 +40,22 @@ ends_of sender receiver = if nat_le sender receiver then (sender, receiver) else
 abbrev pub place_of : ℕ → ℕ → List Connection → Option ℕ
 place_of low high cs = position (λ (c : Connection). (c.low == low) && (c.high == high)) cs
 
--- The list without the connection silent longest, if it is full.
+-- An end has left the current session of the connection.
+abbrev pub is_closed : Connection → Bool
+is_closed c = is_some c.sessions.current.low.left || is_some c.sessions.current.high.left
+
+-- A place, or else the first.
+abbrev pub place_or_first : Option ℕ → ℕ
+place_or_first (Some place) = place
+place_or_first None = 0
+
+-- The place of the connection that is forgotten: of those that an end has left, the one silent longest; if there is none, the one silent longest of all.
+abbrev pub forgotten_place : List Connection → ℕ
+forgotten_place cs = place_or_first (position (λ (c : Connection). is_closed c) cs)
+
+-- The list without the connection that is forgotten, if it is full.
 abbrev pub room_made : List Connection → List Connection
-room_made cs = if length cs == CONNECTIONS then remove cs 0 else cs
+room_made cs = if length cs == CONNECTIONS then remove cs (forgotten_place cs) else cs
 
 -- The connection at a place, or a new one.
 abbrev pub taken_at : Option ℕ → Connection → List Connection → Connection
@@ -188,29 +202,33 @@ is_source_low None r = false
 is_source_low (Some route) r = is_same_address route.low r.source
 
 -- The direction with one more damaged datagram on a channel.
-abbrev pub damaged_at : Direction → ℕ → Direction
-damaged_at d place = record d { damaged = slice_set d.damaged place (counted (slice_index d.damaged place) 1) }
+abbrev pub damaged_at : Direction → ℕ → Option Damage → Direction
+damaged_at d place damage =
+    record d {
+      damaged = slice_set d.damaged place (counted (slice_index d.damaged place) 1);
+      damages = damages_after d.damages damage;
+    }
 
 -- The connection with one more damaged datagram in the direction of its sender.
-abbrev pub damaged_by : Bool → Connection → ℕ → Connection
-damaged_by true c place = record c { from_low = damaged_at c.from_low place }
-damaged_by false c place = record c { from_high = damaged_at c.from_high place }
+abbrev pub damaged_by : Bool → Connection → ℕ → Option Damage → Connection
+damaged_by true c place damage = record c { from_low = damaged_at c.from_low place damage }
+damaged_by false c place damage = record c { from_high = damaged_at c.from_high place damage }
 
 -- The connection with one more damaged datagram on this channel, if it has the channel.
-abbrev pub damaged_on : Option ℕ → Connection → Record → Connection
-damaged_on None c r = c
-damaged_on (Some place) c r = damaged_by (is_source_low (slice_index_or c.routes place None) r) c place
+abbrev pub damaged_on : Option ℕ → Connection → Record → Option Damage → Connection
+damaged_on None c r damage = c
+damaged_on (Some place) c r damage = damaged_by (is_source_low (slice_index_or c.routes place None) r) c place damage
 
 -- The connection after a damaged datagram.
-abbrev pub connection_damaged : Connection → Record → Connection
-connection_damaged c r = damaged_on (known_place_of c.routes r) c r
+abbrev pub connection_damaged : Connection → Record → Option Damage → Connection
+connection_damaged c r damage = damaged_on (known_place_of c.routes r) c r damage
 
 -- The connections after a damaged datagram, at a place counted from the end.
-abbrev pub damage_at : Option ℕ → List Connection → Record → List Connection
-damage_at None cs r = cs
-damage_at (Some behind) cs r =
-    slice_set cs (length cs - 1 - behind) (connection_damaged (slice_index_or cs (length cs - 1 - behind) (opened 0 0)) r)
+abbrev pub damage_at : Option ℕ → List Connection → Record → Option Damage → List Connection
+damage_at None cs r damage = cs
+damage_at (Some behind) cs r damage =
+    slice_set cs (length cs - 1 - behind) (connection_damaged (slice_index_or cs (length cs - 1 - behind) (opened 0 0)) r damage)
 
 -- The connections after a damaged datagram: it is counted on its channel; if several connections have that, in the last one.
-abbrev pub damage_noted : List Connection → Record → List Connection
-damage_noted cs r = damage_at (behind_of cs r) cs r
+abbrev pub damage_noted : List Connection → Record → Option Damage → List Connection
+damage_noted cs r damage = damage_at (behind_of cs r) cs r damage

@@ -1,5 +1,5 @@
 -- What is remarkable in a PDU, and what is kept of it.
-use Rattle.std.specs.Prelude.{ℕ, ◌-◌, max, ◌^◌, ◌==◌, ◌&&◌, Bool, true, false, not, nat_le, nat_lt, List, map, slice_index_or, slice_set, replicate, if◌then◌else◌, Option, Some, None}
+use Rattle.std.specs.Prelude.{ℕ, ◌+◌, ◌-◌, ◌%◌, max, ◌^◌, ◌==◌, ◌&&◌, Bool, true, false, not, nat_le, nat_lt, List, map, slice_index_or, slice_set, replicate, if◌then◌else◌, Option, Some, None}
 use Rattle.safe_pdu.specs.declared.Kind.{Kind}
 use Rattle.safe_pdu.specs.declared.Kind.TheVariants.{ConnReq, ConnResp, DiscReq, Heartbeat, RetrData, RetrReq}
 use Rattle.safe_pdu.specs.declared.Leaving.{Leaving}
@@ -7,8 +7,9 @@ use Rattle.capture.specs.declared.heard.Header.{Header}
 use Rattle.capture.specs.declared.window.Window.{Window}
 use Rattle.capture.specs.declared.window.Judged.{Judged}
 use Rattle.capture.specs.declared.window.Judged.TheVariants.{Differs, Late, Repeat, Stale}
-use Rattle.capture.specs.declared.direction.TheConstants.{CHANNELS}
+use Rattle.capture.specs.declared.direction.TheConstants.{CHANNELS, DAMAGES}
 use Rattle.capture.specs.declared.direction.Confirmation.{Confirmation}
+use Rattle.capture.specs.declared.direction.Damage.{Damage}
 use Rattle.capture.specs.declared.direction.Direction.{Direction}
 use Rattle.capture.specs.declared.direction.SessionOpening.{SessionOpening}
 use Rattle.capture.specs.declared.direction.Peer.{Peer}
@@ -16,7 +17,7 @@ use Rattle.capture.specs.declared.direction.Place.{Place}
 use Rattle.capture.specs.declared.direction.Remarks.{Remarks}
 use Rattle.capture.specs.declared.direction.Tally.{Tally}
 use Rattle.capture.specs.declared.window.TheConstants.{KEPT}
-use Rattle.capture.specs.Numbers.{ahead, counted, judged, noted, open_window, reopened, slot}
+use Rattle.capture.specs.Numbers.{ahead, counted, judged, line_seen, noted, open_window, reopened, slot}
 
 -- All counts before the first PDU.
 abbrev pub open_tally : Tally
@@ -40,6 +41,10 @@ open_tally =
 abbrev pub none_confirming : List (Option Confirmation)
 none_confirming = replicate KEPT None
 
+-- No damaged datagram of this session is kept.
+abbrev pub no_damages : List (Option Damage)
+no_damages = replicate DAMAGES None
+
 -- A direction before the first PDU.
 abbrev pub open_direction : Direction
 open_direction =
@@ -52,6 +57,7 @@ open_direction =
       confirmations = none_confirming;
       since = None;
       damaged = replicate CHANNELS 0;
+      damages = no_damages;
       tally = open_tally;
     }
 
@@ -154,9 +160,43 @@ confirmed_as sn ts (Some c) = if (c.sn == sn) && (c.ts == ts) then Some c.cts el
 abbrev pub confirmed_by : List (Option Confirmation) → Header → Option ℕ
 confirmed_by cs h = confirmed_as h.cs h.cts (slice_index_or cs (slot h.cs) None)
 
+-- The PDU type is RetrReq.
+abbrev pub is_retransmission_request : Kind → Bool
+is_retransmission_request RetrReq = true
+is_retransmission_request _ = false
+
+-- The line of the PDU for which a RetrReq asks: the one with the sequence number after the confirmed one, if that was recorded.
+abbrev pub asked_by : Window → Header → Option ℕ
+asked_by w h = if is_retransmission_request h.kind then line_seen w ((h.cs + 1) % 2 ^ 32) else None
+
 -- What the other end said, as far as it concerns a PDU.
 abbrev pub peer_of : Direction → Header → Peer
-peer_of d h = record { opened = opened_at d.opening; stamp = d.stamp; confirmed = confirmed_by d.confirmations h }
+peer_of d h =
+    record {
+      opened = opened_at d.opening;
+      stamp = d.stamp;
+      confirmed = confirmed_by d.confirmations h;
+      asked = asked_by d.sequence h;
+    }
+
+-- The line of a damaged datagram, if it has this redundancy number.
+abbrev pub damage_as : ℕ → Option Damage → Option ℕ
+damage_as number None = None
+damage_as number (Some damage) = if damage.number == number then Some damage.line else None
+
+-- The line of the damaged datagram with a redundancy number, if it is kept.
+abbrev pub damage_with : List (Option Damage) → ℕ → Option ℕ
+damage_with damages number = damage_as number (slice_index_or damages (number % DAMAGES) None)
+
+-- The damaged datagrams that are kept, after one more; one without a redundancy number is not kept.
+abbrev pub damages_after : List (Option Damage) → Option Damage → List (Option Damage)
+damages_after damages None = damages
+damages_after damages (Some damage) = slice_set damages (damage.number % DAMAGES) (Some damage)
+
+-- A line, if a PDU is new.
+abbrev pub line_if : Bool → Option ℕ → Option ℕ
+line_if true line = line
+line_if false line = None
 
 -- The PDUs that are kept, after one more; only a new one changes them.
 abbrev pub confirming : Bool → List (Option Confirmation) → Header → List (Option Confirmation)
@@ -230,6 +270,7 @@ opened_as true d opening time =
       sequence = reopened d.sequence;
       opening = opening;
       confirmations = none_confirming;
+      damages = no_damages;
       since = opened_at opening;
       tally = tally_opened d.tally time;
     }
@@ -294,6 +335,8 @@ remarks_in d opens peer place seq h =
       together = judged d.together seq h.fingerprint;
       sequence = sequence_judged (is_new (judged d.together seq h.fingerprint)) d.sequence h;
       resent = is_resent h.kind;
+      damaged = line_if (is_new (judged d.together seq h.fingerprint)) (damage_with d.damages seq);
+      asks = line_if (is_new (judged d.together seq h.fingerprint)) peer.asked;
       age = age_of d.opening peer h;
       waits = waits_of (is_new (judged d.together seq h.fingerprint)) d peer h;
       leaving = h.leaving;

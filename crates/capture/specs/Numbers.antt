@@ -42,6 +42,15 @@ of_number number (Some seen) = if seen.number == number then Some seen else None
 abbrev pub seen_of : Window → ℕ → Option Seen
 seen_of w number = of_number number (slice_index_or w.seen (slot number) None)
 
+-- The line of an entry.
+abbrev pub line_in : Option Seen → Option ℕ
+line_in None = None
+line_in (Some seen) = Some seen.line
+
+-- The line on which a number was seen, if it is kept.
+abbrev pub line_seen : Window → ℕ → Option ℕ
+line_seen w number = line_in (seen_of w number)
+
 -- The distance from one number to another on the ring of 2^32 numbers.
 abbrev pub ahead : ℕ → ℕ → ℕ
 ahead from to = (to + (2 ^ 32 - from)) % 2 ^ 32

@@ -1,5 +1,5 @@
 -- A whole capture, datagram by datagram.
-use Rattle.std.specs.Prelude.{ℕ, ◌==◌, ◌&&◌, Bool, List, fold, length, slice_index_or, is_none, if◌then◌else◌}
+use Rattle.std.specs.Prelude.{ℕ, ◌==◌, ◌&&◌, Bool, List, fold, length, slice_index_or, Option, Some, None, is_none, if◌then◌else◌}
 use Rattle.safe_pdu.specs.declared.SafeFault.{SafeFault}
 use Rattle.safe_pdu.specs.declared.SafeFault.TheVariants as fault
 use Rattle.capture.specs.declared.heard.Heard.{Heard}
@@ -13,7 +13,7 @@ use Rattle.capture.specs.declared.following.Remark.TheVariants as remark
 use Rattle.capture.specs.declared.following.Totals.{Totals}
 use Rattle.capture.specs.declared.window.Window.{Window}
 use Rattle.capture.specs.Numbers.{counted}
-use Rattle.capture.specs.Connecting.{damage_noted, found, opened, step, step_remarks}
+use Rattle.capture.specs.Connecting.{damage_noted, forgotten_place, found, opened, step, step_remarks}
 
 -- What is remarkable in a datagram.
 abbrev pub remark_of : List Connection → ℕ → Record → Heard → Remark
@@ -24,8 +24,8 @@ remark_of cs line r (heard.NoRed fault) = remark.NoRed fault
 -- The connections after a datagram; one that is not a PDU is counted on its channel.
 abbrev pub connections_after : List Connection → ℕ → Record → Heard → List Connection
 connections_after cs line r (heard.Pdu seq h) = step cs line r seq h
-connections_after cs line r (heard.NoSafe seq fault) = damage_noted cs r
-connections_after cs line r (heard.NoRed fault) = damage_noted cs r
+connections_after cs line r (heard.NoSafe seq fault) = damage_noted cs r (Some (record { number = seq; line = line }))
+connections_after cs line r (heard.NoRed fault) = damage_noted cs r None
 
 -- How many datagrams were damaged, after this one.
 abbrev pub damaged_after : ℕ → Heard → ℕ
@@ -80,7 +80,7 @@ counted_in t c = window_counted (window_counted t c.from_low.together) c.from_hi
 
 -- The sums over the forgotten connections, after a PDU.
 abbrev pub gone_with : Totals → List Connection → Header → Totals
-gone_with gone cs h = if forgets cs h then counted_in gone (slice_index_or cs 0 (opened 0 0)) else gone
+gone_with gone cs h = if forgets cs h then counted_in gone (slice_index_or cs (forgotten_place cs) (opened 0 0)) else gone
 
 -- The sums over the forgotten connections, after a datagram.
 abbrev pub gone_after : Totals → List Connection → Heard → Totals

@@ -4,11 +4,13 @@
 //! its identifiers cannot be trusted.
 
 ghost use Rattle.std.specs.Prelude.{◌≡◌, ◌+◌, ◌<◌, ◌≤◌, ◌==◌, ◌&&◌, ◌++◌, ◌∷◌, [], length, IfOk, IfSome, reverse, slice_index_or, vec_capacity, vec_len};
-ghost use Rattle.std.specs.List.{remove};
+ghost use Rattle.std.specs.List.{position, remove};
 ghost use Rattle.capture.specs.Whole.{forgets};
-ghost use Rattle.capture.specs.Connecting.{behind_of, channel_of, connection_after, connection_damaged, connection_remarks, damage_noted, damaged_at, ends_of, has_channel, is_between, is_from_low, is_held, is_known, is_same_address, is_same_host, is_source_low, known_place_of, left, opened, place_of, room_made, route_from, route_place_of, routes_after, step, step_remarks, taken, way_followed, way_remarks};
+ghost use Rattle.capture.specs.Connecting.{behind_of, channel_of, connection_after, connection_damaged, connection_remarks, damage_noted, damaged_at, ends_of, forgotten_place, has_channel, is_between, is_closed, is_from_low, is_held, is_known, is_same_address, is_same_host, is_source_low, known_place_of, left, opened, place_of, room_made, route_from, route_place_of, routes_after, step, step_remarks, taken, way_followed, way_remarks};
 
-use crate::direction::{CHANNELS, Direction, Place, Remarks, follow_pdu, see_peer};
+use crate::direction::{
+    CHANNELS, Damage, Direction, Place, Remarks, follow_pdu, keep_damage, see_peer,
+};
 use crate::heard::Header;
 use crate::line::{Address, Host, Record};
 use crate::sessions::{Sessions, note_session};
@@ -143,7 +145,8 @@ fn spare_entries(alloc: Global) -> Result<Vec<Entry>, AllocError>
 
 /// Adds a PDU on this line to its connection and returns what is remarkable in it.
 ///
-/// If it needs a further connection and there is no room, the connection silent longest is forgotten.
+/// If it needs a further connection and there is no room, one is forgotten: of those that an end has left, the one
+/// silent longest; if there is none, the one silent longest of all.
 pub fn follow(
     connections: &mut Connections,
     line: u64,
@@ -154,8 +157,8 @@ pub fn follow(
     // The remarks are those in the PDU's own connection, a new one if none has its identifiers (`step_remarks`).
     ensures remarks { result ≡ step_remarks connections.old line record.now seq header.now }
     // The PDU's connection changes and is then the last; no other one that stays changes. If there are
-    // `CONNECTIONS` and it is a further one, the first is forgotten (`room_made`). A channel is a pair of addresses in
-    // either direction. A fifth channel of a connection is not distinguished (`routes_after`, `channel_of`).
+    // `CONNECTIONS` and it is a further one, the first that an end has left is forgotten, or else the first
+    // (`room_made`). A channel is a pair of addresses in either direction. A fifth channel of a connection is not distinguished (`routes_after`, `channel_of`).
     ensures step { connections.new ≡ step connections.old line record.now seq header.now }
 {
     bring_to_end(connections, header.sender, header.receiver);
@@ -269,10 +272,42 @@ fn has_ends(connection: &Connection, low: u32, high: u32) -> bool
     connection.low == low && connection.high == high
 }
 
-/// Takes an entry for a further connection: a spare one, or that of the connection silent longest.
+/// Returns the place of the connection that is forgotten for a further one.
+pub(crate) fn place_to_forget(list: &[Entry]) -> usize
+    // The place is that of the first connection that an end has left, or else the first place (`forgotten_place`).
+    ensures value { result ≡ forgotten_place list.now }
+    // The place is within a list that is not empty.
+    ensures bound { 0 < length list.now → result < length list.now }
+{
+    match closed_place(list) {
+        Some(place) => place,
+        None => 0,
+    }
+}
+
+/// Returns the place of the first connection that an end has left.
+fn closed_place(list: &[Entry]) -> Option<usize>
+    // The place is the first whose connection is closed (`is_closed`).
+    ensures value { result ≡ position (λ (c : Connection). is_closed c) list.now }
+    // The place of a connection is in the list.
+    ensures bound { IfSome result (λ place. place < length list.now) }
+{
+    list.iter().position(|entry| is_left(&entry.connection))
+}
+
+/// Returns `true` if an end has left the current session of a connection.
+fn is_left(connection: &Connection) -> bool
+    // A DiscReq of either end is enough.
+    ensures { result ≡ is_closed connection.now }
+{
+    connection.sessions.current.low.left.is_some()
+        || connection.sessions.current.high.left.is_some()
+}
+
+/// Takes an entry for a further connection: a spare one, or that of the connection that is forgotten.
 fn free_entry(list: &mut Vec<Entry>, spare: &mut Vec<Entry>) -> Entry
     requires { vec_len list.old + vec_len spare.old ≡ CONNECTIONS }
-    // A full list loses its first connection; any other list does not change.
+    // A full list loses the connection that is forgotten; any other list does not change.
     ensures left { list.new.items ≡ room_made list.old.items }
     // The entry is missing in one of both lists.
     ensures taken { vec_len list.new + vec_len spare.new + 1 ≡ CONNECTIONS }
@@ -281,7 +316,10 @@ fn free_entry(list: &mut Vec<Entry>, spare: &mut Vec<Entry>) -> Entry
 {
     match spare.pop() {
         Some(entry) => entry,
-        None => list.remove(0),
+        None => {
+            let place = place_to_forget(list.as_slice());
+            list.remove(place)
+        }
     }
 }
 
@@ -435,23 +473,25 @@ fn joins(route: &Route, record: &Record) -> bool
 
 /// Counts a datagram that is not a PDU on the channel between its addresses, if a connection has that channel; of
 /// several, in the one with the latest PDU.
-pub(crate) fn note_damage(connections: &mut Connections, record: &Record)
-    // Only the count of damage on that channel grows, in the last connection that has it; without one, nothing
-    // changes (`damage_at`).
-    ensures { connections.new ≡ damage_noted connections.old record.now }
+///
+/// `damage` is its redundancy number and line, if it has such a number.
+pub(crate) fn note_damage(connections: &mut Connections, record: &Record, damage: Option<Damage>)
+    // The count of damage on that channel grows, and the `damage` is kept, in the last connection that has it; without
+    // one, nothing changes (`damage_at`).
+    ensures { connections.new ≡ damage_noted connections.old record.now damage }
 {
     if let Some(behind) = behind(connections.list.as_slice(), record) {
         let place = connections.list.len() - 1 - behind;
-        damage_entry(&mut connections.list.as_mut_slice()[place], record);
+        damage_entry(&mut connections.list.as_mut_slice()[place], record, damage);
     }
 }
 
 /// Counts a datagram that is not a PDU in the connection of an entry.
-fn damage_entry(entry: &mut Entry, record: &Record)
+fn damage_entry(entry: &mut Entry, record: &Record, damage: Option<Damage>)
     // The connection changes as `connection_damaged` says.
-    ensures { entry.new ≡ connection_damaged entry.old record.now }
+    ensures { entry.new ≡ connection_damaged entry.old record.now damage }
 {
-    damage(&mut entry.connection, record);
+    damage_connection(&mut entry.connection, record, damage);
 }
 
 /// Returns how many connections come after the last one that has a datagram's channel.
@@ -496,16 +536,16 @@ fn knows(route: &Option<Route>, record: &Record) -> bool
 }
 
 /// Counts a datagram that is not a PDU on its channel, for the end whose address sent it.
-fn damage(connection: &mut Connection, record: &Record)
-    // The count grows in the direction of the end whose address is the source; without such a channel, nothing
-    // changes (`connection_damaged`).
-    ensures { connection.new ≡ connection_damaged connection.old record.now }
+fn damage_connection(connection: &mut Connection, record: &Record, damage: Option<Damage>)
+    // The count grows, and the `damage` is kept, in the direction of the end whose address is the source; without such
+    // a channel, nothing changes (`connection_damaged`).
+    ensures { connection.new ≡ connection_damaged connection.old record.now damage }
 {
     if let Some(place) = known_place(&connection.routes, record) {
         if is_low(&connection.routes[place], record) {
-            count_damage(&mut connection.from_low, place);
+            count_damage(&mut connection.from_low, place, damage);
         } else {
-            count_damage(&mut connection.from_high, place);
+            count_damage(&mut connection.from_high, place, damage);
         }
     }
 }
@@ -521,13 +561,14 @@ fn is_low(route: &Option<Route>, record: &Record) -> bool
     }
 }
 
-/// Counts one more damaged datagram on a channel.
-fn count_damage(direction: &mut Direction, place: usize)
+/// Counts one more damaged datagram on a channel, and keeps its redundancy number.
+fn count_damage(direction: &mut Direction, place: usize, damage: Option<Damage>)
     requires { place < CHANNELS }
-    // The count at `place` grows by 1, limited to 2^64 - 1.
-    ensures { direction.new ≡ damaged_at direction.old place }
+    // The count at `place` grows by 1, limited to 2^64 - 1, and the `damage` is kept.
+    ensures { direction.new ≡ damaged_at direction.old place damage }
 {
     direction.damaged[place] = direction.damaged[place].saturating_add(1);
+    keep_damage(&mut direction.damages, damage);
 }
 
 /// Compares two addresses.

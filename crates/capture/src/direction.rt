@@ -11,15 +11,18 @@
 //! PDU: so a PDU that passed the recorder, but that the end did not take, does not count.
 
 ghost use Rattle.std.specs.Prelude.{◌≡◌, ◌<◌, length, map, true};
-ghost use Rattle.capture.specs.Following.{age_at, age_in, age_of, age_within, channel_judged, channel_noted, confirmation_of, confirmed_as, confirmed_by, confirming, confirms_nothing, followed, followed_in, greatest_of, has_gone_on, is_before, is_behind_request, is_copy, is_furthest, is_new, is_opened, is_other, is_repeat, is_request, is_resent, kind_counted, newer, none_confirming, open_direction, opened_as, opened_at, opened_with, opening_of, peer_of, remarks_in, remarks_of, sequence_judged, sequence_noted, silence_of, since_after, tallied, tally_after, tally_opened, waits_at, waits_of};
+ghost use Rattle.capture.specs.Following.{asked_by, damage_with, damages_after, line_if, age_at, age_in, age_of, age_within, channel_judged, channel_noted, confirmation_of, confirmed_as, confirmed_by, confirming, confirms_nothing, followed, followed_in, greatest_of, has_gone_on, is_before, is_behind_request, is_copy, is_furthest, is_new, is_opened, is_other, is_repeat, is_request, is_resent, kind_counted, newer, none_confirming, open_direction, opened_as, opened_at, opened_with, opening_of, peer_of, remarks_in, remarks_of, sequence_judged, sequence_noted, silence_of, since_after, tallied, tally_after, tally_opened, waits_at, waits_of};
 ghost use Rattle.capture.specs.Numbers.{ahead, reopened, slot};
 
 use crate::heard::Header;
-use crate::window::{Judged, KEPT, Window, judge, note, reopen};
+use crate::window::{Judged, KEPT, Window, judge, line_of, note, reopen};
 use safe_pdu::{Kind, Leaving};
 
 /// How many channels of a connection are distinguished. RaSTA has two; four leave room.
 pub const CHANNELS: usize = 4;
+
+/// How many damaged datagrams of an end are kept, by the remainder of their redundancy numbers.
+pub const DAMAGES: usize = 8;
 
 /// What one end of a connection has sent.
 #[derive(Clone, Copy, Debug, PartialEq, Eq)]
@@ -40,6 +43,8 @@ pub struct Direction {
     pub since: Option<u32>,
     /// How many of its datagrams on each channel were not a PDU.
     pub damaged: [u64; CHANNELS],
+    /// For each remainder of a redundancy number, the last damaged datagram with it since the last opening.
+    pub damages: [Option<Damage>; DAMAGES],
     /// The counts of its PDUs.
     pub tally: Tally,
 }
@@ -53,6 +58,15 @@ pub struct SessionOpening {
     pub sn: u32,
     /// The timestamp (TS) in milliseconds.
     pub ts: u32,
+}
+
+/// A datagram with a redundancy number whose safety PDU is damaged.
+#[derive(Clone, Copy, Debug, PartialEq, Eq)]
+pub struct Damage {
+    /// Its redundancy number.
+    pub number: u32,
+    /// The number of its line, from 1.
+    pub line: u64,
 }
 
 /// What a PDU confirms.
@@ -75,6 +89,8 @@ pub struct Peer {
     pub stamp: Option<u32>,
     /// The timestamp that its PDU confirms which this PDU confirms.
     pub confirmed: Option<u32>,
+    /// The line of its PDU for which this PDU asks, if it is a RetrReq and that PDU was recorded.
+    pub asked: Option<u64>,
 }
 
 /// The counts of a direction's PDUs; copies count once.
@@ -121,6 +137,11 @@ pub struct Remarks {
     pub sequence: Option<Judged>,
     /// It carries a unit that was sent before (RetrData).
     pub resent: bool,
+    /// The line of a damaged datagram with its redundancy number, if it is new. The receiver took that number as
+    /// received, and so drops this PDU as old.
+    pub damaged: Option<u64>,
+    /// The line of the PDU for which it asks, if it is new: that PDU was not lost before the recorder.
+    pub asks: Option<u64>,
     /// The age of the confirmed timestamp at the end that made it, in milliseconds.
     ///
     /// `None` for a ConnReq or a DiscReq directly after it; if the timestamp is from before the last opening of that
@@ -160,6 +181,7 @@ impl Direction {
             confirmations: [None; KEPT],
             since: None,
             damaged: [0; CHANNELS],
+            damages: [None; DAMAGES],
             tally: Tally {
                 openings: 0,
                 heartbeats: 0,
@@ -188,8 +210,9 @@ pub fn follow_pdu(
 ) -> Remarks
     // The remarks judge the redundancy number on its channel and on all channels, then the sequence number
     // (`channel_judged`, `judged`, `sequence_judged`). They also have the opening, the retransmission, the age, the
-    // wait and the reason (`is_opened`, `is_resent`, `age_of`, `waits_of`). An opening is a copy only if the first
-    // one is kept with the same bytes, and nothing else has come on its channel since (`is_copy`). The age is the
+    // wait and the reason (`is_opened`, `is_resent`, `age_of`, `waits_of`). Of a new PDU they have the line of a damaged
+    // datagram with its number, and the line of the PDU that it asks for. An opening is a copy only if the first one is
+    // kept with the same bytes, and nothing else has come on its channel since (`is_copy`). The age is the
     // peer's newest timestamp minus the confirmed one (`age_at`); a ConnReq and a DiscReq directly after it have none
     // (`confirms_nothing`), nor has a timestamp from before the peer's opening (`is_before`). The wait of a new PDU
     // is its timestamp minus the one that was last confirmed to its end (`since_after`).
@@ -239,6 +262,7 @@ fn follow_opened(
         header,
     );
     let waits = wait(is_new, since, header.ts);
+    let damaged = if_new(is_new, damaged_before(&direction.damages, seq));
     direction.since = since;
     keep_confirmation(&mut direction.confirmations, is_new, header);
     if is_new {
@@ -251,6 +275,8 @@ fn follow_opened(
         together,
         sequence,
         resent: carries_again(header.kind),
+        damaged,
+        asks: if_new(is_new, peer.asked),
         age,
         waits,
         leaving: header.leaving,
@@ -259,15 +285,58 @@ fn follow_opened(
 
 /// Returns what an end said, as far as it concerns a PDU of the other end.
 pub(crate) fn see_peer(direction: &Direction, header: &Header) -> Peer
-    // The result has the timestamps of the last opening and the newest PDU, and the timestamp that the PDU confirms
-    // which `header` confirms (`peer_of`).
+    // The result has the timestamps of the last opening and the newest PDU, the timestamp that the PDU confirms
+    // which `header` confirms, and the line of the PDU for which it asks (`peer_of`).
     ensures { result ≡ peer_of direction.now header.now }
 {
     Peer {
         opened: opened(direction.opening),
         stamp: direction.stamp,
         confirmed: confirmed(&direction.confirmations, header),
+        asked: asked_line(&direction.sequence, header),
     }
+}
+
+/// Returns the line of the PDU for which a RetrReq asks.
+fn asked_line(sequence: &Window, header: &Header) -> Option<u64>
+    // A RetrReq asks for the sequence number after the one that it confirms; any other PDU asks for none
+    // (`asked_by`).
+    ensures { result ≡ asked_by sequence.now header.now }
+{
+    if matches!(header.kind, Kind::RetrReq) {
+        return line_of(sequence, header.cs.wrapping_add(1));
+    }
+    None
+}
+
+/// Returns the line of a damaged datagram with a redundancy number.
+fn damaged_before(damages: &[Option<Damage>; DAMAGES], number: u32) -> Option<u64>
+    // The slot of the `number` must have exactly this number (`damage_with`).
+    ensures { result ≡ damage_with damages.now number }
+{
+    let damage = damages[number as usize % DAMAGES]?;
+    if damage.number == number {
+        return Some(damage.line);
+    }
+    None
+}
+
+/// Keeps a damaged datagram, if it has a redundancy number.
+pub(crate) fn keep_damage(damages: &mut [Option<Damage>; DAMAGES], damage: Option<Damage>)
+    // Only the slot of its number changes (`damages_after`).
+    ensures { damages.new ≡ damages_after damages.old damage }
+{
+    if let Some(damage) = damage {
+        damages[damage.number as usize % DAMAGES] = Some(damage);
+    }
+}
+
+/// Returns a line if a PDU is new.
+fn if_new(is_new: bool, line: Option<u64>) -> Option<u64>
+    // A copy has no line.
+    ensures { result ≡ line_if is_new line }
+{
+    if is_new { line } else { None }
 }
 
 /// Returns the timestamp of an opening.
@@ -448,8 +517,8 @@ fn differs(newest: Option<u32>, seq: u32) -> bool
 
 /// Starts a session: all numbers start again.
 fn open(direction: &mut Direction, opening: Option<SessionOpening>, time: u64)
-    // All windows start again and keep their counts. No confirmation is kept, and the end waits from the timestamp of
-    // the `opening` on. The tally counts the opening, and forgets the reason (`opened_as`).
+    // All windows start again and keep their counts. No confirmation and no damaged datagram is kept, and the end
+    // waits from the timestamp of the `opening` on. The tally counts the opening, and forgets the reason (`opened_as`).
     ensures { direction.new ≡ opened_as true direction.old opening time }
 {
     reopen_all(&mut direction.channels);
@@ -457,6 +526,7 @@ fn open(direction: &mut Direction, opening: Option<SessionOpening>, time: u64)
     reopen(&mut direction.sequence);
     direction.opening = opening;
     direction.confirmations = [None; KEPT];
+    direction.damages = [None; DAMAGES];
     direction.since = opened(opening);
     direction.tally.openings = direction.tally.openings.saturating_add(1);
     direction.tally.leaving = None;
@@ -494,7 +564,7 @@ fn note_channel(
 
 /// Returns `true` if a PDU has not come before on any channel. For a stale one that is unknown, and the result is
 /// `false`.
-pub(crate) fn is_first_copy(together: Judged) -> bool
+pub fn is_first_copy(together: Judged) -> bool
     // The result is false exactly for a repeat, a differing and a stale number (`is_new`).
     ensures { result ≡ is_new together }
 {

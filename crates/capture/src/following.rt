@@ -1,14 +1,16 @@
 //! A whole capture: its connections, the datagrams that are not PDUs, and the sums over all.
 //!
-//! 64 connections are kept; for a further one, the connection silent longest is forgotten. A number further back than
-//! the window is stale and changes only its count, so a copy on a slow channel is not a restart.
+//! 64 connections are kept; for a further one, one is forgotten, of those that an end has left first. A number further
+//! back than the window is stale and changes only its count, so a copy on a slow channel is not a restart.
 
 ghost use Rattle.std.specs.Prelude.{◌≡◌, [], IfOk, fold};
 ghost use Rattle.capture.specs.Whole.{connections_after, counted_in, damaged_after, forgotten_after, forgotten_with, gone_after, gone_with, miscoded_after, miscoded_with, no_totals, remark_of, totals_of, window_counted};
 ghost use Rattle.capture.specs.Numbers.{counted};
 
-use crate::connections::{Connection, Connections, Entry, follow, has_no_room, note_damage};
-use crate::direction::Remarks;
+use crate::connections::{
+    Connection, Connections, Entry, follow, has_no_room, note_damage, place_to_forget,
+};
+use crate::direction::{Damage, Remarks};
 use crate::heard::{Header, Heard};
 use crate::line::Record;
 use crate::window::Window;
@@ -97,7 +99,7 @@ impl Following {
         // layer that rejects it.
         ensures remark { result ≡ remark_of self.old.connections line record.now heard.now }
         // A PDU changes its own connection. Any other datagram changes only the count of damage in the last
-        // connection with its channel (`damage_noted`).
+        // connection with its channel, which also keeps its redundancy number, if it has one (`damage_noted`).
         ensures connections { self.new.connections
             ≡ connections_after self.old.connections line record.now heard.now }
         // The count of datagrams grows by 1.
@@ -123,12 +125,13 @@ impl Following {
             Heard::NoSafe(seq, fault) => {
                 self.damaged = self.damaged.saturating_add(1);
                 self.miscoded = count_miscoded(self.miscoded, fault);
-                note_damage(&mut self.connections, record);
+                let damage = Damage { number: seq, line };
+                note_damage(&mut self.connections, record, Some(damage));
                 Remark::NoSafe(seq, fault)
             }
             Heard::NoRed(fault) => {
                 self.damaged = self.damaged.saturating_add(1);
-                note_damage(&mut self.connections, record);
+                note_damage(&mut self.connections, record, None);
                 Remark::NoRed(fault)
             }
         }
@@ -159,12 +162,13 @@ fn count_forgotten(forgotten: u64, connections: &Connections, header: &Header) -
 
 /// Returns the sums of forgotten connections after a PDU.
 fn sum_forgotten(gone: Totals, connections: &Connections, header: &Header) -> Totals
-    // If a connection is forgotten, it is the first one, and its sums are added.
+    // If a connection is forgotten, its sums are added.
     ensures { result ≡ gone_with gone connections.now header.now }
 {
     if has_no_room(connections, header) {
-        let first = &connections.as_slice()[0];
-        return add_connection(gone, &first.connection);
+        let place = place_to_forget(connections.as_slice());
+        let forgotten = &connections.as_slice()[place];
+        return add_connection(gone, &forgotten.connection);
     }
     gone
 }

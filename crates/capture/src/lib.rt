@@ -27,8 +27,8 @@ mod wrapping;
 
 pub use connections::{CONNECTIONS, Connection, Connections, Entry, Route, follow};
 pub use direction::{
-    CHANNELS, Confirmation, Direction, Peer, Place, Remarks, SessionOpening, Tally, follow_pdu,
-    silence,
+    CHANNELS, Confirmation, DAMAGES, Damage, Direction, Peer, Place, Remarks, SessionOpening,
+    Tally, follow_pdu, is_first_copy, silence,
 };
 pub use file::{
     BLOCK_MAX, BlockContent, FileFault, FileForm, FilePart, Framed, INTERFACES, Recording,

@@ -1,7 +1,7 @@
 //! The window of recent numbers: which were seen, and how the next one follows them.
 
 ghost use Rattle.std.specs.Prelude.{◌≡◌, ◌<◌, ◌%◌};
-ghost use Rattle.capture.specs.Numbers.{judged, judged_again, judged_ahead, judged_from, kept, moved, noted, of_number, open_window, reopened, seen_of};
+ghost use Rattle.capture.specs.Numbers.{line_seen, judged, judged_again, judged_ahead, judged_from, kept, moved, noted, of_number, open_window, reopened, seen_of};
 
 /// How many numbers are kept: one for each remainder modulo 32. 32 divides 2^32, so the ring wraps within it.
 pub const KEPT: usize = 32;
@@ -99,6 +99,15 @@ pub fn judge(window: &Window, number: u32, fingerprint: u64) -> Judged
         Some(seen) => judge_again(seen, fingerprint),
         None => judge_new(window, number),
     }
+}
+
+/// Returns the line on which a number was seen first, if it is kept.
+pub(crate) fn line_of(window: &Window, number: u32) -> Option<u64>
+    // The line is that of the entry of exactly this `number` (`line_seen`).
+    ensures { result ≡ line_seen window.now number }
+{
+    let seen = find(window, number)?;
+    Some(seen.line)
 }
 
 /// Returns the entry of a number, if it is kept.

@@ -9,6 +9,7 @@ pub mod TableJson
 pub mod Sentence
 pub mod SummaryText
 pub mod Json
+pub mod EventText
 pub mod FaultText
 pub mod Telegrams
 pub mod Passing

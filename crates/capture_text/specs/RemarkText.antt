@@ -35,6 +35,20 @@ abbrev pub resent_text : Bool → List ℕ
 resent_text true = codes " resent"
 resent_text false = []
 
+-- That a damaged datagram with the number of this PDU came before it.
+abbrev pub damage_text : Option ℕ → List ℕ
+damage_text None = []
+damage_text (Some line) = joined (codes " after damage in line " ∷ decimal line ∷ [])
+
+-- The line that a RetrReq asks for.
+unfoldable pub asked_text : ℕ → List ℕ
+asked_text line = joined (codes " asks for line " ∷ decimal line ∷ [])
+
+-- The same, if it asks for one.
+abbrev pub asks_text : Option ℕ → List ℕ
+asks_text None = []
+asks_text (Some line) = asked_text line
+
 -- An age in milliseconds.
 abbrev pub age_text : Option ℕ → List ℕ
 age_text None = []
@@ -59,10 +73,14 @@ unfoldable pub order_text : Remarks → List ℕ
 order_text r =
     joined (opens_text r.opens ∷ maybe_text (codes "channel") r.channel ∷ judged_text (codes "all") r.together ∷ maybe_text (codes "sn") r.sequence ∷ [])
 
--- A retransmission, the age, the wait and the reason.
+-- A retransmission, damage before the PDU, and the line that it asks for.
+unfoldable pub again_text : Remarks → List ℕ
+again_text r = joined (resent_text r.resent ∷ damage_text r.damaged ∷ asks_text r.asks ∷ [])
+
+-- The age, the wait and the reason.
 unfoldable pub other_text : ℕ → Remarks → List ℕ
-other_text t_max r = joined (resent_text r.resent ∷ age_text r.age ∷ waits_text t_max r.waits ∷ leaving_text r.leaving ∷ [])
+other_text t_max r = joined (age_text r.age ∷ waits_text t_max r.waits ∷ leaving_text r.leaving ∷ [])
 
 -- All remarks on a PDU.
 unfoldable pub remarks_text : ℕ → Remarks → List ℕ
-remarks_text t_max r = order_text r ++ other_text t_max r
+remarks_text t_max r = joined (order_text r ∷ again_text r ∷ other_text t_max r ∷ [])

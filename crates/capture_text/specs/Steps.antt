@@ -14,6 +14,7 @@ use Rattle.capture.specs.Ports.{is_chosen}
 use Rattle.capture.specs.Whole.{connections_after, damaged_after, forgotten_after, gone_after, miscoded_after, remark_of, totals_of}
 use Rattle.std.specs.Io.BufRead.{ends_with_byte, strip_last}
 use Rattle.capture_text.specs.Choice.{is_asked}
+use Rattle.capture_text.specs.EventText.{event_lines}
 use Rattle.capture_text.specs.FaultText.{fault_text}
 use Rattle.capture_text.specs.Json.{sums_json}
 use Rattle.capture_text.specs.RecordText.{record_text}
@@ -26,7 +27,7 @@ use Rattle.capture_text.specs.declared.frames.Skipped.{Skipped}
 use Rattle.capture_text.specs.declared.frames.Skipped.TheVariants.{Port, Time, NoIp, NoUdp, Tunnel}
 use Rattle.capture_text.specs.declared.passed.PassedOver.{PassedOver}
 use Rattle.capture_text.specs.declared.course.OutputForm.{OutputForm}
-use Rattle.capture_text.specs.declared.course.OutputForm.TheVariants.{Lines, Json}
+use Rattle.capture_text.specs.declared.course.OutputForm.TheVariants.{Lines, Json, Events}
 use Rattle.capture_text.specs.declared.summary.CaptureCounts.{CaptureCounts}
 use Rattle.capture_text.specs.declared.summary.Scale.{Scale}
 
@@ -112,23 +113,20 @@ forgotten_behind forgotten cs (Err why) = forgotten
 abbrev pub asked_telegrams : Asked → List ℕ → List ℕ
 asked_telegrams a octets = if a.messages then telegram_lines a.rule octets else []
 
--- The line of a datagram is printed in this form.
-abbrev pub is_told_in : OutputForm → Asked → Remark → Bool
-is_told_in Lines a m = is_asked a.only a.t_max m
-is_told_in Json a m = false
-
--- The line of a datagram is printed; with JSON none is.
-abbrev pub is_line_told : Asked → Remark → Bool
-is_line_told a m = is_told_in a.form a m
-
 -- What times and waits are measured by.
 abbrev pub scale_from : Asked → ℕ → Scale
 scale_from a first = record { clock = record { first = first; form = a.time }; t_max = a.t_max }
 
--- The line of a datagram and its telegrams, as far as they are asked for.
+-- A datagram in this form: its line and telegrams, or its events.
+abbrev pub told_in : OutputForm → Asked → ℕ → ℕ → Record → Remark → List ℕ → List ℕ
+told_in Lines a first number r m octets = record_text (scale_from a first) number r m ++ asked_telegrams a octets
+told_in Json a first number r m octets = []
+told_in Events a first number r m octets = event_lines (scale_from a first) number r m
+
+-- The text of a datagram, if its remark is chosen.
 abbrev pub told_text : Asked → ℕ → ℕ → Record → Remark → List ℕ → List ℕ
 told_text a first number r m octets =
-    if is_line_told a m then record_text (scale_from a first) number r m ++ asked_telegrams a octets else []
+    if is_asked a.only a.t_max m then told_in a.form a first number r m octets else []
 
 -- What is printed of a line.
 abbrev pub found_text : Asked → Option ℕ → ℕ → List ℕ → Result (Record × Remark) Unfollowed → List ℕ
@@ -203,6 +201,7 @@ counts_of datagrams damaged forgotten unreadable frames passed =
 abbrev pub sums_in : OutputForm → Scale → List Connection → Totals → CaptureCounts → List ℕ
 sums_in Lines s cs t counts = summary_text s cs t counts
 sums_in Json s cs t counts = sums_json s cs t counts
+sums_in Events s cs t counts = sums_json s cs t counts
 
 -- The sums over all lines so far.
 abbrev pub course_text : Asked → Option ℕ → Totals → List Connection → CaptureCounts → List ℕ

@@ -8,9 +8,10 @@ ghost use Rattle.capture.specs.Numbers.{counted};
 ghost use Rattle.capture.specs.Whole.{connections_after, damaged_after, forgotten_after, gone_after, no_totals, remark_of};
 ghost use Rattle.capture_text.specs.FaultText.{fault_text, fault_word};
 ghost use Rattle.capture_text.specs.Passing.{no_passed, passed_behind};
-ghost use Rattle.capture_text.specs.Steps.{asked_telegrams, connections_behind, counts_of, course_text, damaged_behind, due_next, due_text, datagrams_behind, fault_in, first_behind, first_of, forgotten_behind, found_in, found_text, gone_behind, heard_chosen, heard_line, is_due, is_line_told, latest_behind, miscoded_behind, next_period, payload_in, scale_from, told_text, unreadable_behind};
+ghost use Rattle.capture_text.specs.Steps.{asked_telegrams, connections_behind, counts_of, course_text, damaged_behind, due_next, due_text, datagrams_behind, fault_in, first_behind, first_of, forgotten_behind, found_in, found_text, gone_behind, heard_chosen, heard_line, is_due, latest_behind, miscoded_behind, next_period, payload_in, scale_from, told_in, told_text, unreadable_behind};
 
 use crate::choice::{Remarkable, is_wanted};
+use crate::events::write_events;
 use crate::frames::{Skipped, first_with, skip};
 use crate::json::write_json;
 use crate::passed::PassedOver;
@@ -33,6 +34,8 @@ pub enum OutputForm {
     Lines,
     /// Only the sums, as one JSON object, so that all of standard output is one object.
     Json,
+    /// A JSON object in a line for each event, then the sums as with `Json`.
+    Events,
 }
 
 /// The options of a run.
@@ -335,7 +338,9 @@ impl Course {
         let gone = self.following.gone;
         match asked.form {
             OutputForm::Lines => write_summary(writer, scale, gone, connections, counts),
-            OutputForm::Json => write_json(writer, scale, gone, connections, counts),
+            OutputForm::Json | OutputForm::Events => {
+                write_json(writer, scale, gone, connections, counts)
+            }
         }
     }
 }
@@ -469,7 +474,7 @@ fn follow(
     }
 }
 
-/// Writes the line and the telegrams of a datagram, if they are asked for.
+/// Writes what is asked for of a datagram, if its remark is chosen.
 pub(crate) fn write_wanted<W: Write>(
     writer: &mut W,
     asked: &Asked,
@@ -479,16 +484,38 @@ pub(crate) fn write_wanted<W: Write>(
     remark: &Remark,
     datagram: &[u8],
 ) -> io::Result<()>
-    // On success the line and the telegrams that are asked for are appended if the remark is chosen (`is_line_told`);
-    // otherwise nothing is.
+    // On success the text of the datagram is appended if its remark is chosen (`is_asked`); otherwise nothing is.
     ensures { OnOk result (Appends (W.contents writer.old) (W.contents writer.new)
         (told_text asked.now first number «record».now remark.now datagram.now)) }
 {
-    if !is_told(asked, remark) {
+    if !is_wanted(asked.only, asked.t_max, remark) {
         return Ok(());
     }
-    write_record(writer, scale(asked, first), number, record, remark)?;
-    write_asked(writer, asked, datagram)
+    write_told(writer, asked, first, number, record, remark, datagram)
+}
+
+/// Writes a datagram in the form that is asked for.
+fn write_told<W: Write>(
+    writer: &mut W,
+    asked: &Asked,
+    first: u64,
+    number: u64,
+    record: &Record,
+    remark: &Remark,
+    datagram: &[u8],
+) -> io::Result<()>
+    // On success its line and telegrams, or its events, are appended; with `Json` nothing is (`told_in`).
+    ensures { OnOk result (Appends (W.contents writer.old) (W.contents writer.new)
+        (told_in asked.now.form asked.now first number «record».now remark.now datagram.now)) }
+{
+    match asked.form {
+        OutputForm::Lines => {
+            write_record(writer, scale(asked, first), number, record, remark)?;
+            write_asked(writer, asked, datagram)
+        }
+        OutputForm::Json => Ok(()),
+        OutputForm::Events => write_events(writer, scale(asked, first), number, record, remark),
+    }
 }
 
 /// Returns how times, ages and waits are printed.
@@ -502,17 +529,6 @@ fn scale(asked: &Asked, first: u64) -> Scale
             form: asked.time,
         },
         t_max: asked.t_max,
-    }
-}
-
-/// Returns `true` if the line of a datagram is printed.
-fn is_told(asked: &Asked, remark: &Remark) -> bool
-    // No line is printed with JSON; otherwise those whose `remark` is chosen.
-    ensures { result ≡ is_line_told asked.now remark.now }
-{
-    match asked.form {
-        OutputForm::Lines => is_wanted(asked.only, asked.t_max, remark),
-        OutputForm::Json => false,
     }
 }
 

@@ -1,4 +1,5 @@
-//! The text that `rasta follow` prints of a recorded connection: a line for each datagram, then the sums.
+//! The text that `rasta follow` prints of a recorded connection: a line for each datagram, or its events as JSON, then
+//! the sums.
 //!
 //! Contracts about a text hold if the writing succeeds; contracts about counts and connections always hold. Only
 //! tested are: that `run` hands all bytes to `follow_lines` and prints the sums after them, and how it reads the
@@ -8,6 +9,7 @@
 mod choice;
 mod course;
 mod dates;
+mod events;
 mod frames;
 mod json;
 mod passed;
@@ -25,6 +27,7 @@ mod telegrams;
 
 pub use choice::{Remarkable, is_wanted};
 pub use course::{Asked, Course, OutputForm, write_fault};
+pub use events::write_events;
 pub use frames::{FrameFault, write_frame_fault};
 pub use json::write_json;
 pub use passed::PassedOver;

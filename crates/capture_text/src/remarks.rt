@@ -2,7 +2,7 @@
 
 ghost use Rattle.std.specs.Prelude.{◌≡◌, OnOk, codes};
 ghost use Rattle.std.specs.Io.KnownBytes.{Appends};
-ghost use Rattle.capture_text.specs.RemarkText.{age_text, judged_text, leaving_text, maybe_text, opens_text, order_text, other_text, remarks_text, resent_text, wait_text, waits_text};
+ghost use Rattle.capture_text.specs.RemarkText.{again_text, age_text, asked_text, asks_text, damage_text, judged_text, leaving_text, maybe_text, opens_text, order_text, other_text, remarks_text, resent_text, wait_text, waits_text};
 
 use crate::choice::is_half_of;
 use crate::reasons::write_reasons;
@@ -29,6 +29,7 @@ pub fn write_remarks<W: Write>(writer: &mut W, t_max: u32, remarks: &Remarks) ->
     ensures { OnOk result (Appends (W.contents writer.old) (W.contents writer.new) (remarks_text t_max remarks.now)) }
 {
     write_order(writer, remarks)?;
+    write_again(writer, remarks)?;
     write_others(writer, t_max, remarks)
 }
 
@@ -45,14 +46,24 @@ fn write_order<W: Write>(writer: &mut W, remarks: &Remarks) -> io::Result<()>
     write_maybe(writer, "sn", remarks.sequence)
 }
 
-/// Writes a retransmission, the age, the wait and the reason.
-#[tactic(auto, unfolding(crate::specs::RemarkText::other_text))]
-fn write_others<W: Write>(writer: &mut W, t_max: u32, remarks: &Remarks) -> io::Result<()>
-    // On success the word of a retransmission, the age, the wait from half of `t_max` on, and the reason are appended,
-    // as far as there are any.
-    ensures { OnOk result (Appends (W.contents writer.old) (W.contents writer.new) (other_text t_max remarks.now)) }
+/// Writes a retransmission, damage before the PDU, and the line that it asks for.
+#[tactic(auto, unfolding(crate::specs::RemarkText::again_text))]
+fn write_again<W: Write>(writer: &mut W, remarks: &Remarks) -> io::Result<()>
+    // On success the word of a retransmission, the line of a damaged datagram with the same number, and the line that a
+    // RetrReq asks for are appended, as far as there are any.
+    ensures { OnOk result (Appends (W.contents writer.old) (W.contents writer.new) (again_text remarks.now)) }
 {
     write_resent(writer, remarks.resent)?;
+    write_damage(writer, remarks.damaged)?;
+    write_asks(writer, remarks.asks)
+}
+
+/// Writes the age, the wait and the reason.
+#[tactic(auto, unfolding(crate::specs::RemarkText::other_text))]
+fn write_others<W: Write>(writer: &mut W, t_max: u32, remarks: &Remarks) -> io::Result<()>
+    // On success the age, the wait from half of `t_max` on, and the reason are appended, as far as there are any.
+    ensures { OnOk result (Appends (W.contents writer.old) (W.contents writer.new) (other_text t_max remarks.now)) }
+{
     write_age(writer, remarks.age)?;
     write_waits(writer, t_max, remarks.waits)?;
     write_leaving(writer, remarks.leaving)
@@ -106,6 +117,37 @@ fn write_resent<W: Write>(writer: &mut W, resent: bool) -> io::Result<()>
         return writer.write_all(b" resent");
     }
     Ok(())
+}
+
+/// Writes the line of a damaged datagram with the number of a PDU.
+fn write_damage<W: Write>(writer: &mut W, damaged: Option<u64>) -> io::Result<()>
+    // On success the words and the line are appended if there was such a datagram.
+    ensures { OnOk result (Appends (W.contents writer.old) (W.contents writer.new) (damage_text damaged)) }
+{
+    match damaged {
+        Some(line) => write!(writer, " after damage in line {line}"),
+        None => Ok(()),
+    }
+}
+
+/// Writes the line that a RetrReq asks for.
+fn write_asks<W: Write>(writer: &mut W, asks: Option<u64>) -> io::Result<()>
+    // On success the words and the line are appended if it asks for a line.
+    ensures { OnOk result (Appends (W.contents writer.old) (W.contents writer.new) (asks_text asks)) }
+{
+    match asks {
+        Some(line) => write_asked(writer, line),
+        None => Ok(()),
+    }
+}
+
+/// Writes a line that a RetrReq asks for.
+#[tactic(auto, unfolding(crate::specs::RemarkText::asked_text))]
+fn write_asked<W: Write>(writer: &mut W, line: u64) -> io::Result<()>
+    // On success the words and the number of the `line` are appended.
+    ensures { OnOk result (Appends (W.contents writer.old) (W.contents writer.new) (asked_text line)) }
+{
+    write!(writer, " asks for line {line}")
 }
 
 /// Writes an age in milliseconds.

@@ -187,7 +187,7 @@ fn write_maybe_time<W: Write>(writer: &mut W, time: Option<u64>) -> io::Result<(
 }
 
 /// Returns the word for a truth.
-fn name_truth(holds: bool) -> &'static str
+pub(crate) fn name_truth(holds: bool) -> &'static str
     // The words are those of JSON.
     ensures { result.now ≡ truth_json holds }
 {

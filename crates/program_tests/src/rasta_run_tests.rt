@@ -82,6 +82,7 @@ fn plain_following() -> FollowRequest<'static> {
         file: "-",
         ports: None,
         json: false,
+        events: false,
         times: FollowTimes {
             form: TimeForm::Since,
             span: Span {

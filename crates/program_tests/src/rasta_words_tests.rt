@@ -77,6 +77,7 @@ fn accepts_the_words_of_follow(rt: HostRuntime) -> Result<(), Fail> {
         file: "night.tsv",
         ports: None,
         json: false,
+        events: false,
         times: FollowTimes {
             form: TimeForm::Since,
             span: Span {
@@ -106,6 +107,7 @@ fn accepts_the_words_of_follow(rt: HostRuntime) -> Result<(), Fail> {
         "--ports",
         "46101-46102,5000",
         "--json",
+        "--events",
         "--time",
         "utc",
         "--from",
@@ -131,6 +133,7 @@ fn accepts_the_words_of_follow(rt: HostRuntime) -> Result<(), Fail> {
             file: "-",
             ports: read_ports(b"46101-46102,5000"),
             json: true,
+            events: true,
             times: FollowTimes {
                 form: TimeForm::Utc,
                 span: Span {

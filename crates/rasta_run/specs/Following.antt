@@ -2,17 +2,18 @@
 use Rattle.std.specs.Prelude.{ℕ, Bool, true, false, List, Option, Some, None}
 use Rattle.capture_text.specs.declared.course.Asked.{Asked}
 use Rattle.capture_text.specs.declared.course.OutputForm.{OutputForm}
-use Rattle.capture_text.specs.declared.course.OutputForm.TheVariants.{Lines, Json}
+use Rattle.capture_text.specs.declared.course.OutputForm.TheVariants.{Lines, Json, Events}
 use Rattle.capture_text.specs.declared.running.FollowStatus.{FollowStatus}
 use Rattle.capture_text.specs.declared.running.FollowStatus.TheVariants as follow
 use Rattle.rasta_words.specs.declared.status.Status.{Status}
 use Rattle.rasta_words.specs.declared.status.Status.TheVariants.{Done, Refused, Failed}
 use Rattle.rasta_words.specs.declared.command_line.FollowRequest.{FollowRequest}
 
--- the form of the output
-abbrev pub form_of : Bool → OutputForm
-form_of true = Json
-form_of false = Lines
+-- the form of the output: `--events` prints the summary of `--json`, too
+abbrev pub form_of : Bool → Bool → OutputForm
+form_of json true = Events
+form_of true false = Json
+form_of false false = Lines
 
 -- each choice of `follow`, with the words of the initial value
 abbrev pub asked_of : FollowRequest → List ℕ → Asked
@@ -23,7 +24,7 @@ asked_of f words =
       t_max = f.t_max;
       messages = f.messages;
       ports = f.ports;
-      form = form_of f.json;
+      form = form_of f.json f.events;
       time = f.times.form;
       span = f.times.span;
       every = f.times.every;

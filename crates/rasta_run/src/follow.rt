@@ -54,7 +54,7 @@ fn ask_for(following: &FollowRequest<'_>) -> Option<Asked>
         t_max: following.t_max,
         messages: following.messages,
         ports: following.ports,
-        form: form(following.json),
+        form: form(following.json, following.events),
         time: following.times.form,
         span: following.times.span,
         every: following.times.every,
@@ -62,11 +62,13 @@ fn ask_for(following: &FollowRequest<'_>) -> Option<Asked>
 }
 
 /// Returns the form of the output.
-fn form(json: bool) -> OutputForm
-    // `form` returns `Json` if `json` is true, and else `Lines`.
-    ensures { result ≡ form_of json }
+fn form(json: bool, events: bool) -> OutputForm
+    // `form` returns `Events` if `events` is true, else `Json` if `json` is, and else `Lines`.
+    ensures { result ≡ form_of json events }
 {
-    if json {
+    if events {
+        OutputForm::Events
+    } else if json {
         OutputForm::Json
     } else {
         OutputForm::Lines

@@ -14,7 +14,7 @@ use Rattle.safe_pdu.specs.declared.CodeLength.TheVariants.{Zero, Eight, Sixteen}
 use Rattle.rasta_words.specs.Times.{HasTimes}
 use Rattle.rasta_words.specs.declared.command_line.FollowRequest.{FollowRequest}
 
--- `--code N` of follow [--code N] [--every N] [--from INSTANT] [--iv HEX] [--json] [--messages] [--only WORD] [--ports PORTS] [--time FORM] [--t-max MS]
+-- `--code N` of follow [--code N] [--events] [--every N] [--from INSTANT] [--iv HEX] [--json] [--messages] [--only WORD] [--ports PORTS] [--time FORM] [--t-max MS]
 -- [--to INSTANT] FILE
 abbrev pub chosen_code_rule : Rule
 chosen_code_rule = record (new_rule (codes "code")) { long = Some (codes "code") }
@@ -42,6 +42,10 @@ ports_rule = record (new_rule (codes "ports")) { long = Some (codes "ports") }
 -- `--json`, a flag
 abbrev pub json_rule : Rule
 json_rule = record (new_rule (codes "json")) { long = Some (codes "json"); action = Some SetTrue }
+
+-- `--events`, a flag
+abbrev pub events_rule : Rule
+events_rule = record (new_rule (codes "events")) { long = Some (codes "events"); action = Some SetTrue }
 
 -- FILE, which is required
 abbrev pub file_rule : Rule
@@ -75,6 +79,10 @@ ported_app = with_rule telling_app ports_rule
 abbrev pub summing_app : App
 summing_app = with_rule ported_app json_rule
 
+-- with `--events`, too
+abbrev pub eventful_app : App
+eventful_app = with_rule summing_app events_rule
+
 -- `--time since|epoch|utc`
 abbrev pub times_rule : Rule
 times_rule = record (new_rule (codes "time")) { long = Some (codes "time") }
@@ -93,7 +101,7 @@ period_rule = record (new_rule (codes "every")) { long = Some (codes "every") }
 
 -- `follow` with `--time`, too
 abbrev pub clocked_app : App
-clocked_app = with_rule summing_app times_rule
+clocked_app = with_rule eventful_app times_rule
 
 -- with `--from`, too
 abbrev pub beginning_app : App
@@ -164,6 +172,7 @@ HasChoices rows f =
     × (is_flagged (first_of (codes "messages") rows) ≡ f.messages) × IsRemarkChosen (first_of (codes "only") rows) f.only
     × IsAgeChosen (first_of (codes "t-max") rows) f.t_max × (first_of (codes "file") rows ≡ Some f.file.now)
     × ArePortsChosen (first_of (codes "ports") rows) f.ports × (is_flagged (first_of (codes "json") rows) ≡ f.json)
+    × (is_flagged (first_of (codes "events") rows) ≡ f.events)
     × HasTimes rows f.times
 
 -- no choices of `follow` have the values of these entries

@@ -94,6 +94,8 @@ pub struct FollowRequest<'a> {
     pub ports: Option<Ports>,
     /// `--json`: only the summary is printed, as one JSON object.
     pub json: bool,
+    /// `--events`: the events are printed as JSON objects, then the summary as with `--json`.
+    pub events: bool,
     /// Which times are read, and how they are printed.
     pub times: FollowTimes,
 }

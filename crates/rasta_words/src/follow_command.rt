@@ -3,7 +3,7 @@
 ghost use Rattle.std.specs.Prelude.{◌≡◌, IfOk, false};
 ghost use Rattle.clap.specs.declared.Command.TheViews.{out-Command};
 ghost use Rattle.clap.specs.Words.{app_of};
-ghost use Rattle.rasta_words.specs.Choices.{beginning_app, chosen_app, bounded_app, follow_app, length_app, limited_app, only_app, ported_app, periodic_app, summing_app, telling_app, clocked_app};
+ghost use Rattle.rasta_words.specs.Choices.{beginning_app, chosen_app, bounded_app, follow_app, length_app, limited_app, only_app, ported_app, periodic_app, summing_app, telling_app, clocked_app, eventful_app};
 
 use clap::{Arg, ArgAction, Command};
 use std::alloc::{AllocError, Global};
@@ -72,12 +72,12 @@ fn beginning_command<'a>(alloc: Global) -> Result<Command<'a>, AllocError>
 /// Declares `follow` without instants, `--every` and its file.
 #[inline(never)]
 fn clocked_command<'a>(alloc: Global) -> Result<Command<'a>, AllocError>
-    // `clocked_command` declares the subcommand `follow` with the options of `summing_app` and `--time`.
+    // `clocked_command` declares the subcommand `follow` with the options of `eventful_app` and `--time`.
     ensures app { IfOk result (λ command. app_of command ≡ clocked_app) }
     // No argument that `clocked_command` declares is global.
     ensures local { IfOk result (λ command. (out-Command command).has_globals ≡ false) }
 {
-    let command = summing_command(alloc)?;
+    let command = eventful_command(alloc)?;
     let time = Arg::new(alloc, "time").long("time").help(
         "Form of times in lines: since (seconds since the first datagram), epoch (seconds since 1970) or utc [default: since]",
     );
@@ -85,6 +85,24 @@ fn clocked_command<'a>(alloc: Global) -> Result<Command<'a>, AllocError>
 }
 
 /// Declares `follow` without times and its file.
+#[inline(never)]
+fn eventful_command<'a>(alloc: Global) -> Result<Command<'a>, AllocError>
+    // `eventful_command` declares the subcommand `follow` with the options of `summing_app` and the flag `--events`.
+    ensures app { IfOk result (λ command. app_of command ≡ eventful_app) }
+    // No argument that `eventful_command` declares is global.
+    ensures local { IfOk result (λ command. (out-Command command).has_globals ≡ false) }
+{
+    let command = summing_command(alloc)?;
+    let events = Arg::new(alloc, "events")
+        .long("events")
+        .action(ArgAction::SetTrue)
+        .help(
+            "Print events in place of datagrams, each as one line of JSON, then the summary as with --json",
+        );
+    command.arg(events)
+}
+
+/// Declares `follow` without `--events`, times and its file.
 #[inline(never)]
 fn summing_command<'a>(alloc: Global) -> Result<Command<'a>, AllocError>
     // `summing_command` declares the subcommand follow with the options of `ported_app` and the flag `--json`.

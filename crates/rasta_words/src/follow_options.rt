@@ -44,6 +44,7 @@ pub fn choices<'a>(entries: &ArgMatches<'a>) -> Result<FollowRequest<'a>, Reject
         file,
         ports,
         json: is_chosen(entry(entries, "json")),
+        events: is_chosen(entry(entries, "events")),
         times,
     })
 }

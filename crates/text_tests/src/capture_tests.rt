@@ -7,7 +7,7 @@ use capture::{
     sum_up,
 };
 use red_layer::pdu::RedFault;
-use safe_pdu::{CodeLength, CodeRule, Kind};
+use safe_pdu::{CodeLength, CodeRule, Kind, Leaving, SafeFault};
 use std::test::Fail;
 
 const HEARTBEAT: &[u8] =
@@ -181,10 +181,51 @@ fn remarks(
         together,
         sequence,
         resent: false,
+        damaged: None,
+        asks: None,
         age,
         waits: None,
         leaving: None,
     })
+}
+
+// A damaged datagram whose good copy the receiver drops as old, and a RetrReq for a PDU that was recorded.
+#[test]
+fn names_damage_and_what_is_asked_for(rt: HostRuntime) -> Result<(), Fail> {
+    let mut all = Following::new(rt.alloc())?;
+    let _first = all.hear(1, &record(1000, 0, false), &pdu(5, (1, 2), 10, (100, 0)));
+    let _copy = all.hear(2, &record(1010, 1, false), &pdu(5, (1, 2), 10, (100, 0)));
+    let damaged = Heard::NoSafe(6, SafeFault::Code);
+    let _damaged = all.hear(3, &record(2000, 0, false), &damaged);
+    let late = told(all.hear(4, &record(2020, 1, false), &pdu(6, (1, 2), 11, (200, 0))));
+    assert_equal(&rt, late.map(|remarks| remarks.damaged), Some(Some(3)));
+    let again = told(all.hear(5, &record(2030, 0, false), &pdu(6, (1, 2), 11, (200, 0))));
+    assert_equal(&rt, again.map(|remarks| remarks.damaged), Some(None));
+    let next = told(all.hear(6, &record(2040, 1, false), &pdu(7, (1, 2), 12, (210, 0))));
+    assert_equal(&rt, next.map(|remarks| remarks.damaged), Some(None));
+    let request = Header {
+        kind: Kind::RetrReq,
+        receiver: 1,
+        sender: 2,
+        sn: 900,
+        cs: 10,
+        ts: 50,
+        cts: 100,
+        fingerprint: 1,
+        leaving: None,
+    };
+    let asks = told(all.hear(7, &record(2100, 0, true), &Heard::Pdu(0, request)));
+    assert_equal(&rt, asks.map(|remarks| remarks.asks), Some(Some(4)));
+    let copy = told(all.hear(8, &record(2110, 1, true), &Heard::Pdu(0, request)));
+    assert_equal(&rt, copy.map(|remarks| remarks.asks), Some(None));
+    let request = Header {
+        sn: 901,
+        cs: 12,
+        ..request
+    };
+    let asks = told(all.hear(9, &record(2200, 0, true), &Heard::Pdu(1, request)));
+    assert_equal(&rt, asks.map(|remarks| remarks.asks), Some(None));
+    Ok(())
 }
 
 // Two channels: a copy, a gap that is closed late on the other channel, an answer with its age, and a repeat.
@@ -271,6 +312,40 @@ fn forgets_the_one_silent_longest(rt: HostRuntime) -> Result<(), Fail> {
     assert_true(&rt, ends.iter().all(|entry| entry.connection.low != 1));
     assert_equal(&rt, all.forgotten, 1);
     assert_equal(&rt, (all.gone.heard, sum_up(all.gone, ends).heard), (1, 65));
+    Ok(())
+}
+
+// A connection that an end has left gives way first, even if it was heard last.
+#[test]
+fn forgets_the_one_that_was_left(rt: HostRuntime) -> Result<(), Fail> {
+    let mut all = Following::new(rt.alloc())?;
+    for end in 1..65u32 {
+        let _remark = all.hear(
+            end as u64,
+            &record(end as u64, 0, false),
+            &pdu(0, (end, 100), 1, (1, 0)),
+        );
+    }
+    let leaves = Header {
+        kind: Kind::DiscReq,
+        receiver: 100,
+        sender: 30,
+        sn: 2,
+        cs: 0,
+        ts: 2,
+        cts: 0,
+        fingerprint: 2,
+        leaving: Some(Leaving {
+            detail: 0,
+            reason: 0,
+        }),
+    };
+    let _left = all.hear(65, &record(65, 0, false), &Heard::Pdu(1, leaves));
+    let _further = all.hear(66, &record(66, 0, false), &pdu(0, (65, 100), 1, (1, 0)));
+    let ends = all.connections.as_slice();
+    assert_equal(&rt, ends.len(), 64);
+    assert_true(&rt, ends.iter().all(|entry| entry.connection.low != 30));
+    assert_equal(&rt, (all.forgotten, all.gone.heard), (1, 2));
     Ok(())
 }
 
@@ -372,6 +447,8 @@ fn opens_again(rt: HostRuntime) -> Result<(), Fail> {
         together: Judged::First,
         sequence: Some(Judged::First),
         resent: false,
+        damaged: None,
+        asks: None,
         age: None,
         waits: Some(0),
         leaving: None,

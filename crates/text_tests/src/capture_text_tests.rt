@@ -149,6 +149,71 @@ fn asked(length: CodeLength, only: Option<Remarkable>) -> Asked {
     }
 }
 
+// The events of an opening, a loss on one channel, a long wait, a copy, a leaving, and a datagram that is cut off.
+#[test]
+fn tells_events(rt: HostRuntime) -> Result<(), Fail> {
+    let opens = plain(
+        Kind::ConnReq,
+        0,
+        (100, 0),
+        (1000, 0),
+        "3033303320000000000000000000",
+    );
+    let granted = plain(
+        Kind::ConnResp,
+        0,
+        (500, 100),
+        (7000, 1000),
+        "3033303320000000000000000000",
+    );
+    let late = heartbeat(2, (102, 500), (2200, 7000));
+    let leaves = plain(Kind::DiscReq, 3, (103, 500), (2800, 7000), "00000300");
+    let mut text = Vec::new(rt.alloc());
+    put(&mut text, 0, 0, false, opens)?;
+    put(&mut text, 50, 1, false, opens)?;
+    put(&mut text, 10_000, 0, true, granted)?;
+    put(&mut text, 1_200_000, 1, false, late)?;
+    put(&mut text, 1_800_000, 0, false, leaves)?;
+    put(&mut text, 1_800_040, 1, false, leaves)?;
+    put_front(&mut text, 1_900_000, 0, true)?;
+    text.extend_from_slice(b"00\n")?;
+    let choice = Asked {
+        form: OutputForm::Events,
+        only: Some(Remarkable::Fault),
+        ..asked(CodeLength::Zero, None)
+    };
+    let mut out = Vec::new(rt.alloc());
+    let mut err = Vec::new(rt.alloc());
+    let ended = run(rt.alloc(), text.as_slice(), &choice, &mut out, &mut err);
+    assert_equal(&rt, ended, FollowStatus::Done);
+    let wanted = "\
+{\"event\":\"damaged\",\"time\":1.900000,\"line\":7,\"source\":\"10.0.0.2:8002\",\"destination\":\"10.0.0.1:8001\",\
+\"layer\":\"red\",\"fault\":1,\"name\":\"Short\"}
+{\"first\":1700000000000000,\"t_max\":1800,";
+    assert_true(&rt, out.as_slice().starts_with(wanted.as_bytes()));
+    let choice = Asked {
+        only: None,
+        ..choice
+    };
+    let mut out = Vec::new(rt.alloc());
+    let _ended = run(rt.alloc(), text.as_slice(), &choice, &mut out, &mut err);
+    let wanted = "\
+{\"event\":\"opens\",\"time\":0.000000,\"line\":1,\"from\":1,\"to\":2,\"channel\":1}
+{\"event\":\"up\",\"time\":0.010000,\"line\":3,\"from\":2,\"to\":1,\"channel\":1}
+{\"event\":\"lost\",\"time\":1.200000,\"line\":4,\"from\":1,\"to\":2,\"channel\":2,\"on_every_channel\":false,\"missing\":1}
+{\"event\":\"lost\",\"time\":1.200000,\"line\":4,\"from\":1,\"to\":2,\"channel\":2,\"on_every_channel\":true,\"missing\":1}
+{\"event\":\"waits\",\"time\":1.200000,\"line\":4,\"from\":1,\"to\":2,\"channel\":2,\"waits\":1200}
+{\"event\":\"lost\",\"time\":1.800000,\"line\":5,\"from\":1,\"to\":2,\"channel\":1,\"on_every_channel\":false,\"missing\":2}
+{\"event\":\"waits\",\"time\":1.800000,\"line\":5,\"from\":1,\"to\":2,\"channel\":1,\"waits\":1800}
+{\"event\":\"left\",\"time\":1.800000,\"line\":5,\"from\":1,\"to\":2,\"channel\":1,\"reason\":3,\"detail\":0}
+{\"event\":\"damaged\",\"time\":1.900000,\"line\":7,\"source\":\"10.0.0.2:8002\",\"destination\":\"10.0.0.1:8001\",\
+\"layer\":\"red\",\"fault\":1,\"name\":\"Short\"}
+{\"first\":1700000000000000,\"t_max\":1800,";
+    assert_true(&rt, out.as_slice().starts_with(wanted.as_bytes()));
+    assert_true(&rt, err.as_slice().is_empty());
+    Ok(())
+}
+
 // Two channels, of which the second loses a heartbeat.
 #[test]
 fn loses_on_one_channel(rt: HostRuntime) -> Result<(), Fail> {
@@ -343,6 +408,8 @@ fn writes_remarks(rt: HostRuntime) -> Result<(), Fail> {
         together: Judged::Next,
         sequence: Some(Judged::Next),
         resent: false,
+        damaged: None,
+        asks: None,
         age: None,
         waits: Some(899),
         leaving: None,
@@ -356,6 +423,8 @@ fn writes_remarks(rt: HostRuntime) -> Result<(), Fail> {
         together: Judged::Late,
         sequence: Some(Judged::Ahead(2)),
         resent: true,
+        damaged: Some(10),
+        asks: Some(8),
         age: Some(45),
         waits: Some(900),
         leaving: Some(Leaving {
@@ -365,8 +434,8 @@ fn writes_remarks(rt: HostRuntime) -> Result<(), Fail> {
     };
     write_remarks(&mut text, 1800, &loud)?;
     let wanted =
-        " opens channel repeat of line 12 all late sn ahead 2 resent age 45 ms waits 900 ms \
-reason 4 service not allowed detail 3 not of this pair";
+        " opens channel repeat of line 12 all late sn ahead 2 resent after damage in line 10 \
+asks for line 8 age 45 ms waits 900 ms reason 4 service not allowed detail 3 not of this pair";
     assert_true(&rt, text.as_slice() == wanted.as_bytes());
     Ok(())
 }
