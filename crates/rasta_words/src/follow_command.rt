@@ -87,7 +87,7 @@ fn clocked_command<'a>(alloc: Global) -> Result<Command<'a>, AllocError>
 /// Declares `follow` without times and its file.
 #[inline(never)]
 fn eventful_command<'a>(alloc: Global) -> Result<Command<'a>, AllocError>
-    // `eventful_command` declares the subcommand `follow` with the options of `summing_app` and the flag `--events`.
+    // `eventful_command` declares the subcommand follow with the options of `summing_app` and the flag `--events`.
     ensures app { IfOk result (λ command. app_of command ≡ eventful_app) }
     // No argument that `eventful_command` declares is global.
     ensures local { IfOk result (λ command. (out-Command command).has_globals ≡ false) }
