@@ -326,11 +326,11 @@ impl Running<'_> {
         requires later { (self.old.first.end.time ≤ now) × IfSome self.old.second (λ a. a.end.time ≤ now) }
         // If no state is expected, each end was in it when `finish` succeeds.
         ensures expected { run.now.expected ≡ None → IfOk result (λ outcome. outcome.is_met ≡ true) }
-        // If `finish` succeeds, its outcome says whether every end was in the expected state at its beginning.
+        // If `finish` succeeds, its outcome says whether every end was in the expected state before.
         ensures met { IfOk result (λ outcome. outcome.is_met ≡ (acting.stands run.now.expected lines self.old.first
             && acting.second_stands run.now.expected self.old.second)) }
-        // If `finish` succeeds, its outcome says whether each end left nothing undone at its beginning, if the run lasted
-        // until its input ended.
+        // If `finish` succeeds, its outcome says whether each end had left nothing undone, if the run lasted until its input
+        // ended.
         ensures finished { IfOk result (λ outcome. outcome.is_finished
             ≡ acting.is_finished run.now.length lines self.old.first self.old.second) }
         // If `finish` succeeds, its outcome says whether no line of standard output was left out, and none waits.
