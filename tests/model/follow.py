@@ -14,7 +14,7 @@ sys.dont_write_bytecode = True
 from settings import Settings  # noqa: E402
 from texts import OPENINGS, red_seen, safe_seen  # noqa: E402
 
-KEPT, PASSED_MAX, CHANNELS, CONNECTIONS, WRAP = 32, 65535, 4, 64, 2 ** 32
+KEPT, PASSED_MAX, CHANNELS, CONNECTIONS, WRAP = 32, 65535, 4, 256, 2 ** 32
 DAMAGES = 8  # damaged datagrams of an end that are kept
 SESSIONS, TIMEOUT = 64, 3  # sessions that have ended and are printed
 LINE_MAX, PAYLOAD_MAX = 8192, 2048

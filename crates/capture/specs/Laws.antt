@@ -18,11 +18,11 @@ use Rattle.capture.specs.Numbers.{counted, judged, noted, open_window}
 use Rattle.capture.specs.Whole.{connections_after, damaged_after, gone_after, no_totals, totals_of}
 
 -- The limits, as numbers. Numbers are kept by their remainder modulo 32, a power of two, since the ring of 2^32 wraps within it; so 31 before the newest may
--- come late. A gap of more than 16 bits starts again. Two channels are RaSTA's own, four leave room. 64 connections take 1.9 MB. A payload is kept up to
+-- come late. A gap of more than 16 bits starts again. Two channels are RaSTA's own, four leave room. 256 connections take 7.6 MB. A payload is kept up to
 -- the power of two above the longest redundancy PDU, of 1,258 bytes. The latest second is the last of twelve digits.
 abbrev pub LimitsAre : Type 0
 LimitsAre =
-    (KEPT ≡ 32) × (LATE_MAX ≡ 31) × (PASSED_MAX ≡ 65535) × (CHANNELS ≡ 4) × (RANGES ≡ 4) × (CONNECTIONS ≡ 64) × (PAYLOAD_ROOM ≡ 2048)
+    (KEPT ≡ 32) × (LATE_MAX ≡ 31) × (PASSED_MAX ≡ 65535) × (CHANNELS ≡ 4) × (RANGES ≡ 4) × (CONNECTIONS ≡ 256) × (PAYLOAD_ROOM ≡ 2048)
     × (SECONDS_MAX ≡ 999999999999)
 
 -- How many new numbers a number reaches: the skipped ones and itself.

@@ -18,7 +18,7 @@ use std::alloc::{AllocError, Global};
 use std::marker::Model;
 
 /// How many connections are kept, each in some 29 KiB.
-pub const CONNECTIONS: usize = 64;
+pub const CONNECTIONS: usize = 256;
 
 /// The two addresses of a channel, as in the first PDU on it.
 #[derive(Clone, Copy, Debug, PartialEq, Eq)]

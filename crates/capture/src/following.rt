@@ -1,6 +1,6 @@
 //! A whole capture: its connections, the datagrams that are not PDUs, and the sums over all.
 //!
-//! 64 connections are kept; for a further one, one is forgotten, of those that an end has left first. A number further
+//! 256 connections are kept; for a further one, one is forgotten, of those that an end has left first. A number further
 //! back than the window is stale and changes only its count, so a copy on a slow channel is not a restart.
 
 ghost use Rattle.std.specs.Prelude.{◌≡◌, [], IfOk, fold};

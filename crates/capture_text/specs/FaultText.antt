@@ -78,7 +78,7 @@ foreign_word ModifiedPcap = codes "it is a modified pcap file; use editcap -F pc
 unfoldable pub forgotten_text : ℕ → List ℕ
 forgotten_text forgotten =
     joined
-    (codes "connections: " ∷ decimal forgotten ∷ codes " were forgotten, since more than 64 were recorded at once; choose some by --ports\n" ∷ [])
+    (codes "connections: " ∷ decimal forgotten ∷ codes " were forgotten, since more than 256 were recorded at once; choose some by --ports\n" ∷ [])
 
 -- The line about forgotten connections, if there are any.
 abbrev pub forgotten_told : ℕ → List ℕ

@@ -246,7 +246,7 @@ fn tell_forgotten<E: Write>(course: &Course, err: &mut E) -> Result<(), Stop>
     }
     match writeln!(
         err,
-        "connections: {forgotten} were forgotten, since more than 64 were recorded at once; choose some by --ports"
+        "connections: {forgotten} were forgotten, since more than 256 were recorded at once; choose some by --ports"
     ) {
         Ok(()) => Ok(()),
         Err(_) => Err(Stop::Output),

@@ -300,7 +300,7 @@ fn follows_two_channels(rt: HostRuntime) -> Result<(), Fail> {
 #[test]
 fn forgets_the_one_silent_longest(rt: HostRuntime) -> Result<(), Fail> {
     let mut all = Following::new(rt.alloc())?;
-    for end in 1..66u32 {
+    for end in 1..258u32 {
         let _remark = all.hear(
             end as u64,
             &record(end as u64, 0, false),
@@ -308,10 +308,14 @@ fn forgets_the_one_silent_longest(rt: HostRuntime) -> Result<(), Fail> {
         );
     }
     let ends = all.connections.as_slice();
-    assert_equal(&rt, ends.len(), 64);
+    assert_equal(&rt, ends.len(), 256);
     assert_true(&rt, ends.iter().all(|entry| entry.connection.low != 1));
     assert_equal(&rt, all.forgotten, 1);
-    assert_equal(&rt, (all.gone.heard, sum_up(all.gone, ends).heard), (1, 65));
+    assert_equal(
+        &rt,
+        (all.gone.heard, sum_up(all.gone, ends).heard),
+        (1, 257),
+    );
     Ok(())
 }
 
@@ -319,7 +323,7 @@ fn forgets_the_one_silent_longest(rt: HostRuntime) -> Result<(), Fail> {
 #[test]
 fn forgets_the_one_that_was_left(rt: HostRuntime) -> Result<(), Fail> {
     let mut all = Following::new(rt.alloc())?;
-    for end in 1..65u32 {
+    for end in 1..257u32 {
         let _remark = all.hear(
             end as u64,
             &record(end as u64, 0, false),
@@ -340,10 +344,10 @@ fn forgets_the_one_that_was_left(rt: HostRuntime) -> Result<(), Fail> {
             reason: 0,
         }),
     };
-    let _left = all.hear(65, &record(65, 0, false), &Heard::Pdu(1, leaves));
-    let _further = all.hear(66, &record(66, 0, false), &pdu(0, (65, 100), 1, (1, 0)));
+    let _left = all.hear(257, &record(257, 0, false), &Heard::Pdu(1, leaves));
+    let _further = all.hear(258, &record(258, 0, false), &pdu(0, (257, 100), 1, (1, 0)));
     let ends = all.connections.as_slice();
-    assert_equal(&rt, ends.len(), 64);
+    assert_equal(&rt, ends.len(), 256);
     assert_true(&rt, ends.iter().all(|entry| entry.connection.low != 30));
     assert_equal(&rt, (all.forgotten, all.gone.heard), (1, 2));
     Ok(())
