@@ -370,7 +370,7 @@ fn next_due(every: Option<u32>, due: Option<u64>, first: Option<u64>, time: u64)
     due
 }
 
-/// Returns the next time after whole periods of so many seconds since the first datagram.
+/// Returns the next time after whole periods of `seconds` since the first datagram.
 fn after_periods(seconds: u32, first: u64, time: u64) -> u64
     // The result is after the `time`, limited to 2^64 - 1 (`next_period`).
     ensures { result ≡ next_period seconds first time }

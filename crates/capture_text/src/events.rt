@@ -22,7 +22,7 @@ pub(crate) enum Event {
     Opens,
     /// A ConnResp brings a session up.
     Up,
-    /// So many numbers before it are missing.
+    /// Numbers before it are missing.
     Lost {
         /// How many numbers.
         missing: u32,
@@ -36,7 +36,7 @@ pub(crate) enum Event {
     },
     /// It carries a unit that was sent before.
     Resent,
-    /// Its end has waited for a confirmation for so many milliseconds.
+    /// Its end has waited long for a confirmation.
     Waits {
         /// The wait in milliseconds.
         waits: u32,
