@@ -36,7 +36,7 @@ pub struct Streams<O, E, G = Readiness> {
     patience: Milliseconds,
 }
 
-impl<O: Write + Drop, E: Write + Drop> Streams<O, E> {
+impl<O: Write + Drop, E: Write + Drop> Streams<O, E, Readiness> {
     /// Opens the streams of a run.
     ///
     /// # Errors
