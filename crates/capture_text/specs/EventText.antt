@@ -28,23 +28,23 @@ use Rattle.capture_text.specs.declared.pieces.TimeForm.{TimeForm}
 use Rattle.capture_text.specs.declared.pieces.TimeForm.TheVariants as form
 use Rattle.capture_text.specs.declared.summary.Scale.{Scale}
 
--- What an opening tells: a ConnReq asks for a session, and a ConnResp brings one up.
+-- The event of an opening: a ConnReq asks for a session, and a ConnResp brings one up.
 abbrev pub opening_event : Bool → Kind → Option Event
 opening_event true kind = Some (if is_request kind then Opens else Up)
 opening_event false kind = None
 
--- What a number tells: those before it are missing, on every channel or on its own one, or it was missing itself.
+-- The event of a number: numbers before it are missing, on every channel or on its own one, or it was missing itself.
 abbrev pub number_event : Bool → Judged → Option Event
 number_event everywhere (judged.Ahead passed) = Some (Lost passed everywhere)
 number_event everywhere judged.Late = Some (Late everywhere)
 number_event everywhere _ = None
 
--- What a number tells on its own channel, if it was judged there.
+-- The event of a number on its own channel, if it was judged there.
 abbrev pub channel_event : Option Judged → Option Event
 channel_event None = None
 channel_event (Some judged) = number_event false judged
 
--- A unit is sent again; a copy tells nothing.
+-- A unit is sent again; a copy is no event.
 abbrev pub resent_event : Remarks → Option Event
 resent_event m = if is_new m.together && m.resent then Some Resent else None
 
@@ -58,7 +58,7 @@ abbrev pub left_by : Option Leaving → Option Event
 left_by None = None
 left_by (Some leaving) = Some (Left leaving)
 
--- An end leaves; a copy of its DiscReq tells nothing.
+-- An end leaves; a copy of its DiscReq is no event.
 abbrev pub left_event : Remarks → Option Event
 left_event m = if is_new m.together then left_by m.leaving else None
 
@@ -149,13 +149,13 @@ abbrev pub spot_of : Clock → ℕ → Record → Header → Remarks → Spot
 spot_of clock line r h m =
     record { clock = clock; time = r.time; line = line; sender = h.sender; receiver = h.receiver; route = m.route }
 
--- What a PDU tells of the order of PDUs: its opening, then its number on its channel and on all.
+-- The lines about the order of PDUs: the opening, then the number on its channel and on all.
 unfoldable pub order_lines : Spot → Kind → Remarks → List ℕ
 order_lines s kind m =
     joined
     (maybe_line s (opening_event m.opens kind) ∷ maybe_line s (channel_event m.channel) ∷ maybe_line s (number_event true m.together) ∷ [])
 
--- What a PDU tells else: a unit that is sent again, a long wait, a leaving.
+-- The other lines of a PDU: a unit that is sent again, a long wait, a leaving.
 unfoldable pub other_lines : Spot → ℕ → Remarks → List ℕ
 other_lines s t_max m =
     joined (maybe_line s (resent_event m) ∷ maybe_line s (wait_event t_max m.waits) ∷ maybe_line s (left_event m) ∷ [])

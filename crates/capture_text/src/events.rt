@@ -15,7 +15,7 @@ use safe_pdu::{Kind, Leaving, SafeFault};
 use std::io;
 use std::io::Write;
 
-/// Something that a PDU tells.
+/// An event that a PDU shows.
 #[derive(Clone, Copy, Debug, PartialEq, Eq)]
 pub(crate) enum Event {
     /// A ConnReq asks for a session.
@@ -190,7 +190,7 @@ fn miss_on_channel(channel: Option<Judged>) -> Option<Event>
 
 /// Returns the event of a number on every channel or on its own one.
 fn miss(everywhere: bool, judged: Judged) -> Option<Event>
-    // A gap tells how many numbers are missing, and a late number that it was missing; any other number is no event.
+    // A gap is the event of its missing numbers, a late number is one of its own, and any other number is no event.
     ensures { result ≡ number_event everywhere judged }
 {
     match judged {
