@@ -174,6 +174,11 @@ class Direction:
                          'DiscReq ' + self.left if self.left else 'no DiscReq'))
 
 
+def is_near(newest, number):
+    """Whether a number is at most a gap ahead of the newest one, or at most 31 behind it."""
+    return newest is not None and ((number - newest) % WRAP <= PASSED_MAX + 1 or (newest - number) % WRAP < KEPT)
+
+
 def after(first, stamp):
     """Returns how far a timestamp is after another, or None if it is before it or one is unknown."""
     steps = None if first is None or stamp is None else (stamp - first) % WRAP
@@ -263,7 +268,7 @@ def losses(everywhere, alone):
 
 
 class Connection:
-    """Two ends, by their identifiers, the lower one first, and the channels between them."""
+    """Two ends, by their identifiers, the lower one first, and the channels between their addresses."""
 
     def __init__(self, ends):
         self.ends, self.routes, self.directions, self.last, self.sessions = ends, [], (Direction(), Direction()), 0, []
@@ -280,6 +285,13 @@ class Connection:
             self.routes.append((source, destination) if is_from_low else (destination, source))
             return len(self.routes) - 1
         return CHANNELS
+
+    def is_continued(self, p):
+        """Whether a PDU goes on with what its end and the other end sent: an opening by its SN and TS, another PDU by numbers that are near."""
+        own, other = self.directions[::1 if p.sender == self.ends[0] else -1]
+        if p.kind in OPENINGS:
+            return own.opening is not None and own.opening[1:] == (p.sn, p.ts) or other.opening is not None and other.opening[1:] == (p.cs, p.cts)
+        return is_near(own.sequence.newest, p.sn) or is_near(other.sequence.newest, p.cs)
 
     def damages(self, source, place, number, line):
         """Counts a datagram that is not a PDU for the end whose address sent it, and keeps its redundancy number if it has one."""
@@ -356,7 +368,7 @@ class Follower:
 
     def __init__(self, rule):
         self.rule, self.connections, self.damaged, self.forgotten, self.unreadable = rule, [], 0, 0, 0
-        self.miscoded = 0  # datagrams with a wrong safety code
+        self.miscoded = 0  # datagrams with another safety code or too short for one; None once one has the right code
         self.frames, self.others = 0, [0, 0]  # lines, and how many of them have no chosen port, and another time than is asked for
         self.datagrams, self.gone = 0, [0] * 6
         self.events = []  # of the last datagram: the name and the members of each event
@@ -368,11 +380,12 @@ class Follower:
         number, p = (None, None) if isinstance(seen, str) else (seen[0], safe_seen(seen[1], self.rule))
         if p is None or isinstance(p, str):
             self.damages(source, destination, number, line)
-            self.miscoded += p == 'Code'
+            self.miscoded = self.coded(p)
             layer, name = ('red', seen) if p is None else ('safe', p)
             self.events = [('damaged', {'source': source, 'destination': destination, 'layer': layer, 'fault': FAULTS[layer].index(name) + 1, 'name': name})]
             return way if p is None else '%s red %d' % (way, number), [fault('red', seen) if p is None else fault('safe', p)]
-        connection = self.connection(sorted((p.sender, p.receiver)))
+        self.miscoded = None
+        connection = self.connection(p, source, destination)
         connection.last = time
         is_from_low = p.sender == connection.ends[0]
         channel = connection.channel(source, destination, is_from_low)
@@ -383,6 +396,12 @@ class Follower:
         self.events = [(name, {**place, **more}) for name, more in events(p, words, is_new)]
         return '%d->%d ch %s red %d %s sn %d cs %d ts %d cts %d' % (
             p.sender, p.receiver, channel + 1 if channel < CHANNELS else 'other', number, p.kind, p.sn, p.cs, p.ts, p.cts), words
+
+    def coded(self, fault):
+        """Returns how many datagrams have another safety code, after one with this fault."""
+        if self.miscoded is None or fault in (None, 'Length'):
+            return self.miscoded
+        return self.miscoded + 1 if fault in ('Code', 'Short') else None
 
     def damages(self, source, destination, number, line):
         """Handles a datagram that is not a PDU, on the channel of the latest connection that has it."""
@@ -396,8 +415,11 @@ class Follower:
         """Returns the place of the connection that is forgotten: the first that an end has left, or else the first."""
         return next((place for place, connection in enumerate(self.connections) if any(side.left for side in connection.sessions[-1].sides)), 0)
 
-    def connection(self, ends):
-        known = [connection for connection in self.connections if connection.ends == ends]
+    def connection(self, p, source, destination):
+        """Returns the connection of a PDU, now the last: between these addresses, or else the last one that it goes on with, or else a new one."""
+        ends = sorted((p.sender, p.receiver))
+        same = [connection for connection in self.connections if connection.ends == ends]
+        known = ([one for one in same if one.known(source, destination) is not None] or [one for one in same if one.is_continued(p)])[-1:]
         if not known and len(self.connections) == CONNECTIONS:
             self.forgotten += 1
             self.gone = [sum(pair) for pair in zip(self.gone, self.connections.pop(self.closed()).counts())]
@@ -618,8 +640,8 @@ def followed(raws, code=8, only=None, t_max=1800, ports=None, as_json=False, tim
     out += sums()
     if follower.forgotten:
         err.append('connections: %d were forgotten, since more than %d were recorded at once; choose some by --ports\n' % (follower.forgotten, CONNECTIONS))
-    if follower.miscoded and follower.miscoded == follower.datagrams:
-        err.append('datagrams: all %d have another safety code; choose it by --code or --iv\n' % follower.miscoded)
+    if follower.miscoded:
+        err.append('datagrams: all %d of RaSTA have another safety code; choose it by --code or --iv\n' % follower.miscoded)
     return ''.join(out), ''.join(err), 1 if err else 0
 
 

@@ -19,7 +19,7 @@ use Rattle.capture.specs.declared.line.Record.{Record}
 use Rattle.capture.specs.declared.window.Window.{Window}
 use Rattle.capture.specs.Numbers.{judged}
 use Rattle.capture.specs.Following.{followed, is_opened, opened_as, opened_with, opening_of, peer_of}
-use Rattle.capture.specs.Connecting.{behind_of, connection_after, connection_damaged, damage_at, damage_noted, damaged_by, damaged_on, ends_of, forgotten_place, found, heard_in, is_closed, is_from_low, is_source_low, known_place_of, left, left_at, opened, place_in, place_of, place_or_first, step, taken, taken_at, way_followed}
+use Rattle.capture.specs.Connecting.{behind_found, behind_of, connection_after, connection_damaged, damage_at, damage_noted, damaged_by, damaged_on, ends_of, first_some, forgotten_place, found, heard_in, is_closed, is_from_low, is_source_low, known_place_of, left, left_at, opened, place_before, place_in, place_or_first, step, taken, taken_at, way_followed}
 use Rattle.capture.specs.Whole.{counted_in, gone_with, totals_of, window_counted}
 use Rattle.capture.specs.Laws.{Came, Kept, SumsAddUp, datagrams_in, datagrams_of, kept_after, kept_along, none_came}
 use Rattle.capture.proofs.Sums.{one_noted}
@@ -116,21 +116,38 @@ taken_left None new cs gone within empty room =
     let kept = none_left (length cs == CONNECTIONS) cs gone (full cs) room in
     first_none (length cs == CONNECTIONS) new cs gone empty kept
 
-places : (cs : List Connection) (low high p : ℕ) → place_of low high cs ≡ Some p → p < length cs
-places cs low high p h = (position-Some _ cs p (opened 0 0) h).0
+first_within : (one other : Option ℕ) (n p : ℕ) → ((q : ℕ) → one ≡ Some q → q < n) → ((q : ℕ) → other ≡ Some q → q < n)
+    → first_some one other ≡ Some p → p < n
+first_within (Some q) other n p one-within other-within h = one-within p h
+first_within None other n p one-within other-within h = other-within p h
+
+before_within : (o : Option ℕ) (n p : ℕ) → ((q : ℕ) → o ≡ Some q → q < n) → place_before o n ≡ Some p → p < n
+before_within (Some q) n p within h = let some = within q refl in grind (arith, some, h)
+before_within None n p within h = grind (arith, h)
+
+behind_within : (f : Connection → Bool) (cs : List Connection) (p : ℕ) → position f (reverse cs) ≡ Some p → p < length cs
+behind_within f cs p h =
+    let within = (position-Some f (reverse cs) p (opened 0 0) h).0 in
+    let long = length-reverse cs in
+    omega (arith, within, long)
+
+places : (h : Header) (r : Record) (cs : List Connection) (p : ℕ) → found h r cs ≡ Some p → p < length cs
+places h r cs p e =
+    before_within (behind_found h r cs) (length cs) p
+    (λ q. first_within _ _ (length cs) q (behind_within _ cs) (behind_within _ cs)) e
 
 one_stepped : (cs : List Connection) (line : ℕ) (r : Record) (seq : ℕ) (h : Header) (gone : Totals)
     → datagrams_of gone + weights cs < 2 ^ 64 - 1
-    → datagrams_of (gone_with gone cs h) + weights (step cs line r seq h) ≡ datagrams_of gone + weights cs + 1
+    → datagrams_of (gone_with gone cs r h) + weights (step cs line r seq h) ≡ datagrams_of gone + weights cs + 1
 one_stepped cs line r seq h gone room =
     let low = (ends_of h.sender h.receiver).0 in
     let high = (ends_of h.sender h.receiver).1 in
     let same =
-    taken_left (found h.sender h.receiver cs) (opened low high) cs gone (places cs low high) refl (omega arith)
+    taken_left (found h r cs) (opened low high) cs gone (places h r cs) refl (omega arith)
     in
-    let c = taken h.sender h.receiver cs in
+    let c = taken h r cs in
     let one = one_more c line r seq h (omega (arith, same)) in
-    let push = sum_by_push weight (left h.sender h.receiver cs) (connection_after c line r seq h) in
+    let push = sum_by_push weight (left h r cs) (connection_after c line r seq h) in
     omega (arith, same, one, push)
 
 -- A datagram that is not a PDU changes no connection's numbers.
@@ -153,14 +170,8 @@ at_same (Some p) cs r damage within =
     let set = sum_by-set weight cs i (connection_damaged c r damage) (opened 0 0) (omega (arith, some)) in
     omega (arith, same, set)
 
-behind_within : (cs : List Connection) (r : Record) (p : ℕ) → behind_of cs r ≡ Some p → p < length cs
-behind_within cs r p h =
-    let within = (position-Some _ (reverse cs) p (opened 0 0) h).0 in
-    let long = length-reverse cs in
-    omega (arith, within, long)
-
 noted_same : (cs : List Connection) (r : Record) (damage : Option Damage) → weights (damage_noted cs r damage) ≡ weights cs
-noted_same cs r damage = at_same (behind_of cs r) cs r damage (behind_within cs r)
+noted_same cs r damage = at_same (behind_of cs r) cs r damage (behind_within _ cs)
 
 -- The sums over all connections.
 pub totals_sum : (cs : List Connection) (gone : Totals) → datagrams_of gone + weights cs < 2 ^ 64

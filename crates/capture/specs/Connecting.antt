@@ -15,6 +15,7 @@ use Rattle.capture.specs.declared.direction.Remarks.{Remarks}
 use Rattle.capture.specs.declared.connections.TheConstants.{CONNECTIONS}
 use Rattle.capture.specs.declared.connections.Route.{Route}
 use Rattle.capture.specs.declared.connections.Connection.{Connection}
+use Rattle.capture.specs.Belonging.{goes_on}
 use Rattle.capture.specs.Numbers.{counted}
 use Rattle.capture.specs.Following.{damages_after, followed, open_direction, peer_of, remarks_of}
 use Rattle.capture.specs.Sessions.{open_sessions, sessions_after}
@@ -36,9 +37,67 @@ opened low high =
 abbrev pub ends_of : ℕ → ℕ → ℕ × ℕ
 ends_of sender receiver = if nat_le sender receiver then (sender, receiver) else (receiver, sender)
 
--- The place of the connection with these identifiers.
-abbrev pub place_of : ℕ → ℕ → List Connection → Option ℕ
-place_of low high cs = position (λ (c : Connection). (c.low == low) && (c.high == high)) cs
+-- Both hosts are IPv4 or both IPv6, with the same bytes.
+abbrev pub is_same_host : Host → Host → Bool
+is_same_host (V4 a) (V4 b) = bytes_eq a b
+is_same_host (V6 a) (V6 b) = bytes_eq a b
+is_same_host _ _ = false
+
+-- Both addresses have the same host and port.
+abbrev pub is_same_address : Address → Address → Bool
+is_same_address a b = (a.port == b.port) && is_same_host a.host b.host
+
+-- The channel is between these addresses, in either direction.
+abbrev pub is_between : Route → Record → Bool
+is_between route r =
+    (is_same_address route.low r.source && is_same_address route.high r.destination)
+    || (is_same_address route.low r.destination && is_same_address route.high r.source)
+
+-- The place has the channel between these addresses.
+abbrev pub is_known : Option Route → Record → Bool
+is_known None r = false
+is_known (Some route) r = is_between route r
+
+-- The first place that has the channel.
+abbrev pub known_place_of : List (Option Route) → Record → Option ℕ
+known_place_of routes r = position (λ route. is_known route r) routes
+
+-- The connection has the channel between these addresses.
+abbrev pub has_channel : Connection → Record → Bool
+has_channel c r = is_some (known_place_of c.routes r)
+
+-- The end with the lower identifier made the PDU.
+abbrev pub is_from_low : Connection → Header → Bool
+is_from_low c h = h.sender == c.low
+
+-- The connection is between the two ends of the PDU.
+abbrev pub has_ends : Connection → Header → Bool
+has_ends c h = (c.low == (ends_of h.sender h.receiver).0) && (c.high == (ends_of h.sender h.receiver).1)
+
+-- The PDU goes on with the connection: with what its end and the other end have sent.
+abbrev pub is_continued : Connection → Header → Bool
+is_continued c h = if is_from_low c h then goes_on c.from_low c.from_high h else goes_on c.from_high c.from_low h
+
+-- The first of two, if there is one, or else the second.
+abbrev pub first_some : Option ℕ → Option ℕ → Option ℕ
+first_some (Some one) other = Some one
+first_some None other = other
+
+-- How many connections come after the one of a PDU. That is the last one between its ends that has its channel, or else the last one between its ends
+-- that it goes on with.
+abbrev pub behind_found : Header → Record → List Connection → Option ℕ
+behind_found h r cs =
+    first_some (position (λ (c : Connection). has_ends c h && has_channel c r) (reverse cs))
+    (position (λ (c : Connection). has_ends c h && is_continued c h) (reverse cs))
+
+-- A place in a list of this length, by how many come after it.
+abbrev pub place_before : Option ℕ → ℕ → Option ℕ
+place_before None size = None
+place_before (Some behind) size = Some (size - 1 - behind)
+
+-- The place of the connection of a PDU.
+abbrev pub found : Header → Record → List Connection → Option ℕ
+found h r cs = place_before (behind_found h r cs) (length cs)
 
 -- An end has left the current session of the connection.
 abbrev pub is_closed : Connection → Bool
@@ -67,34 +126,13 @@ abbrev pub left_at : Option ℕ → List Connection → List Connection
 left_at (Some place) cs = remove cs place
 left_at None cs = room_made cs
 
--- The place of the connection between two ends.
-abbrev pub found : ℕ → ℕ → List Connection → Option ℕ
-found sender receiver cs = place_of (ends_of sender receiver).0 (ends_of sender receiver).1 cs
-
--- The connection between two ends; a new one if none is kept.
-abbrev pub taken : ℕ → ℕ → List Connection → Connection
-taken sender receiver cs =
-    taken_at (found sender receiver cs) (opened (ends_of sender receiver).0 (ends_of sender receiver).1) cs
+-- The connection of a PDU; a new one between its ends if none is kept.
+abbrev pub taken : Header → Record → List Connection → Connection
+taken h r cs = taken_at (found h r cs) (opened (ends_of h.sender h.receiver).0 (ends_of h.sender h.receiver).1) cs
 
 -- The other connections that stay.
-abbrev pub left : ℕ → ℕ → List Connection → List Connection
-left sender receiver cs = left_at (found sender receiver cs) cs
-
--- Both hosts are IPv4 or both IPv6, with the same bytes.
-abbrev pub is_same_host : Host → Host → Bool
-is_same_host (V4 a) (V4 b) = bytes_eq a b
-is_same_host (V6 a) (V6 b) = bytes_eq a b
-is_same_host _ _ = false
-
--- Both addresses have the same host and port.
-abbrev pub is_same_address : Address → Address → Bool
-is_same_address a b = (a.port == b.port) && is_same_host a.host b.host
-
--- The channel is between these addresses, in either direction.
-abbrev pub is_between : Route → Record → Bool
-is_between route r =
-    (is_same_address route.low r.source && is_same_address route.high r.destination)
-    || (is_same_address route.low r.destination && is_same_address route.high r.source)
+abbrev pub left : Header → Record → List Connection → List Connection
+left h r cs = left_at (found h r cs) cs
 
 -- The place is free, or has the channel between these addresses.
 abbrev pub is_held : Option Route → Record → Bool
@@ -137,10 +175,6 @@ routes_after routes from_low r = routes_at (route_place_of routes r) routes from
 abbrev pub place_in : Connection → ℕ → Record → Place
 place_in c line r = record { time = r.time; line = line; channel = channel_of c.routes r }
 
--- The end with the lower identifier made the PDU.
-abbrev pub is_from_low : Connection → Header → Bool
-is_from_low c h = h.sender == c.low
-
 -- The remarks on a PDU of the end with the lower identifier (`true`), or of the other end, by what both ends sent before.
 abbrev pub way_remarks : Bool → Connection → Place → ℕ → Header → Remarks
 way_remarks true c place seq h = remarks_of c.from_low (peer_of c.from_high h) place seq h
@@ -172,25 +206,11 @@ connection_after c line r seq h =
 
 -- The remarks on a PDU of a line.
 abbrev pub step_remarks : List Connection → ℕ → Record → ℕ → Header → Remarks
-step_remarks cs line r seq h = connection_remarks (taken h.sender h.receiver cs) line r seq h
+step_remarks cs line r seq h = connection_remarks (taken h r cs) line r seq h
 
 -- The connections after a PDU of a line.
 abbrev pub step : List Connection → ℕ → Record → ℕ → Header → List Connection
-step cs line r seq h =
-    left h.sender h.receiver cs ++ connection_after (taken h.sender h.receiver cs) line r seq h ∷ []
-
--- The place has the channel between these addresses.
-abbrev pub is_known : Option Route → Record → Bool
-is_known None r = false
-is_known (Some route) r = is_between route r
-
--- The first place that has the channel.
-abbrev pub known_place_of : List (Option Route) → Record → Option ℕ
-known_place_of routes r = position (λ route. is_known route r) routes
-
--- The connection has the channel between these addresses.
-abbrev pub has_channel : Connection → Record → Bool
-has_channel c r = is_some (known_place_of c.routes r)
+step cs line r seq h = left h r cs ++ connection_after (taken h r cs) line r seq h ∷ []
 
 -- How many connections come after the last one that has the channel.
 abbrev pub behind_of : List Connection → Record → Option ℕ

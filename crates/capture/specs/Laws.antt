@@ -78,7 +78,7 @@ abbrev pub kept_after : Kept → Came → Kept
 kept_after k c =
     record {
       connections = connections_after k.connections c.line c.from c.heard;
-      gone = gone_after k.gone k.connections c.heard;
+      gone = gone_after k.gone k.connections c.from c.heard;
       damaged = damaged_after k.damaged c.heard;
       datagrams = counted k.datagrams 1;
     }

@@ -3,6 +3,7 @@ pub mod Lines
 pub mod Hearing
 pub mod Numbers
 pub mod Following
+pub mod Belonging
 pub mod Sessions
 pub mod Connecting
 pub mod Whole

@@ -33,30 +33,35 @@ damaged_after damaged (heard.Pdu seq h) = damaged
 damaged_after damaged (heard.NoSafe seq fault) = counted damaged 1
 damaged_after damaged (heard.NoRed fault) = counted damaged 1
 
--- How many datagrams have a wrong safety code, after one with this fault.
-abbrev pub miscoded_with : ℕ → SafeFault → ℕ
-miscoded_with miscoded fault.Code = counted miscoded 1
-miscoded_with miscoded _ = miscoded
+-- How many datagrams have another safety code, after one with this fault, as long as none has the right one. One that is too short for the code counts; a
+-- wrong length says nothing of the code; any other fault is found behind a right code.
+abbrev pub miscoded_with : Option ℕ → SafeFault → Option ℕ
+miscoded_with None why = None
+miscoded_with (Some miscoded) fault.Code = Some (counted miscoded 1)
+miscoded_with (Some miscoded) fault.Short = Some (counted miscoded 1)
+miscoded_with (Some miscoded) fault.Length = Some miscoded
+miscoded_with (Some miscoded) fault.BadType = None
+miscoded_with (Some miscoded) fault.Body = None
 
--- How many datagrams have a wrong safety code, after this one.
-abbrev pub miscoded_after : ℕ → Heard → ℕ
-miscoded_after miscoded (heard.Pdu seq h) = miscoded
+-- How many datagrams have another safety code, after this one. One without redundancy PDU is not RaSTA's.
+abbrev pub miscoded_after : Option ℕ → Heard → Option ℕ
+miscoded_after miscoded (heard.Pdu seq h) = None
 miscoded_after miscoded (heard.NoSafe seq why) = miscoded_with miscoded why
 miscoded_after miscoded (heard.NoRed why) = miscoded
 
 -- The PDU needs a further connection and there is no room: one is forgotten.
-abbrev pub forgets : List Connection → Header → Bool
-forgets cs h = (length cs == CONNECTIONS) && is_none (found h.sender h.receiver cs)
+abbrev pub forgets : List Connection → Record → Header → Bool
+forgets cs r h = (length cs == CONNECTIONS) && is_none (found h r cs)
 
 -- How many connections were forgotten, after a PDU.
-abbrev pub forgotten_with : ℕ → List Connection → Header → ℕ
-forgotten_with forgotten cs h = if forgets cs h then counted forgotten 1 else forgotten
+abbrev pub forgotten_with : ℕ → List Connection → Record → Header → ℕ
+forgotten_with forgotten cs r h = if forgets cs r h then counted forgotten 1 else forgotten
 
 -- How many connections were forgotten, after a datagram.
-abbrev pub forgotten_after : ℕ → List Connection → Heard → ℕ
-forgotten_after forgotten cs (heard.Pdu seq h) = forgotten_with forgotten cs h
-forgotten_after forgotten cs (heard.NoSafe seq fault) = forgotten
-forgotten_after forgotten cs (heard.NoRed fault) = forgotten
+abbrev pub forgotten_after : ℕ → List Connection → Record → Heard → ℕ
+forgotten_after forgotten cs r (heard.Pdu seq h) = forgotten_with forgotten cs r h
+forgotten_after forgotten cs r (heard.NoSafe seq fault) = forgotten
+forgotten_after forgotten cs r (heard.NoRed fault) = forgotten
 
 -- Sums of nothing.
 abbrev pub no_totals : Totals
@@ -79,14 +84,14 @@ abbrev pub counted_in : Totals → Connection → Totals
 counted_in t c = window_counted (window_counted t c.from_low.together) c.from_high.together
 
 -- The sums over the forgotten connections, after a PDU.
-abbrev pub gone_with : Totals → List Connection → Header → Totals
-gone_with gone cs h = if forgets cs h then counted_in gone (slice_index_or cs (forgotten_place cs) (opened 0 0)) else gone
+abbrev pub gone_with : Totals → List Connection → Record → Header → Totals
+gone_with gone cs r h = if forgets cs r h then counted_in gone (slice_index_or cs (forgotten_place cs) (opened 0 0)) else gone
 
 -- The sums over the forgotten connections, after a datagram.
-abbrev pub gone_after : Totals → List Connection → Heard → Totals
-gone_after gone cs (heard.Pdu seq h) = gone_with gone cs h
-gone_after gone cs (heard.NoSafe seq fault) = gone
-gone_after gone cs (heard.NoRed fault) = gone
+abbrev pub gone_after : Totals → List Connection → Record → Heard → Totals
+gone_after gone cs r (heard.Pdu seq h) = gone_with gone cs r h
+gone_after gone cs r (heard.NoSafe seq fault) = gone
+gone_after gone cs r (heard.NoRed fault) = gone
 
 -- The sums over all connections; `gone` has those of the forgotten ones.
 abbrev pub totals_of : Totals → List Connection → Totals

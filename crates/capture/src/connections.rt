@@ -1,13 +1,16 @@
 //! The connections of a capture; the one with the latest PDU is the last.
 //!
-//! A connection is found by the identifiers of its ends. A damaged datagram is counted by its addresses only, since
-//! its identifiers cannot be trusted.
+//! A connection is found by the identifiers of its ends and the addresses of a channel. Between other addresses a PDU
+//! belongs to the last connection of its identifiers that it goes on with (`goes_on`), on a further channel; if it goes
+//! on with none, it begins a connection. A damaged datagram is counted by its addresses only, since its identifiers
+//! cannot be trusted.
 
 ghost use Rattle.std.specs.Prelude.{◌≡◌, ◌+◌, ◌<◌, ◌≤◌, ◌==◌, ◌&&◌, ◌++◌, ◌∷◌, [], length, IfOk, IfSome, reverse, slice_index_or, vec_capacity, vec_len};
 ghost use Rattle.std.specs.List.{position, remove};
 ghost use Rattle.capture.specs.Whole.{forgets};
-ghost use Rattle.capture.specs.Connecting.{behind_of, channel_of, connection_after, connection_damaged, connection_remarks, damage_noted, damaged_at, ends_of, forgotten_place, has_channel, is_between, is_closed, is_from_low, is_held, is_known, is_same_address, is_same_host, is_source_low, known_place_of, left, opened, place_of, room_made, route_from, route_place_of, routes_after, step, step_remarks, taken, way_followed, way_remarks};
+ghost use Rattle.capture.specs.Connecting.{behind_found, behind_of, channel_of, connection_after, connection_damaged, connection_remarks, damage_noted, damaged_at, ends_of, forgotten_place, found, has_channel, has_ends, is_between, is_closed, is_continued, is_from_low, is_held, is_known, is_same_address, is_same_host, is_source_low, known_place_of, left, opened, room_made, route_from, route_place_of, routes_after, step, step_remarks, taken, way_followed, way_remarks};
 
+use crate::belonging::goes_on;
 use crate::direction::{
     CHANNELS, Damage, Direction, Place, Remarks, follow_pdu, keep_damage, see_peer,
 };
@@ -154,14 +157,15 @@ pub fn follow(
     seq: u32,
     header: &Header,
 ) -> Remarks
-    // The remarks are those in the PDU's own connection, a new one if none has its identifiers (`step_remarks`).
+    // The remarks are those in the PDU's own connection, a new one if none has its identifiers and addresses and it
+    // goes on with none (`step_remarks`, `found`).
     ensures remarks { result ≡ step_remarks connections.old line record.now seq header.now }
     // The PDU's connection changes and is then the last; no other one that stays changes. If there are
     // `CONNECTIONS` and it is a further one, the first that an end has left is forgotten, or else the first
     // (`room_made`). A channel is a pair of addresses in either direction. A fifth channel of a connection is not distinguished (`routes_after`, `channel_of`).
     ensures step { connections.new ≡ step connections.old line record.now seq header.now }
 {
-    bring_to_end(connections, header.sender, header.receiver);
+    bring_to_end(connections, record, header);
     let last = connections.list.len() - 1;
     follow_entry(
         &mut connections.list.as_mut_slice()[last],
@@ -183,27 +187,26 @@ fn follow_entry(entry: &mut Entry, line: u64, record: &Record, seq: u32, header:
 }
 
 /// Returns `true` if a PDU needs a further connection and one must be forgotten.
-pub(crate) fn has_no_room(connections: &Connections, header: &Header) -> bool
-    // The result is true exactly if `CONNECTIONS` are kept and none has the PDU's identifiers.
-    ensures { result ≡ forgets connections.now header.now }
+pub(crate) fn has_no_room(connections: &Connections, record: &Record, header: &Header) -> bool
+    // The result is true exactly if `CONNECTIONS` are kept and none is the PDU's (`found`).
+    ensures { result ≡ forgets connections.now record.now header.now }
 {
     if connections.list.len() < CONNECTIONS {
         return false;
     }
-    let (low, high) = ends(header.sender, header.receiver);
-    place(connections.list.as_slice(), low, high).is_none()
+    place(connections.list.as_slice(), record, header).is_none()
 }
 
-/// Moves the connection between two ends to the end of the list, or adds a new one.
-fn bring_to_end(connections: &mut Connections, sender: u32, receiver: u32)
-    // The list is the others that stay, in order, then the connection between `sender` and `receiver`, new if there
-    // was none (`left`, `taken`).
-    ensures { connections.new ≡ left sender receiver connections.old ++ taken sender receiver connections.old ∷ [] }
+/// Moves the connection of a PDU to the end of the list, or adds a new one.
+fn bring_to_end(connections: &mut Connections, record: &Record, header: &Header)
+    // The list is the others that stay, in order, then the connection of the PDU, new if there was none (`left`,
+    // `taken`).
+    ensures { connections.new ≡ left header.now record.now connections.old ++ taken header.now record.now connections.old ∷ [] }
 {
-    let (low, high) = ends(sender, receiver);
-    match place(connections.list.as_slice(), low, high) {
+    match place(connections.list.as_slice(), record, header) {
         Some(place) => move_to_end(&mut connections.list, place),
         None => {
+            let (low, high) = ends(header.sender, header.receiver);
             let mut entry = free_entry(&mut connections.list, &mut connections.spare);
             entry.reopen(low, high);
             push(&mut connections.list, entry);
@@ -253,23 +256,91 @@ fn ends(sender: u32, receiver: u32) -> (u32, u32)
     }
 }
 
-/// Returns the place of the connection with these identifiers.
-fn place(list: &[Entry], low: u32, high: u32) -> Option<usize>
-    // The place is the first whose connection has exactly `low` and `high`.
-    ensures value { result ≡ place_of low high list.now }
+/// Returns the place of the connection of a PDU.
+fn place(list: &[Entry], record: &Record, header: &Header) -> Option<usize>
+    // The place is that of the last connection between the PDU's ends with its channel, or else of the last one that it
+    // goes on with (`found`).
+    ensures value { result ≡ found header.now record.now list.now }
     // The place of a connection is within the list.
     ensures bound { IfSome result (λ place. place < length list.now) }
 {
-    list.iter()
-        .position(|entry| has_ends(&entry.connection, low, high))
+    match behind_pdu(list, record, header) {
+        None => None,
+        Some(behind) => Some(list.len() - 1 - behind),
+    }
 }
 
-/// Returns `true` if a connection has these identifiers.
-fn has_ends(connection: &Connection, low: u32, high: u32) -> bool
-    // Both identifiers are compared.
-    ensures { result ≡ ((connection.now.low == low) && (connection.now.high == high)) }
+/// Returns how many connections come after the one of a PDU.
+fn behind_pdu(list: &[Entry], record: &Record, header: &Header) -> Option<usize>
+    // The number counts from the end of the list; `None` if the PDU begins a connection (`behind_found`).
+    ensures value { result ≡ behind_found header.now record.now list.now }
+    // The number is below the length of the list, so that it names a connection.
+    ensures bound { IfSome result (λ behind. behind < length list.now) }
 {
+    match behind_between(list, record, header) {
+        Some(behind) => Some(behind),
+        None => behind_continued(list, header),
+    }
+}
+
+/// Returns how many connections come after the last one between a PDU's ends and its addresses.
+fn behind_between(list: &[Entry], record: &Record, header: &Header) -> Option<usize>
+    // The connection has both identifiers and a channel between the addresses of the `record`.
+    ensures value { result ≡ position (λ (c : Connection). has_ends c header.now && has_channel c record.now) (reverse list.now) }
+    // The number of those after it is below the length of the list.
+    ensures bound { IfSome result (λ behind. behind < length list.now) }
+{
+    list.iter()
+        .rev()
+        .position(|entry| is_between(&entry.connection, record, header))
+}
+
+/// Returns how many connections come after the last one between a PDU's ends that it goes on with.
+fn behind_continued(list: &[Entry], header: &Header) -> Option<usize>
+    // The connection has both identifiers, and the PDU goes on with what its ends have sent (`is_continued`).
+    ensures value { result ≡ position (λ (c : Connection). has_ends c header.now && is_continued c header.now) (reverse list.now) }
+    // The number of those after it is below the length of the list, too.
+    ensures bound { IfSome result (λ behind. behind < length list.now) }
+{
+    list.iter()
+        .rev()
+        .position(|entry| is_before(&entry.connection, header))
+}
+
+/// Returns `true` if a connection is between a PDU's ends and its addresses.
+fn is_between(connection: &Connection, record: &Record, header: &Header) -> bool
+    // Both identifiers are compared, then the addresses of each channel.
+    ensures { result ≡ (has_ends connection.now header.now && has_channel connection.now record.now) }
+{
+    joins_ends(connection, header) && is_way(connection, record)
+}
+
+/// Returns `true` if a connection is between a PDU's ends and the PDU goes on with it.
+fn is_before(connection: &Connection, header: &Header) -> bool
+    // Both identifiers are compared, then the numbers of both ends (`is_continued`).
+    ensures { result ≡ (has_ends connection.now header.now && is_continued connection.now header.now) }
+{
+    joins_ends(connection, header) && continues(connection, header)
+}
+
+/// Returns `true` if a connection is between the ends of a PDU.
+fn joins_ends(connection: &Connection, header: &Header) -> bool
+    // Both identifiers are compared.
+    ensures { result ≡ has_ends connection.now header.now }
+{
+    let (low, high) = ends(header.sender, header.receiver);
     connection.low == low && connection.high == high
+}
+
+/// Returns `true` if a PDU goes on with what the ends of a connection have sent.
+fn continues(connection: &Connection, header: &Header) -> bool
+    // The direction of the PDU's end is the first that is compared (`is_continued`).
+    ensures { result ≡ is_continued connection.now header.now }
+{
+    if comes_from_low(connection, header) {
+        return goes_on(&connection.from_low, &connection.from_high, header);
+    }
+    goes_on(&connection.from_high, &connection.from_low, header)
 }
 
 /// Returns the place of the connection that is forgotten for a further one.

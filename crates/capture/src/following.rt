@@ -3,7 +3,7 @@
 //! 256 connections are kept; for a further one, one is forgotten, of those that an end has left first. A number further
 //! back than the window is stale and changes only its count, so a copy on a slow channel is not a restart.
 
-ghost use Rattle.std.specs.Prelude.{◌≡◌, [], IfOk, fold};
+ghost use Rattle.std.specs.Prelude.{◌≡◌, [], IfOk, Some, fold};
 ghost use Rattle.capture.specs.Whole.{connections_after, counted_in, damaged_after, forgotten_after, forgotten_with, gone_after, gone_with, miscoded_after, miscoded_with, no_totals, remark_of, totals_of, window_counted};
 ghost use Rattle.capture.specs.Numbers.{counted};
 
@@ -27,8 +27,8 @@ pub struct Following {
     pub datagrams: u64,
     /// How many of them were not a PDU.
     pub damaged: u64,
-    /// How many of those have a wrong safety code.
-    pub miscoded: u64,
+    /// How many of those have another safety code, or are too short for it; `None` once a datagram has the right one.
+    pub miscoded: Option<u64>,
     /// The sums over the connections that were forgotten.
     pub gone: Totals,
     /// How many connections were forgotten for lack of room.
@@ -76,8 +76,8 @@ impl Following {
         ensures datagrams { IfOk result (λ following. following.datagrams ≡ 0) }
         // No damaged datagram is counted in a new `Following`.
         ensures damaged { IfOk result (λ following. following.damaged ≡ 0) }
-        // No datagram with a wrong safety code is counted in a new `Following`.
-        ensures miscoded { IfOk result (λ following. following.miscoded ≡ 0) }
+        // No datagram has another safety code in a new `Following`, and none has the right one.
+        ensures miscoded { IfOk result (λ following. following.miscoded ≡ Some 0) }
         // A new `Following` has no sums of forgotten connections.
         ensures gone { IfOk result (λ following. following.gone ≡ no_totals) }
         // A new `Following` has forgotten no connection.
@@ -87,7 +87,7 @@ impl Following {
             connections: Connections::new(alloc)?,
             datagrams: 0,
             damaged: 0,
-            miscoded: 0,
+            miscoded: Some(0),
             gone: new_totals(),
             forgotten: 0,
         })
@@ -106,19 +106,26 @@ impl Following {
         ensures datagrams { self.new.datagrams ≡ counted self.old.datagrams 1 }
         // The count of damaged datagrams grows by 1 exactly if the datagram is not a PDU.
         ensures damaged { self.new.damaged ≡ damaged_after self.old.damaged heard.now }
-        // The count of datagrams with a wrong safety code grows by 1 exactly if this one has such a code.
+        // The count of datagrams with another safety code grows by 1 exactly if this one has another or is too short
+        // for one, as long as none has the right one (`miscoded_with`).
         ensures miscoded { self.new.miscoded ≡ miscoded_after self.old.miscoded heard.now }
         // If a connection is forgotten, its sums are added to those of the forgotten ones.
-        ensures gone { self.new.gone ≡ gone_after self.old.gone self.old.connections heard.now }
+        ensures gone { self.new.gone ≡ gone_after self.old.gone self.old.connections record.now heard.now }
         // If a connection is forgotten, the count of forgotten ones grows by 1.
         ensures forgotten { self.new.forgotten
-            ≡ forgotten_after self.old.forgotten self.old.connections heard.now }
+            ≡ forgotten_after self.old.forgotten self.old.connections record.now heard.now }
     {
         self.datagrams = self.datagrams.saturating_add(1);
         match *heard {
             Heard::Pdu(seq, header) => {
-                self.forgotten = count_forgotten(self.forgotten, &self.connections, &header);
-                self.gone = sum_forgotten(self.gone, &self.connections, &header);
+                self.forgotten = count_forgotten(
+                    self.forgotten,
+                    &self.connections,
+                    record,
+                    &header,
+                );
+                self.gone = sum_forgotten(self.gone, &self.connections, record, &header);
+                self.miscoded = None;
                 let remarks = follow(&mut self.connections, line, record, seq, &header);
                 Remark::Pdu(seq, header, remarks)
             }
@@ -138,34 +145,47 @@ impl Following {
     }
 }
 
-/// Returns the count of datagrams with a wrong safety code after one that is not a safety PDU.
-fn count_miscoded(miscoded: u64, fault: SafeFault) -> u64
-    // The count grows by 1 exactly if the `fault` is that of the code (`miscoded_with`).
+/// Returns the count of datagrams with another safety code after one that is not a safety PDU.
+fn count_miscoded(miscoded: Option<u64>, fault: SafeFault) -> Option<u64>
+    // The count grows by 1 exactly if the `fault` is that of the code, or the datagram is too short for one. A fault
+    // behind the code ends the count (`miscoded_with`).
     ensures { result ≡ miscoded_with miscoded fault }
 {
+    let count = miscoded?;
     match fault {
-        SafeFault::Code => miscoded.saturating_add(1),
-        _ => miscoded,
+        SafeFault::Code | SafeFault::Short => Some(count.saturating_add(1)),
+        SafeFault::Length => Some(count),
+        SafeFault::BadType | SafeFault::Body => None,
     }
 }
 
 /// Returns the count of forgotten connections after a PDU.
-fn count_forgotten(forgotten: u64, connections: &Connections, header: &Header) -> u64
+fn count_forgotten(
+    forgotten: u64,
+    connections: &Connections,
+    record: &Record,
+    header: &Header,
+) -> u64
     // The count grows by 1 exactly if the PDU needs a connection and there is no room (`forgets`).
-    ensures { result ≡ forgotten_with forgotten connections.now header.now }
+    ensures { result ≡ forgotten_with forgotten connections.now record.now header.now }
 {
-    if has_no_room(connections, header) {
+    if has_no_room(connections, record, header) {
         return forgotten.saturating_add(1);
     }
     forgotten
 }
 
 /// Returns the sums of forgotten connections after a PDU.
-fn sum_forgotten(gone: Totals, connections: &Connections, header: &Header) -> Totals
+fn sum_forgotten(
+    gone: Totals,
+    connections: &Connections,
+    record: &Record,
+    header: &Header,
+) -> Totals
     // If a connection is forgotten, its sums are added.
-    ensures { result ≡ gone_with gone connections.now header.now }
+    ensures { result ≡ gone_with gone connections.now record.now header.now }
 {
-    if has_no_room(connections, header) {
+    if has_no_room(connections, record, header) {
         let place = place_to_forget(connections.as_slice());
         let forgotten = &connections.as_slice()[place];
         return add_connection(gone, &forgotten.connection);

@@ -7,6 +7,7 @@
 //! is not proved, since a fingerprint has only 64 bits.
 #![tactic(auto)]
 
+mod belonging;
 mod connections;
 mod direction;
 mod file;

@@ -35,7 +35,7 @@ pub record Read : Type 0 where
   pub datagrams : ℕ
   pub gone : Totals  -- sums over the connections that were forgotten
   pub damaged : ℕ  -- datagrams that are not a PDU
-  pub miscoded : ℕ  -- datagrams with a wrong safety code
+  pub miscoded : Option ℕ  -- datagrams with another safety code; none once one has the right code
   pub forgotten : ℕ  -- connections that were forgotten
   pub passed : PassedOver  -- frames and lines that were passed over, by kind
   pub latest : ℕ  -- the time of the last datagram that was followed

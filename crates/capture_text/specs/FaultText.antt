@@ -84,20 +84,20 @@ forgotten_text forgotten =
 abbrev pub forgotten_told : ℕ → List ℕ
 forgotten_told forgotten = if nat_eq forgotten 0 then [] else forgotten_text forgotten
 
--- The line about datagrams that all have a wrong safety code.
+-- The line about datagrams that all have another safety code.
 unfoldable pub miscoded_text : ℕ → List ℕ
 miscoded_text miscoded =
-    joined (codes "datagrams: all " ∷ decimal miscoded ∷ codes " have another safety code; choose it by --code or --iv\n" ∷ [])
+    joined (codes "datagrams: all " ∷ decimal miscoded ∷ codes " of RaSTA have another safety code; choose it by --code or --iv\n" ∷ [])
 
--- All datagrams have a wrong safety code.
-abbrev pub are_miscoded : ℕ → ℕ → Bool
-are_miscoded datagrams miscoded = not (nat_eq miscoded 0) && nat_eq miscoded datagrams
+-- How many datagrams have another safety code, if none has the right one.
+abbrev pub all_miscoded : Option ℕ → ℕ
+all_miscoded None = 0
+all_miscoded (Some miscoded) = miscoded
 
--- The line about datagrams that all have a wrong safety code, if they have.
-abbrev pub miscoded_told : ℕ → ℕ → List ℕ
-miscoded_told datagrams miscoded = if are_miscoded datagrams miscoded then miscoded_text miscoded else []
+-- The line about datagrams that all have another safety code, if there are any.
+abbrev pub miscoded_told : ℕ → List ℕ
+miscoded_told miscoded = if nat_eq miscoded 0 then [] else miscoded_text miscoded
 
--- How many faults a capture had: unreadable lines, forgotten connections, and datagrams with a wrong safety code if all have one.
-abbrev pub faults_in : ℕ → ℕ → Bool → ℕ → ℕ
-faults_in unreadable forgotten true miscoded = counted (counted unreadable forgotten) miscoded
-faults_in unreadable forgotten false miscoded = counted unreadable forgotten
+-- How many faults a capture had: unreadable lines, forgotten connections, and datagrams with another safety code if none has the right one.
+abbrev pub faults_in : ℕ → ℕ → Option ℕ → ℕ
+faults_in unreadable forgotten miscoded = counted (counted unreadable forgotten) (all_miscoded miscoded)

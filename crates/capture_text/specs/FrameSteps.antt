@@ -84,21 +84,21 @@ damaged_seen rule damaged octets (Other why) = damaged
 damaged_seen rule damaged octets (Unread fault) = damaged
 
 -- The count of datagrams with a wrong safety code after a frame.
-abbrev pub miscoded_seen : CodeRule → ℕ → List ℕ → Seen → ℕ
+abbrev pub miscoded_seen : CodeRule → Option ℕ → List ℕ → Seen → Option ℕ
 miscoded_seen rule miscoded octets (Datagram r start end) = miscoded_after miscoded (heard_of rule (payload_at start end octets))
 miscoded_seen rule miscoded octets (Other why) = miscoded
 miscoded_seen rule miscoded octets (Unread fault) = miscoded
 
 -- The sums of forgotten connections after a frame.
 abbrev pub gone_seen : CodeRule → Totals → List Connection → List ℕ → Seen → Totals
-gone_seen rule gone cs octets (Datagram r start end) = gone_after gone cs (heard_of rule (payload_at start end octets))
+gone_seen rule gone cs octets (Datagram r start end) = gone_after gone cs r (heard_of rule (payload_at start end octets))
 gone_seen rule gone cs octets (Other why) = gone
 gone_seen rule gone cs octets (Unread fault) = gone
 
 -- The count of forgotten connections after a frame.
 abbrev pub forgotten_seen : CodeRule → ℕ → List Connection → List ℕ → Seen → ℕ
 forgotten_seen rule forgotten cs octets (Datagram r start end) =
-    forgotten_after forgotten cs (heard_of rule (payload_at start end octets))
+    forgotten_after forgotten cs r (heard_of rule (payload_at start end octets))
 forgotten_seen rule forgotten cs octets (Other why) = forgotten
 forgotten_seen rule forgotten cs octets (Unread fault) = forgotten
 

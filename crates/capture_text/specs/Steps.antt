@@ -91,7 +91,7 @@ datagrams_behind datagrams (Err why) = datagrams
 
 -- The sums of forgotten connections after a line.
 abbrev pub gone_behind : Totals → List Connection → Result (Record × Heard) Unfollowed → Totals
-gone_behind gone cs (Ok h) = gone_after gone cs h.1
+gone_behind gone cs (Ok h) = gone_after gone cs h.0 h.1
 gone_behind gone cs (Err why) = gone
 
 -- The count of damaged datagrams after a line.
@@ -99,14 +99,14 @@ abbrev pub damaged_behind : ℕ → Result (Record × Heard) Unfollowed → ℕ
 damaged_behind damaged (Ok h) = damaged_after damaged h.1
 damaged_behind damaged (Err why) = damaged
 
--- The count of datagrams with a wrong safety code after a line.
-abbrev pub miscoded_behind : ℕ → Result (Record × Heard) Unfollowed → ℕ
+-- The count of datagrams with another safety code after a line.
+abbrev pub miscoded_behind : Option ℕ → Result (Record × Heard) Unfollowed → Option ℕ
 miscoded_behind miscoded (Ok h) = miscoded_after miscoded h.1
 miscoded_behind miscoded (Err why) = miscoded
 
 -- The count of forgotten connections after a line.
 abbrev pub forgotten_behind : ℕ → List Connection → Result (Record × Heard) Unfollowed → ℕ
-forgotten_behind forgotten cs (Ok h) = forgotten_after forgotten cs h.1
+forgotten_behind forgotten cs (Ok h) = forgotten_after forgotten cs h.0 h.1
 forgotten_behind forgotten cs (Err why) = forgotten
 
 -- The telegrams of a datagram, if they are asked for.

@@ -1,6 +1,6 @@
 //! A capture, read line by line or frame by frame.
 
-ghost use Rattle.std.specs.Prelude.{◌≡◌, ◌≤◌, [], None, take, OnOk, IfOk};
+ghost use Rattle.std.specs.Prelude.{◌≡◌, ◌≤◌, [], None, Some, take, OnOk, IfOk};
 ghost use Rattle.std.specs.Io.KnownBytes.{Appends};
 ghost use Rattle.capture.specs.Hearing.{heard_of};
 ghost use Rattle.capture.specs.Lines.{line_of};
@@ -102,8 +102,8 @@ impl Course {
         ensures datagrams { IfOk result (λ course. course.following.datagrams ≡ 0) }
         // A new `Course` has counted no damaged datagram.
         ensures damaged { IfOk result (λ course. course.following.damaged ≡ 0) }
-        // A new `Course` has counted no datagram with a wrong safety code.
-        ensures miscoded { IfOk result (λ course. course.following.miscoded ≡ 0) }
+        // A new `Course` has counted no datagram with another safety code, and none with the right one.
+        ensures miscoded { IfOk result (λ course. course.following.miscoded ≡ Some 0) }
         // A new `Course` has no sums of forgotten connections.
         ensures gone { IfOk result (λ course. course.following.gone ≡ no_totals) }
         // A new `Course` has forgotten no connection.
@@ -173,7 +173,8 @@ impl Course {
         // The count of damaged datagrams grows by 1 exactly if a followed datagram is not a PDU.
         ensures damaged { self.new.following.damaged
             ≡ damaged_behind self.old.following.damaged (heard_line asked.now self.old.first (line_of line.now)) }
-        // The count of datagrams with a wrong safety code grows by 1 exactly if a followed datagram has one.
+        // The count of datagrams with another safety code grows by 1 exactly if a followed datagram has another, as
+        // long as none has the right one (`miscoded_behind`).
         ensures miscoded { self.new.following.miscoded
             ≡ miscoded_behind self.old.following.miscoded (heard_line asked.now self.old.first (line_of line.now)) }
         // If a connection is forgotten for the datagram, the count of forgotten ones grows by 1 (`forgotten_behind`).
@@ -456,7 +457,7 @@ fn follow(
     ensures datagrams { following.new.datagrams ≡ datagrams_behind following.old.datagrams heard }
     // Only a followed datagram that is not a PDU adds to the count of damaged ones.
     ensures damaged { following.new.damaged ≡ damaged_behind following.old.damaged heard }
-    // Only a followed datagram with a wrong safety code adds to their count.
+    // Only a followed datagram changes the count of those with another safety code.
     ensures miscoded { following.new.miscoded ≡ miscoded_behind following.old.miscoded heard }
     // If the datagram makes a connection forgotten, its sums are kept.
     ensures gone { following.new.gone

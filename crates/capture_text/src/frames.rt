@@ -91,7 +91,8 @@ impl Course {
         ensures damaged { self.new.following.damaged
             ≡ damaged_seen asked.now.rule self.old.following.damaged octets.now
             (frame_seen asked.now self.old.first link time octets.now) }
-        // The count of datagrams with a wrong safety code grows by 1 exactly if the frame has a followed one.
+        // The count of datagrams with another safety code grows by 1 exactly if the frame has a followed one, as long
+        // as none has the right code (`miscoded_seen`).
         ensures miscoded { self.new.following.miscoded
             ≡ miscoded_seen asked.now.rule self.old.following.miscoded octets.now
             (frame_seen asked.now self.old.first link time octets.now) }
@@ -166,16 +167,16 @@ impl Course {
         // The datagram is counted as damaged exactly if it is not a PDU.
         ensures damaged { self.new.following.damaged
             ≡ damaged_after self.old.following.damaged (heard_of asked.now.rule payload.now) }
-        // The datagram is counted as one with a wrong safety code exactly if it has one.
+        // The datagram is counted as one with another safety code, or shows that the code is right.
         ensures miscoded { self.new.following.miscoded
             ≡ miscoded_after self.old.following.miscoded (heard_of asked.now.rule payload.now) }
         // The sums of a connection that is forgotten for the datagram are kept.
         ensures gone { self.new.following.gone
-            ≡ gone_after self.old.following.gone self.old.following.connections
+            ≡ gone_after self.old.following.gone self.old.following.connections «record».now
             (heard_of asked.now.rule payload.now) }
         // A connection that is forgotten for the datagram is counted.
         ensures forgotten { self.new.following.forgotten
-            ≡ forgotten_after self.old.following.forgotten self.old.following.connections
+            ≡ forgotten_after self.old.following.forgotten self.old.following.connections «record».now
             (heard_of asked.now.rule payload.now) }
         // On success the line and the telegrams of the datagram are appended, as far as they are asked for.
         ensures written { OnOk result (Appends (W.contents writer.old) (W.contents writer.new)

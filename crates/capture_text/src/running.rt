@@ -12,7 +12,7 @@ ghost use Rattle.std.specs.IoError.{error_kind};
 ghost use Rattle.capture.specs.Numbers.{counted};
 ghost use Rattle.capture.specs.Recordings.{event_of, going_on, step_of};
 ghost use Rattle.capture_text.specs.Capture.{block_printed, block_told, broken_off, end_told, ended_at, frame_printed, frame_told, is_whole_at, line_printed, line_told, lines_printed, lines_told, read_by, read_printed, shown_printed, sums_printed, text_printed, text_told, with_block, with_frame, with_line, with_lines, with_long, with_read, with_sums, with_text};
-ghost use Rattle.capture_text.specs.FaultText.{are_miscoded, fault_text, faults_in, file_fault_word, foreign_of, foreign_word, forgotten_told, frame_text, has_front, miscoded_text, miscoded_told, recording_text};
+ghost use Rattle.capture_text.specs.FaultText.{all_miscoded, fault_text, faults_in, file_fault_word, foreign_of, foreign_word, forgotten_told, frame_text, has_front, miscoded_text, miscoded_told, recording_text};
 ghost use Rattle.capture_text.specs.FrameSteps.{payload_at};
 ghost use Rattle.capture_text.specs.Lines.{cut, lines_of};
 ghost use Rattle.capture_text.specs.Steps.{without_end};
@@ -33,8 +33,8 @@ use std::io::{BufRead, BufReader, BufWriter, ErrorKind, Read, Write};
 pub enum FollowStatus {
     /// Every line was a datagram.
     Done,
-    /// A line was not a datagram, a recording could not go on, a connection was forgotten, or all datagrams have a
-    /// wrong safety code; each was reported.
+    /// A line was not a datagram, a recording could not go on, a connection was forgotten, or all datagrams have
+    /// another safety code; each was reported.
     Unreadable,
     /// An allocation failed.
     Memory,
@@ -140,43 +140,42 @@ fn follow_input<R: Read + Drop, O: Write, E: Write>(
     Ok(faults_of(&course))
 }
 
-/// Returns how many lines were not a datagram, connections were forgotten, and datagrams have a wrong safety code if
-/// all have one.
+/// Returns how many lines were not a datagram, connections were forgotten, and datagrams have another safety code if
+/// none has the right one.
 fn faults_of(course: &Course) -> u64
     // The three counts are added, limited to 2^64 - 1 (`faults_in`).
-    ensures { result ≡ faults_in course.now.unreadable course.now.following.forgotten
-        (are_miscoded course.now.following.datagrams course.now.following.miscoded) course.now.following.miscoded }
+    ensures { result ≡ faults_in course.now.unreadable course.now.following.forgotten course.now.following.miscoded }
 {
     let faults = course.unreadable.saturating_add(course.following.forgotten);
-    if has_another_code(course) {
-        return faults.saturating_add(course.following.miscoded);
-    }
-    faults
+    faults.saturating_add(miscoded(course))
 }
 
-/// Returns `true` if all datagrams have a wrong safety code.
-fn has_another_code(course: &Course) -> bool
-    // There must be a datagram with a wrong code, and as many of them as datagrams (`are_miscoded`).
-    ensures { result ≡ are_miscoded course.now.following.datagrams course.now.following.miscoded }
+/// Returns how many datagrams have another safety code, if none has the right one.
+fn miscoded(course: &Course) -> u64
+    // The result is 0 as soon as a datagram has the right code (`all_miscoded`).
+    ensures { result ≡ all_miscoded course.now.following.miscoded }
 {
-    let miscoded = course.following.miscoded;
-    miscoded != 0 && miscoded == course.following.datagrams
+    match course.following.miscoded {
+        None => 0,
+        Some(miscoded) => miscoded,
+    }
 }
 
-/// Reports that all datagrams have a wrong safety code.
+/// Reports that all datagrams have another safety code.
 fn tell_miscoded<E: Write>(course: &Course, err: &mut E) -> Result<(), Stop>
-    // On success one line with their number is appended to `err` if all datagrams have a wrong code; otherwise nothing
-    // is (`miscoded_told`).
+    // On success one line with their number is appended to `err` if datagrams have another code, and none has the right
+    // one; otherwise nothing is (`miscoded_told`).
     ensures { OnOk result (Appends (E.contents err.old) (E.contents err.new)
-        (miscoded_told course.now.following.datagrams course.now.following.miscoded)) }
+        (miscoded_told (all_miscoded course.now.following.miscoded))) }
 {
-    if has_another_code(course) {
-        return write_miscoded(course.following.miscoded, err);
+    let miscoded = miscoded(course);
+    if miscoded == 0 {
+        return Ok(());
     }
-    Ok(())
+    write_miscoded(miscoded, err)
 }
 
-/// Writes the line about datagrams that all have a wrong safety code.
+/// Writes the line about datagrams that all have another safety code.
 #[tactic(auto, unfolding(crate::specs::FaultText::miscoded_text))]
 fn write_miscoded<E: Write>(miscoded: u64, err: &mut E) -> Result<(), Stop>
     // On success the line with the number of datagrams is appended to `err`.
@@ -184,7 +183,7 @@ fn write_miscoded<E: Write>(miscoded: u64, err: &mut E) -> Result<(), Stop>
 {
     match writeln!(
         err,
-        "datagrams: all {miscoded} have another safety code; choose it by --code or --iv"
+        "datagrams: all {miscoded} of RaSTA have another safety code; choose it by --code or --iv"
     ) {
         Ok(()) => Ok(()),
         Err(_) => Err(Stop::Output),
