@@ -4,6 +4,7 @@ pub mod Hearing
 pub mod Numbers
 pub mod Following
 pub mod Sessions
+pub mod Measures
 pub mod Connecting
 pub mod Whole
 pub mod Laws
