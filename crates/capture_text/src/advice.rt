@@ -4,7 +4,7 @@ ghost use Rattle.std.specs.Prelude.{◌≡◌, OnOk};
 ghost use Rattle.std.specs.Io.KnownBytes.{Appends};
 ghost use Rattle.capture_text.specs.Advice.{advice_lines, advice_text, advices_text, connection_text, delay_reason, delay_text, difference_reason, difference_text, few_word, from_text, named_text, none_text, settings_lines, settings_text, t_h_text, t_max_text, t_seq_text, units_text, units_word, window_text, within_delay};
 
-use crate::choosing::{ChosenSettings, Delays, Network, choose, delays, observe};
+use crate::choosing::{ChosenSettings, Delays, Network, choose, find_delays, observe};
 use crate::distributions::write_measured;
 use capture::{Connection, Entry};
 use pdu_text::write_text;
@@ -69,7 +69,7 @@ fn write_network<W: Write>(writer: &mut W, ends: (u32, u32), network: &Network) 
     ensures { OnOk result (Appends (W.contents writer.old) (W.contents writer.new)
         (advice_text ends.0 ends.1 network.now)) }
 {
-    let delays = delays(network);
+    let delays = find_delays(network);
     write_from(writer, ends, network)?;
     write_difference(writer, ends, network, delays)?;
     write_delay(writer, ends, network, delays)?;
@@ -315,21 +315,14 @@ fn write_t_seq<W: Write>(
 
 /// Writes T_h.
 #[tactic(auto, unfolding(crate::specs::Advice::t_h_text))]
-fn write_t_h<W: Write>(
-    writer: &mut W,
-    ends: (u32, u32),
-    settings: ChosenSettings,
-) -> io::Result<()>
+fn write_t_h<W: Write>(writer: &mut W, ends: (u32, u32), settings: ChosenSettings) -> io::Result<()>
     // On success the line of T_h is appended.
     ensures { OnOk result (Appends (W.contents writer.old) (W.contents writer.new)
         (t_h_text ends.0 ends.1 settings)) }
 {
     let t_h = settings.t_h;
     write_named(writer, ends)?;
-    writeln!(
-        writer,
-        " T_h {t_h} ms: twice T_seq, and at least 100 ms"
-    )
+    writeln!(writer, " T_h {t_h} ms: twice T_seq, and at least 100 ms")
 }
 
 /// Writes T_max.

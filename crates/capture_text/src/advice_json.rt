@@ -4,7 +4,7 @@ ghost use Rattle.std.specs.Prelude.{◌≡◌, OnOk};
 ghost use Rattle.std.specs.Io.KnownBytes.{Appends};
 ghost use Rattle.capture_text.specs.AdviceJson.{advice_json, advices_json, chosen_json, delays_json, end_json, list_json, listed_json, name_json, network_json, rest_json, settings_json, sides_json, truth_word, units_json, window_json};
 
-use crate::choosing::{ChosenSettings, Delays, Network, choose, delays, observe};
+use crate::choosing::{ChosenSettings, Delays, Network, choose, find_delays, observe};
 use crate::distributions::write_measured_json;
 use capture::{Connection, Entry, Measures};
 use pdu_text::write_text;
@@ -84,7 +84,7 @@ fn write_connection<W: Write>(writer: &mut W, connection: &Connection) -> io::Re
     ensures { OnOk result (Appends (W.contents writer.old) (W.contents writer.new) (advice_json connection.now)) }
 {
     let network = observe(connection);
-    let delays = delays(&network);
+    let delays = find_delays(&network);
     write_name(writer, connection.low, connection.high)?;
     write_sides(writer, &connection.measures)?;
     write_network(writer, &network)?;

@@ -85,7 +85,10 @@ pub(crate) fn observe(connection: &Connection) -> Network
         pdus: pdus(connection),
         lost: lost(&connection.from_low).max(lost(&connection.from_high)),
         shortest: shortest(&measures.low.round_trips, &measures.high.round_trips),
-        skew: greater(greatest(&measures.low.skews), greatest(&measures.high.skews)),
+        skew: greater(
+            greatest(&measures.low.skews),
+            greatest(&measures.high.skews),
+        ),
         units: units(measures),
     }
 }
@@ -211,7 +214,7 @@ fn greater(one: Option<u64>, other: Option<u64>) -> Option<u64>
 }
 
 /// Returns the times by which settings are chosen.
-pub(crate) fn delays(network: &Network) -> Delays
+pub(crate) fn find_delays(network: &Network) -> Delays
     // The difference is the greatest skew; without one, the shortest time is assumed. The longest time one way is the
     // shortest time and the difference (`delays_of`).
     ensures { result ≡ delays_of network.now }
