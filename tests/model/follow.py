@@ -1,7 +1,7 @@
 #!/usr/bin/env python3
 """Reads a capture in the model, and prints what `rasta follow` must print: a line for each datagram, or its events, and the sums.
 
-    tests/model/follow.py follow [--code 0|8|16] [--only WORD] [--ports PORTS] [--t-max MS] [--time FORM] [--from INSTANT] [--to INSTANT] [--every N] [--json] [--events] FILE
+    tests/model/follow.py follow [--code 0|8|16] [--only WORD] [--ports PORTS] [--t-max MS] [--time FORM] [--from INSTANT] [--to INSTANT] [--every N] [--choose] [--json] [--events] FILE
 """
 import argparse
 import datetime
@@ -17,6 +17,8 @@ from texts import OPENINGS, red_seen, safe_seen  # noqa: E402
 KEPT, PASSED_MAX, CHANNELS, CONNECTIONS, WRAP = 32, 65535, 4, 256, 2 ** 32
 DAMAGES = 8  # damaged datagrams of an end that are kept
 SESSIONS, TIMEOUT = 64, 3  # sessions that have ended and are printed
+CLASSES, MOMENTS = 24, 8  # classes of times, and PDUs of an end that are kept with their times
+MEASURED = ('round_trip', 'skew', 'silence', 'waits')
 LINE_MAX, PAYLOAD_MAX = 8192, 2048
 ONLY = ('opens', 'repeat', 'differs', 'ahead', 'late', 'stale', 'anew', 'resent', 'age', 'waits', 'reason', 'fault')
 FAULTS = {'red': ('Short', 'Length', 'Reserve'), 'safe': ('Short', 'Length', 'Code', 'Type', 'Body')}
@@ -263,6 +265,104 @@ class Session:
                 'unanswered': self.is_unanswered(), 'low': self.sides[0].members(), 'high': self.sides[1].members()}
 
 
+class Measured:
+    """The times that are measured of an end, in milliseconds, and its last PDUs in this session."""
+
+    def __init__(self):
+        self.values, self.units, self.busiest = {name: [] for name in MEASURED}, 0, 0
+        self.begin()
+
+    def begin(self):
+        self.sent, self.last, self.confirmed = {}, 0, 0
+
+    def take(self, time, channel, p, words, is_new, peer):
+        """Adds a PDU, by the remarks on it; `peer` is what is measured of the other end."""
+        if 'opens' in words:
+            self.begin()
+        if is_new:
+            if p.kind not in ('RetrReq', 'RetrResp', 'RetrData') and has(words, 'age ') and not has(words, 'all late') and p.cts != self.confirmed:
+                self.add('round_trip', peer.moment(p.cs, p.cts), time)
+                self.confirmed = p.cts
+            self.add('silence', self.last, time)
+            self.values['waits'] += [int(word.split()[1]) for word in words if word.startswith('waits ')]
+            self.units = (self.units if time // 10 ** 6 == self.last // 10 ** 6 else 0) + (p.kind == 'Data')
+            self.busiest, self.last = max(self.busiest, self.units), time
+            self.sent[p.sn % MOMENTS] = p.ts, time
+        elif has(words, 'all repeat') and channel < CHANNELS and not has(words, 'channel repeat'):
+            self.add('skew', self.moment(p.sn, p.ts), time)
+
+    def moment(self, sn, ts):
+        """Returns when a PDU was recorded first; 0 if it is not kept."""
+        stamp, time = self.sent.get(sn % MOMENTS, (None, 0))
+        return time if stamp == ts else 0
+
+    def add(self, name, start, end):
+        if start:
+            self.values[name].append(min(max(0, end - start) // 1000, WRAP - 1))
+
+    def counts(self, name):
+        classes = [min(value.bit_length(), CLASSES - 1) for value in self.values[name]]
+        return [classes.count(place) for place in range(CLASSES)]
+
+    def lines(self, sender, receiver):
+        for name in MEASURED:
+            most = max(self.values[name], default=0)
+            yield 'times %d->%d %s %d greatest %d ms, below 1, 2, 4, .. ms: %s' % (
+                sender, receiver, name.replace('_', ' '), len(self.values[name]), most,
+                ' '.join(map(str, self.counts(name)[:min(most.bit_length(), CLASSES - 1) + 1])))
+
+    def members(self):
+        return {name: {'greatest': max(self.values[name], default=0), 'counts': self.counts(name)} for name in MEASURED}
+
+
+def has(words, start):
+    return any(word.startswith(start) for word in words)
+
+
+class Choice:
+    """The settings that fit a connection, by the rule of docs/choosing.md."""
+
+    def __init__(self, connection):
+        self.ends, self.measured, directions = connection.ends, connection.measured, connection.directions
+        self.pdus = sum(direction.together.heard for direction in directions)
+        self.lost = max(n.missing * 10 ** 6 // max(1, n.heard + n.late + n.missing) for direction in directions for n in direction.channels)
+        least = [next((2 ** place - 1 for place, count in enumerate(one.counts('round_trip')) if count), None) for one in self.measured]
+        skews = [value for one in self.measured for value in one.values['skew']]
+        self.has_trips, self.has_skews = None not in least, bool(skews)
+        shortest = (sum(least) + 1) // 2 if self.has_trips else 5
+        self.difference = max(skews) if skews else shortest
+        self.delay = shortest + self.difference
+        self.units = max(one.busiest for one in self.measured)
+        self.t_seq = max(self.difference + max(self.difference // 4, 5), 10)
+        self.t_h = max(2 * self.t_seq, 100)
+        self.t_max = 4 * self.t_h + 2 * self.t_seq + 6 * self.delay
+        self.fits = self.difference <= 800 and self.delay <= 8000
+
+    def lines(self):
+        for one, ends in zip(self.measured, (self.ends, self.ends[::-1])):
+            yield from one.lines(*ends)
+        few = ', too few to rely on: record some hundred with telegrams' if self.pdus < 300 else ''
+        within = (2 * self.delay * self.units + 999) // 1000
+        said = ['from %d PDUs%s; p %d of 1000000: the most that a channel lost' % (self.pdus, few, self.lost),
+                'D %d ms: %s' % (self.difference, 'the greatest skew' if self.has_skews else
+                                 'assumed to be the shortest time one way, since no copy came on another channel'),
+                'd %d ms: D and %s' % (self.delay, 'half of the shortest round trips of both ends' if self.has_trips else
+                                       '5 ms, assumed since an end has no round trip'),
+                'busiest second %d units one way, %d within 2 d%s' % (
+                    self.units, within, ': more than the window holds, so telegrams wait' if within > 7 else '')]
+        said += ['n_sendmax 7 mwa 3 q 8: 7 - 1 + 7/3 is at most 8',
+                 'T_seq %d ms: above D, %d ms, by a quarter and at least 5 ms' % (self.t_seq, self.difference),
+                 'T_h %d ms: twice T_seq, and at least 100 ms' % self.t_h,
+                 'T_max %d ms: 4 T_h + 2 T_seq + 6 d, for two repairs in a row' % self.t_max] if self.fits else [
+                     'no settings: D may be 800 ms and d 8000 ms at most, for T_seq and T_max in their ranges']
+        yield from ('choose %d-%d %s' % (*self.ends, one) for one in said)
+
+    def members(self):
+        return {'low': self.ends[0], 'high': self.ends[1], 'times': [one.members() for one in self.measured], 'PDUs': self.pdus, 'lost': self.lost,
+                'units': self.units, 'round_trips_seen': self.has_trips, 'skews_seen': self.has_skews, 'difference': self.difference, 'delay': self.delay,
+                'settings': {'n_sendmax': 7, 'mwa': 3, 'q': 8, 't_seq': self.t_seq, 't_h': self.t_h, 't_max': self.t_max} if self.fits else None}
+
+
 def losses(everywhere, alone):
     return 'PDUs lost on every channel %d, datagrams lost on one channel whose PDU came on another %d' % (everywhere, alone)
 
@@ -272,6 +372,7 @@ class Connection:
 
     def __init__(self, ends):
         self.ends, self.routes, self.directions, self.last, self.sessions = ends, [], (Direction(), Direction()), 0, []
+        self.measured = Measured(), Measured()
 
     def known(self, source, destination):
         """Returns the number of the channel between two addresses, in either direction."""
@@ -316,6 +417,7 @@ class Connection:
             self.sessions.append(Session(len(self.sessions) + 1, None if asked is None else (asked, end), up))
         session = self.sessions[-1]
         session.sides[end].take(time, channel, p, words, is_new, session.sides[1 - end])
+        self.measured[end].take(time, channel, p, words, is_new, self.measured[1 - end])
 
     def session_sums(self):
         """Returns how many sessions there were, came up, were not answered, were left, were left by a timeout."""
@@ -427,16 +529,17 @@ class Follower:
         self.connections = others + (known or [Connection(ends)])
         return self.connections[-1]
 
-    def members(self, first, t_max):
+    def members(self, first, t_max, choose):
         """Returns all sums as one JSON object in one line."""
         counts = [sum(column) for column in zip(self.gone, *(connection.counts() for connection in self.connections))]
         names = ('PDUs', 'missing', 'repeats', 'late', 'differs', 'stale')
         return json.dumps({'first': first.first or None, 't_max': t_max, 'all': {
             'datagrams': self.datagrams, **dict(zip(names, counts)), 'damaged': self.damaged, 'forgotten': self.forgotten, 'unreadable': self.unreadable,
                     'frames': self.frames, 'passed': {'ports': self.others[0], 'times': self.others[1], **dict.fromkeys(('no_ip', 'no_udp', 'tunnels', 'fragments', 'truncated', 'lengths', 'links'), 0)}},
-            'connections': [connection.members() for connection in self.connections]}, separators=(',', ':'))
+            'connections': [connection.members() for connection in self.connections],
+            **({'choosing': [Choice(connection).members() for connection in self.connections]} if choose else {})}, separators=(',', ':'))
 
-    def sums(self, first, t_max):
+    def sums(self, first, t_max, choose):
         if first.first:
             yield 'sum first datagram at ' + utc(first.first)
         for connection in self.connections:
@@ -447,6 +550,8 @@ class Follower:
             yield 'sum passed over: other ports %d other times %d no IP 0 no UDP 0 tunnels 0 fragments 0 truncated 0 lengths 0 links 0' % tuple(self.others)
         yield 'sum all datagrams %d PDUs %d missing %d repeats %d late %d differs %d stale %d damaged %d forgotten %d unreadable %d' % (
             self.datagrams, *counts, self.damaged, self.forgotten, self.unreadable)
+        for connection in self.connections if choose else []:
+            yield from Choice(connection).lines()
 
 
 def fault(layer, name):
@@ -599,12 +704,12 @@ def foreign(front):
     return next((why for octets, why in FOREIGN.items() if front.startswith(octets)), None)
 
 
-def followed(raws, code=8, only=None, t_max=1800, ports=None, as_json=False, time='since', start=None, end=None, every=None, as_events=False):
+def followed(raws, code=8, only=None, t_max=1800, ports=None, as_json=False, time='since', start=None, end=None, every=None, as_events=False, choose=False):
     """Returns standard output, standard error and exit status."""
     follower, times, due, out, err = Follower(Settings(code=code).rule), Times(time), None, [], []
 
     def sums():
-        return [said + '\n' for said in ([follower.members(times, t_max)] if as_json or as_events else follower.sums(times, t_max))]
+        return [said + '\n' for said in ([follower.members(times, t_max, choose)] if as_json or as_events else follower.sums(times, t_max, choose))]
 
     raws = list(raws)
     why = foreign(raws[0]) if raws else None
@@ -658,10 +763,11 @@ def main(words):
     parser.add_argument('--from', dest='start', type=instant)
     parser.add_argument('--to', dest='end', type=instant)
     parser.add_argument('--every', type=int)
+    parser.add_argument('--choose', action='store_true')
     parser.add_argument('file')
     asked = parser.parse_args(words)
     with open(asked.file, 'rb') as file:
-        out, err, status = followed(file, asked.code, asked.only, asked.t_max, asked.ports, asked.json, asked.time, asked.start, asked.end, asked.every, asked.events)
+        out, err, status = followed(file, asked.code, asked.only, asked.t_max, asked.ports, asked.json, asked.time, asked.start, asked.end, asked.every, asked.events, asked.choose)
     sys.stdout.write(out)
     sys.stderr.write(err)
     return status

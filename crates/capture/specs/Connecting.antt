@@ -18,6 +18,7 @@ use Rattle.capture.specs.declared.connections.Connection.{Connection}
 use Rattle.capture.specs.Belonging.{goes_on}
 use Rattle.capture.specs.Numbers.{counted}
 use Rattle.capture.specs.Following.{damages_after, followed, open_direction, peer_of, remarks_of}
+use Rattle.capture.specs.Measures.{measures_after, no_measures}
 use Rattle.capture.specs.Sessions.{open_sessions, sessions_after}
 
 -- A connection between two ends without PDUs.
@@ -31,6 +32,7 @@ opened low high =
       from_low = open_direction;
       from_high = open_direction;
       sessions = open_sessions;
+      measures = no_measures;
     }
 
 -- The identifiers of two ends, the lower one first.
@@ -202,6 +204,7 @@ abbrev pub connection_after : Connection → ℕ → Record → ℕ → Header �
 connection_after c line r seq h =
     record (followed_along c line r seq h) {
       sessions = sessions_after c.sessions (is_from_low c h) r.time h.kind (connection_remarks c line r seq h);
+      measures = measures_after c.measures (is_from_low c h) r.time h (connection_remarks c line r seq h);
     }
 
 -- The remarks on a PDU of a line.

@@ -5,6 +5,7 @@ pub mod Numbers
 pub mod Following
 pub mod Belonging
 pub mod Sessions
+pub mod Measures
 pub mod Connecting
 pub mod Whole
 pub mod Laws

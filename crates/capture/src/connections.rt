@@ -16,11 +16,12 @@ use crate::direction::{
 };
 use crate::heard::Header;
 use crate::line::{Address, Host, Record};
+use crate::measures::{Measures, note_measures};
 use crate::sessions::{Sessions, note_session};
 use std::alloc::{AllocError, Global};
 use std::marker::Model;
 
-/// How many connections are kept, each in some 29 KiB.
+/// How many connections are kept, each in some 30 KiB.
 pub const CONNECTIONS: usize = 256;
 
 /// The two addresses of a channel, as in the first PDU on it.
@@ -49,6 +50,8 @@ pub struct Connection {
     pub from_high: Direction,
     /// Its sessions.
     pub sessions: Sessions,
+    /// What is measured of it.
+    pub measures: Measures,
 }
 
 impl Default for Connection {
@@ -407,6 +410,7 @@ fn open(low: u32, high: u32) -> Connection
         from_low: Direction::new(),
         from_high: Direction::new(),
         sessions: Sessions::new(),
+        measures: Measures::new(),
     }
 }
 
@@ -421,8 +425,8 @@ fn follow_in(
     // The remarks are those in the direction of the end that made the PDU, by what the other end said
     // (`connection_remarks`).
     ensures remarks { result ≡ connection_remarks connection.old line record.now seq header.now }
-    // The time, the channels, the direction of the PDU's end and the sessions change; the other direction does not
-    // (`connection_after`).
+    // The time, the channels, the direction of the PDU's end, the sessions and the measures change; the other direction
+    // does not (`connection_after`).
     ensures after { connection.new ≡ connection_after connection.old line record.now seq header.now }
 {
     connection.last = record.time;
@@ -442,6 +446,7 @@ fn follow_in(
         header.kind,
         &remarks,
     );
+    note_measures(&mut connection.measures, from_low, time, header, &remarks);
     remarks
 }
 

@@ -10,6 +10,7 @@
 mod belonging;
 mod connections;
 mod direction;
+mod distribution;
 mod file;
 mod following;
 mod frame;
@@ -18,6 +19,7 @@ mod instants;
 mod interfaces;
 mod law;
 mod line;
+mod measures;
 mod packets;
 mod places;
 mod ports;
@@ -31,6 +33,7 @@ pub use direction::{
     CHANNELS, Confirmation, DAMAGES, Damage, Direction, Peer, Place, Remarks, SessionOpening,
     Tally, follow_pdu, is_first_copy, silence,
 };
+pub use distribution::{CLASSES, Distribution, class};
 pub use file::{
     BLOCK_MAX, BlockContent, FileFault, FileForm, FilePart, Framed, INTERFACES, Recording,
     SKIPPED_AT_ONCE,
@@ -42,6 +45,7 @@ pub use instants::{Instant, Span, is_between, read_instant};
 pub use interfaces::{Interface, TimeOffset};
 pub use law::sums_law;
 pub use line::{Address, Buffer, Host, LineFault, PAYLOAD_ROOM, Record, read_line};
+pub use measures::{MOMENTS, Measured, Measures};
 pub use ports::{PortRange, Ports, RANGES, is_followed, read_ports};
 pub use sessions::{
     Asking, Parting, SESSIONS, Session, SessionTotals, Sessions, Side, add_up_sessions, alone,

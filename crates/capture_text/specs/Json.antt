@@ -1,5 +1,5 @@
 -- The sums as one JSON object in one line (RFC 8259). Times are microseconds since 1970, ages and waits milliseconds; docs/captures.md has the members.
-use Rattle.std.specs.Prelude.{ℕ, ◌+◌, nat_eq, List, [], ◌∷◌, ◌++◌, codes, slice_index, slice_index_or, if◌then◌else◌, Option, Some, None}
+use Rattle.std.specs.Prelude.{ℕ, ◌+◌, Bool, nat_eq, List, [], ◌∷◌, ◌++◌, codes, slice_index, slice_index_or, if◌then◌else◌, Option, Some, None}
 use Rattle.std.specs.Fmt.{decimal}
 use Rattle.std.specs.List.{flat_map}
 use Rattle.safe_pdu.specs.declared.Leaving.{Leaving}
@@ -18,6 +18,7 @@ use Rattle.capture.specs.Sessions.{session_sums}
 use Rattle.pdu_text.specs.Lines.{joined}
 use Rattle.capture_text.specs.declared.summary.CaptureCounts.{CaptureCounts}
 use Rattle.capture_text.specs.declared.summary.Scale.{Scale}
+use Rattle.capture_text.specs.AdviceJson.{end_json}
 use Rattle.capture_text.specs.Passing.{passed_json}
 use Rattle.capture_text.specs.Pieces.{address_text}
 use Rattle.capture_text.specs.Sentence.{longest_in, lost_on_all, oldest_in, up_of}
@@ -238,6 +239,6 @@ unfoldable pub all_json : Totals → CaptureCounts → List ℕ
 all_json t c =
     decimal c.datagrams ++ numbers_json t ++ counts_json c ++ passed_json c.passed ++ codes "},\"connections\":["
 
--- The whole object.
-unfoldable pub sums_json : Scale → List Connection → Totals → CaptureCounts → List ℕ
-sums_json s cs t c = scale_json s ++ all_json t c ++ connections_json cs ++ codes "]}\n"
+-- The whole object, with what is chosen for each connection if that is asked for (`true`).
+unfoldable pub sums_json : Scale → List Connection → Totals → CaptureCounts → Bool → List ℕ
+sums_json s cs t c choose = scale_json s ++ all_json t c ++ connections_json cs ++ end_json choose cs

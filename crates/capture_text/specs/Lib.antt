@@ -9,6 +9,10 @@ pub mod TableJson
 pub mod Sentence
 pub mod SummaryText
 pub mod Json
+pub mod Choosing
+pub mod Distributions
+pub mod Advice
+pub mod AdviceJson
 pub mod EventText
 pub mod FaultText
 pub mod Telegrams

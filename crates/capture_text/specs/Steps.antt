@@ -13,6 +13,7 @@ use Rattle.capture.specs.Instants.{is_within}
 use Rattle.capture.specs.Ports.{is_chosen}
 use Rattle.capture.specs.Whole.{connections_after, damaged_after, forgotten_after, gone_after, miscoded_after, remark_of, totals_of}
 use Rattle.std.specs.Io.BufRead.{ends_with_byte, strip_last}
+use Rattle.capture_text.specs.Advice.{advice_lines}
 use Rattle.capture_text.specs.Choice.{is_asked}
 use Rattle.capture_text.specs.EventText.{event_lines}
 use Rattle.capture_text.specs.FaultText.{fault_text}
@@ -197,15 +198,15 @@ counts_of datagrams damaged forgotten unreadable frames passed =
       passed = passed;
     }
 
--- The sums in this form.
-abbrev pub sums_in : OutputForm → Scale → List Connection → Totals → CaptureCounts → List ℕ
-sums_in Lines s cs t counts = summary_text s cs t counts
-sums_in Json s cs t counts = sums_json s cs t counts
-sums_in Events s cs t counts = sums_json s cs t counts
+-- The sums in this form, with distributions and settings if they are asked for (`true`).
+abbrev pub sums_in : OutputForm → Bool → Scale → List Connection → Totals → CaptureCounts → List ℕ
+sums_in Lines choose s cs t counts = summary_text s cs t counts ++ advice_lines choose cs
+sums_in Json choose s cs t counts = sums_json s cs t counts choose
+sums_in Events choose s cs t counts = sums_json s cs t counts choose
 
 -- The sums over all lines so far.
 abbrev pub course_text : Asked → Option ℕ → Totals → List Connection → CaptureCounts → List ℕ
-course_text a first gone cs counts = sums_in a.form (scale_from a (first_of first 0)) cs (totals_of gone cs) counts
+course_text a first gone cs counts = sums_in a.form a.choose (scale_from a (first_of first 0)) cs (totals_of gone cs) counts
 
 -- The line of a fault, if there is one.
 abbrev pub fault_lines : ℕ → Option LineFault → List ℕ

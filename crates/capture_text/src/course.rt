@@ -10,6 +10,7 @@ ghost use Rattle.capture_text.specs.FaultText.{fault_text, fault_word};
 ghost use Rattle.capture_text.specs.Passing.{no_passed, passed_behind};
 ghost use Rattle.capture_text.specs.Steps.{asked_telegrams, connections_behind, counts_of, course_text, damaged_behind, due_next, due_text, datagrams_behind, fault_in, first_behind, first_of, forgotten_behind, found_in, found_text, gone_behind, heard_chosen, heard_line, is_due, latest_behind, miscoded_behind, next_period, payload_in, scale_from, told_in, told_text, unreadable_behind};
 
+use crate::advice::write_advice;
 use crate::choice::{Remarkable, is_wanted};
 use crate::events::write_events;
 use crate::frames::{Skipped, first_with, skip};
@@ -59,6 +60,8 @@ pub struct Asked {
     pub span: Span,
     /// The sums so far are also printed each time that these seconds have passed in the recording; at least 1.
     pub every: Option<u32>,
+    /// Also prints the distributions of each connection, and the settings that fit it, with the sums.
+    pub choose: bool,
 }
 
 /// Why no datagram of a line is followed.
@@ -338,9 +341,13 @@ impl Course {
         let connections = self.following.connections.as_slice();
         let gone = self.following.gone;
         match asked.form {
-            OutputForm::Lines => write_summary(writer, scale, gone, connections, counts),
+            OutputForm::Lines => {
+                write_summary(writer, scale, gone, connections, counts)?;
+                write_advice(writer, asked.choose, connections)?;
+                Ok(())
+            }
             OutputForm::Json | OutputForm::Events => {
-                write_json(writer, scale, gone, connections, counts)
+                write_json(writer, scale, gone, connections, counts, asked.choose)
             }
         }
     }

@@ -6,6 +6,7 @@ ghost use Rattle.std.specs.Io.KnownBytes.{Appends};
 ghost use Rattle.capture.specs.Whole.{totals_of};
 ghost use Rattle.capture_text.specs.Json.{ages_json, all_json, both_json, came_json, channel_json, channels_json, coming_json, comma, connection_json, connections_json, counts_json, damaged_json, direction_json, directions_json, ends_json, greatest_json, high_json, kinds_json, known_channel_json, leaving_json, listed_channel_json, listed_json, losses_json, lost_json, low_json, more_json, name_json, near_json, numbers_json, opened_at_json, opened_json, opening_json, openings_json, others_json, parting_json, place_json, place_number_json, reasons_json, route_json, scale_json, sums_json, time_json, times_json, totals_in, up_json, whole_json, window_json};
 
+use crate::advice_json::write_end;
 use crate::passed::write_passed_json;
 use crate::pieces::write_address;
 use crate::sentence::{longest, oldest, on_all, up};
@@ -21,7 +22,7 @@ use std::io;
 use std::io::Write;
 
 /// Writes the sums as one JSON object in one line: those of all connections, then of each connection, with both
-/// directions and their channels.
+/// directions and their channels; and what is chosen for each, if that is asked for (`choose`).
 ///
 /// Times are microseconds since 1970, ages and waits milliseconds. A value that was not recorded is `null`.
 ///
@@ -35,16 +36,17 @@ pub fn write_json<W: Write>(
     gone: Totals,
     connections: &[Entry],
     counts: CaptureCounts,
+    choose: bool,
 ) -> io::Result<()>
-    // On success one object is appended: first time and T_max, the sums of all with the `counts`, and a list of the
-    // connections (`sums_json`).
+    // On success one object is appended: first time and T_max, the sums of all with the `counts`, a list of the
+    // connections, and if `choose` is true what is chosen for each (`sums_json`).
     ensures { OnOk result (Appends (W.contents writer.old) (W.contents writer.new)
-        (sums_json scale connections.now (totals_of gone connections.now) counts)) }
+        (sums_json scale connections.now (totals_of gone connections.now) counts choose)) }
 {
     write_scale(writer, scale)?;
     write_all(writer, sum_up(gone, connections), counts)?;
     write_connections(writer, connections)?;
-    write_text(writer, "]}\n")?;
+    write_end(writer, choose, connections)?;
     Ok(())
 }
 

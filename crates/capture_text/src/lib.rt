@@ -6,9 +6,13 @@
 //! blocks of a recording. std does not say what the reader under a `Take` holds afterwards.
 #![tactic(auto)]
 
+mod advice;
+mod advice_json;
 mod choice;
+mod choosing;
 mod course;
 mod dates;
+mod distributions;
 mod events;
 mod frames;
 mod json;

@@ -83,6 +83,7 @@ fn plain_following() -> FollowRequest<'static> {
         ports: None,
         json: false,
         events: false,
+        choose: false,
         times: FollowTimes {
             form: TimeForm::Since,
             span: Span {

@@ -78,6 +78,7 @@ fn accepts_the_words_of_follow(rt: HostRuntime) -> Result<(), Fail> {
         ports: None,
         json: false,
         events: false,
+        choose: false,
         times: FollowTimes {
             form: TimeForm::Since,
             span: Span {
@@ -108,6 +109,7 @@ fn accepts_the_words_of_follow(rt: HostRuntime) -> Result<(), Fail> {
         "46101-46102,5000",
         "--json",
         "--events",
+        "--choose",
         "--time",
         "utc",
         "--from",
@@ -134,6 +136,7 @@ fn accepts_the_words_of_follow(rt: HostRuntime) -> Result<(), Fail> {
             ports: read_ports(b"46101-46102,5000"),
             json: true,
             events: true,
+            choose: true,
             times: FollowTimes {
                 form: TimeForm::Utc,
                 span: Span {

@@ -28,6 +28,7 @@ asked_of f words =
       time = f.times.form;
       span = f.times.span;
       every = f.times.every;
+      choose = f.choose;
     }
 
 -- the same, if there are such words

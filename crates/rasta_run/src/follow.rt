@@ -58,6 +58,7 @@ fn ask_for(following: &FollowRequest<'_>) -> Option<Asked>
         time: following.times.form,
         span: following.times.span,
         every: following.times.every,
+        choose: following.choose,
     })
 }
 

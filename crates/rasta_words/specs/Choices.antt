@@ -14,7 +14,7 @@ use Rattle.safe_pdu.specs.declared.CodeLength.TheVariants.{Zero, Eight, Sixteen}
 use Rattle.rasta_words.specs.Times.{HasTimes}
 use Rattle.rasta_words.specs.declared.command_line.FollowRequest.{FollowRequest}
 
--- `--code N` of follow [--code N] [--events] [--every N] [--from INSTANT] [--iv HEX] [--json] [--messages] [--only WORD] [--ports PORTS] [--time FORM] [--t-max MS]
+-- `--code N` of follow [--choose] [--code N] [--events] [--every N] [--from INSTANT] [--iv HEX] [--json] [--messages] [--only WORD] [--ports PORTS] [--time FORM] [--t-max MS]
 -- [--to INSTANT] FILE
 abbrev pub chosen_code_rule : Rule
 chosen_code_rule = record (new_rule (codes "code")) { long = Some (codes "code") }
@@ -42,6 +42,10 @@ ports_rule = record (new_rule (codes "ports")) { long = Some (codes "ports") }
 -- `--json`, a flag
 abbrev pub json_rule : Rule
 json_rule = record (new_rule (codes "json")) { long = Some (codes "json"); action = Some SetTrue }
+
+-- `--choose`, a flag
+abbrev pub choose_rule : Rule
+choose_rule = record (new_rule (codes "choose")) { long = Some (codes "choose"); action = Some SetTrue }
 
 -- `--events`, a flag
 abbrev pub events_rule : Rule
@@ -79,9 +83,13 @@ ported_app = with_rule telling_app ports_rule
 abbrev pub summing_app : App
 summing_app = with_rule ported_app json_rule
 
+-- with `--choose`, too
+abbrev pub choosing_app : App
+choosing_app = with_rule summing_app choose_rule
+
 -- with `--events`, too
 abbrev pub eventful_app : App
-eventful_app = with_rule summing_app events_rule
+eventful_app = with_rule choosing_app events_rule
 
 -- `--time since|epoch|utc`
 abbrev pub times_rule : Rule
@@ -172,7 +180,7 @@ HasChoices rows f =
     × (is_flagged (first_of (codes "messages") rows) ≡ f.messages) × IsRemarkChosen (first_of (codes "only") rows) f.only
     × IsAgeChosen (first_of (codes "t-max") rows) f.t_max × (first_of (codes "file") rows ≡ Some f.file.now)
     × ArePortsChosen (first_of (codes "ports") rows) f.ports × (is_flagged (first_of (codes "json") rows) ≡ f.json)
-    × (is_flagged (first_of (codes "events") rows) ≡ f.events)
+    × (is_flagged (first_of (codes "events") rows) ≡ f.events) × (is_flagged (first_of (codes "choose") rows) ≡ f.choose)
     × HasTimes rows f.times
 
 -- no choices of `follow` have the values of these entries

@@ -96,6 +96,8 @@ pub struct FollowRequest<'a> {
     pub json: bool,
     /// `--events`: the events are printed as JSON objects, then the summary as with `--json`.
     pub events: bool,
+    /// `--choose`: distributions of times and the settings that fit are printed with the summary.
+    pub choose: bool,
     /// Which times are read, and how they are printed.
     pub times: FollowTimes,
 }

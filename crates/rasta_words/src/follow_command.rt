@@ -3,7 +3,7 @@
 ghost use Rattle.std.specs.Prelude.{◌≡◌, IfOk, false};
 ghost use Rattle.clap.specs.declared.Command.TheViews.{out-Command};
 ghost use Rattle.clap.specs.Words.{app_of};
-ghost use Rattle.rasta_words.specs.Choices.{beginning_app, chosen_app, bounded_app, follow_app, length_app, limited_app, only_app, ported_app, periodic_app, summing_app, telling_app, clocked_app, eventful_app};
+ghost use Rattle.rasta_words.specs.Choices.{beginning_app, choosing_app, chosen_app, bounded_app, follow_app, length_app, limited_app, only_app, ported_app, periodic_app, summing_app, telling_app, clocked_app, eventful_app};
 
 use clap::{Arg, ArgAction, Command};
 use std::alloc::{AllocError, Global};
@@ -87,12 +87,12 @@ fn clocked_command<'a>(alloc: Global) -> Result<Command<'a>, AllocError>
 /// Declares `follow` without times and its file.
 #[inline(never)]
 fn eventful_command<'a>(alloc: Global) -> Result<Command<'a>, AllocError>
-    // `eventful_command` declares the subcommand follow with the options of `summing_app` and the flag `--events`.
+    // `eventful_command` declares the subcommand follow with the options of `choosing_app` and the flag `--events`.
     ensures app { IfOk result (λ command. app_of command ≡ eventful_app) }
     // No argument that `eventful_command` declares is global.
     ensures local { IfOk result (λ command. (out-Command command).has_globals ≡ false) }
 {
-    let command = summing_command(alloc)?;
+    let command = choosing_command(alloc)?;
     let events = Arg::new(alloc, "events")
         .long("events")
         .action(ArgAction::SetTrue)
@@ -103,6 +103,24 @@ fn eventful_command<'a>(alloc: Global) -> Result<Command<'a>, AllocError>
 }
 
 /// Declares `follow` without `--events`, times and its file.
+#[inline(never)]
+fn choosing_command<'a>(alloc: Global) -> Result<Command<'a>, AllocError>
+    // `choosing_command` declares the subcommand follow with the options of `summing_app` and the flag `--choose`.
+    ensures app { IfOk result (λ command. app_of command ≡ choosing_app) }
+    // No argument that `choosing_command` declares is global.
+    ensures local { IfOk result (λ command. (out-Command command).has_globals ≡ false) }
+{
+    let command = summing_command(alloc)?;
+    let choose = Arg::new(alloc, "choose")
+        .long("choose")
+        .action(ArgAction::SetTrue)
+        .help(
+            "Also print how times are distributed, and the settings that fit this recording, with the reasons",
+        );
+    command.arg(choose)
+}
+
+/// Declares `follow` without `--choose`, `--events`, times and its file.
 #[inline(never)]
 fn summing_command<'a>(alloc: Global) -> Result<Command<'a>, AllocError>
     // `summing_command` declares the subcommand follow with the options of `ported_app` and the flag `--json`.

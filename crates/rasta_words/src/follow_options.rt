@@ -45,6 +45,7 @@ pub fn choices<'a>(entries: &ArgMatches<'a>) -> Result<FollowRequest<'a>, Reject
         ports,
         json: is_chosen(entry(entries, "json")),
         events: is_chosen(entry(entries, "events")),
+        choose: is_chosen(entry(entries, "choose")),
         times,
     })
 }

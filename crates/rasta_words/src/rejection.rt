@@ -119,7 +119,7 @@ const SHOW_USAGE: &str =
 
 /// The usage of `follow`.
 const FOLLOW_USAGE: &str =
-    "Usage: rasta follow [--code <0|8|16>] [--iv <iv>] [--json] [--events] [--messages] [--only <word>] [--ports <ports>] [--t-max <ms>] [--time <since|epoch|utc>] [--from <instant>] [--to <instant>] [--every <seconds>] <file>\n\nFor more information, try 'rasta follow --help'.";
+    "Usage: rasta follow [--code <0|8|16>] [--iv <iv>] [--json] [--events] [--choose] [--messages] [--only <word>] [--ports <ports>] [--t-max <ms>] [--time <since|epoch|utc>] [--from <instant>] [--to <instant>] [--every <seconds>] <file>\n\nFor more information, try 'rasta follow --help'.";
 
 /// The usage of `il`, `fe` and `pair`.
 const RUN_USAGE: &str =

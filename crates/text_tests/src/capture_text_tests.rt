@@ -146,6 +146,7 @@ fn asked(length: CodeLength, only: Option<Remarkable>) -> Asked {
             to: None,
         },
         every: None,
+        choose: false,
     }
 }
 

@@ -1,0 +1,88 @@
+-- The distributions and the settings that fit a recording, as JSON; docs/captures.md has the members.
+use Rattle.std.specs.Prelude.{ℕ, Bool, true, false, List, [], ◌∷◌, ◌++◌, codes, Option, Some, None}
+use Rattle.std.specs.Fmt.{decimal}
+use Rattle.std.specs.List.{flat_map}
+use Rattle.capture.specs.declared.connections.Connection.{Connection}
+use Rattle.capture.specs.declared.measures.Measures.{Measures}
+use Rattle.pdu_text.specs.Lines.{joined}
+use Rattle.capture_text.specs.Choosing.{chosen_by, delays_of, network_of}
+use Rattle.capture_text.specs.Distributions.{measured_json}
+use Rattle.capture_text.specs.declared.choosing.ChosenSettings.{ChosenSettings}
+use Rattle.capture_text.specs.declared.choosing.Delays.{Delays}
+use Rattle.capture_text.specs.declared.choosing.Network.{Network}
+
+-- The identifiers of a connection, and the begin of its distributions.
+unfoldable pub name_json : ℕ → ℕ → List ℕ
+name_json low high =
+    joined (codes "{\"low\":" ∷ decimal low ∷ codes ",\"high\":" ∷ decimal high ∷ codes ",\"times\":[" ∷ [])
+
+-- The distributions of both ends.
+unfoldable pub sides_json : Measures → List ℕ
+sides_json m = measured_json m.low ++ codes "," ++ measured_json m.high ++ codes "]"
+
+-- The PDUs, the losses in millionths and the units.
+unfoldable pub units_json : Network → List ℕ
+units_json n =
+    joined
+    (codes ",\"PDUs\":" ∷ decimal n.pdus ∷ codes ",\"lost\":" ∷ decimal n.lost ∷ codes ",\"units\":" ∷ decimal n.units ∷ [])
+
+-- Whether a time was seen.
+abbrev pub truth_word : Option ℕ → List ℕ
+truth_word None = codes "false"
+truth_word (Some time) = codes "true"
+
+-- What was seen of a network.
+unfoldable pub network_json : Network → List ℕ
+network_json n =
+    units_json n
+    ++ joined (codes ",\"round_trips_seen\":" ∷ truth_word n.shortest ∷ codes ",\"skews_seen\":" ∷ truth_word n.skew ∷ [])
+
+-- The times by which settings are chosen.
+unfoldable pub delays_json : Delays → List ℕ
+delays_json x = joined (codes ",\"difference\":" ∷ decimal x.difference ∷ codes ",\"delay\":" ∷ decimal x.delay ∷ [])
+
+-- The window, mwa and q.
+unfoldable pub window_json : ChosenSettings → List ℕ
+window_json s =
+    joined
+    (codes ",\"settings\":{\"n_sendmax\":" ∷ decimal s.window ∷ codes ",\"mwa\":" ∷ decimal s.mwa ∷ codes ",\"q\":" ∷ decimal s.q ∷ [])
+
+-- The settings, and the end of their object and of that of the connection.
+unfoldable pub settings_json : ChosenSettings → List ℕ
+settings_json s =
+    window_json s
+    ++ joined
+    (codes ",\"t_seq\":" ∷ decimal s.t_seq ∷ codes ",\"t_h\":" ∷ decimal s.t_h ∷ codes ",\"t_max\":" ∷ decimal s.t_max ∷ codes "}}" ∷ [])
+
+-- The settings, or null, at the end of a connection's object.
+abbrev pub chosen_json : Option ChosenSettings → List ℕ
+chosen_json None = codes ",\"settings\":null}"
+chosen_json (Some settings) = settings_json settings
+
+-- The object of a connection.
+unfoldable pub advice_json : Connection → List ℕ
+advice_json c =
+    name_json c.low c.high ++ sides_json c.measures ++ network_json (network_of c) ++ delays_json (delays_of (network_of c))
+    ++ chosen_json (chosen_by (delays_of (network_of c)))
+
+-- A connection after a comma.
+unfoldable pub listed_json : Connection → List ℕ
+listed_json c = codes "," ++ advice_json c
+
+-- Further connections, each after a comma.
+abbrev pub rest_json : List Connection → List ℕ
+rest_json cs = flat_map (λ c. listed_json c) cs
+
+-- All connections, separated by commas.
+abbrev pub list_json : List Connection → List ℕ
+list_json [] = []
+list_json (c ∷ cs) = advice_json c ++ rest_json cs
+
+-- The list of all connections, and the end of the object of all sums.
+unfoldable pub advices_json : List Connection → List ℕ
+advices_json cs = codes "],\"choosing\":[" ++ list_json cs ++ codes "]}\n"
+
+-- The end of the object of all sums; before it the list, if it is asked for.
+abbrev pub end_json : Bool → List Connection → List ℕ
+end_json true cs = advices_json cs
+end_json false cs = codes "]}\n"
