@@ -36,7 +36,7 @@ pub use file::{
 };
 pub use following::{Following, Remark, Totals, sum_up};
 pub use frame::{Found, Link, Passed, find_datagram};
-pub use heard::{Header, Heard, hear};
+pub use heard::{Header, Heard, hear, spell};
 pub use instants::{Instant, Span, is_between, read_instant};
 pub use interfaces::{Interface, TimeOffset};
 pub use law::sums_law;
