@@ -29,6 +29,8 @@ pub struct Queue {
     pub outside: u64,
     /// The number after the furthest one that has a partner.
     pub furthest: u64,
+    /// The place from which the next partner is sought: where the last one waited.
+    pub next: usize,
 }
 
 impl Queue {
@@ -44,15 +46,14 @@ impl Queue {
             alone: 0,
             outside: 0,
             furthest: 0,
+            next: 0,
         })
     }
 
-    /// Takes the oldest waiting datagram with a fingerprint.
+    /// Takes the next waiting datagram with a fingerprint: from the last partner on, then from the oldest.
     pub fn take(&mut self, fingerprint: u64) -> Option<Waiting> {
-        let place = self
-            .waiting
-            .iter()
-            .position(|waiting| waiting.fingerprint == fingerprint)?;
+        let place = place(self.waiting.as_slice(), self.next, fingerprint)?;
+        self.next = place;
         Some(self.waiting.remove(place))
     }
 
@@ -72,14 +73,23 @@ impl Queue {
         if self.waiting.len() < WAITING {
             return None;
         }
+        self.next = self.next.saturating_sub(1);
         Some(self.waiting.remove(0))
     }
+}
 
-    /// Takes the oldest datagram.
-    pub fn pop(&mut self) -> Option<Waiting> {
-        if self.waiting.is_empty() {
-            return None;
-        }
-        Some(self.waiting.remove(0))
+/// Returns the place of the next datagram with a fingerprint: from `next` on, then from the start.
+fn place(waiting: &[Waiting], next: usize, fingerprint: u64) -> Option<usize> {
+    let (front, back) = waiting.split_at(next.min(waiting.len()));
+    match place_of(back, fingerprint) {
+        Some(place) => Some(front.len() + place),
+        None => place_of(front, fingerprint),
     }
+}
+
+/// Returns the place of the first datagram with a fingerprint.
+fn place_of(waiting: &[Waiting], fingerprint: u64) -> Option<usize> {
+    waiting
+        .iter()
+        .position(|waiting| waiting.fingerprint == fingerprint)
 }
