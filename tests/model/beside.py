@@ -65,7 +65,7 @@ class Way:
         count, span = len(ordered), ordered[-1] - ordered[0]
         ranks = (count + 1) // 2, count - count // 100
         if origin == 'there':
-            return (-ordered[-1], *(max(0, ordered[-1] - self.quantile(ordered, count + 1 - rank) - WIDTH + 1) for rank in ranks), span)
+            return (-ordered[-1], *(max(0, ordered[-1] - self.quantile(ordered, count + 1 - rank) - (WIDTH - 1)) for rank in ranks), span)
         return (ordered[0], *(max(0, self.quantile(ordered, rank) - ordered[0]) for rank in ranks), span)
 
 

@@ -1,0 +1,5 @@
+pub mod Queues
+pub mod Sites
+pub mod Sums
+pub mod Delays
+pub mod Ways

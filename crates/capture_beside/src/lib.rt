@@ -1,9 +1,10 @@
 //! Two recordings of the same connections, taken at two places: which datagrams both have, which only one has, and
 //! how long they took in between.
 //!
-//! `Here` is the first recording and `There` the one beside it. Two datagrams are the same if they go the same way
-//! (source and destination) and have the same fingerprint of all their bytes; a repeated one is paired in order.
-//! Each way keeps the last 4,096 datagrams of each recording that have no partner yet.
+//! `Here` is the place of the first recording, `There` that of the one beside it. Two datagrams are the same if they
+//! go the same way (from one address to another) and all their bytes have the same fingerprint; that different bytes
+//! have different fingerprints is not proved, since one has only 64 bits. A datagram that came twice is paired in
+//! order. Of each way and recording the last `WAITING` datagrams wait for a partner.
 #![tactic(auto)]
 
 mod delays;
@@ -12,12 +13,16 @@ mod pairing;
 mod queue;
 mod reading;
 mod running;
+mod sites;
+mod sums;
 mod text;
 mod way;
 
-pub use delays::{BUCKETS, Delays, difference};
+pub use delays::{BUCKETS, Delays, MIDDLE, Spread, WIDTH};
 pub use pairing::{Pairing, WAYS};
 pub use queue::{Queue, WAITING, Waiting};
-pub use reading::{Counts, Extent};
+pub use reading::{Arrival, Counts};
 pub use running::{Request, run};
-pub use way::{Arrival, Site, Way};
+pub use sites::{EVEN, Extent, Site, difference, extend, is_outside};
+pub use sums::{Sums, Tally};
+pub use way::{Meeting, Way};

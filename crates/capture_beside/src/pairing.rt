@@ -1,8 +1,8 @@
 //! The pairing of two recordings that are read in step.
 
-use crate::delays::{EVEN, difference};
-use crate::reading::Extent;
-use crate::way::{Arrival, Site, Way};
+use crate::reading::Arrival;
+use crate::sites::{EVEN, Extent, Site, difference};
+use crate::way::Way;
 use capture::Address;
 use std::alloc::{AllocError, Global};
 
@@ -105,8 +105,8 @@ impl Pairing {
             .ways
             .iter()
             .position(|other| goes(other, way.destination, way.source))?;
-        let forth = way.delays.median()?;
-        let back = self.ways[back].delays.median()?;
+        let forth = median(way)?;
+        let back = median(&self.ways[back])?;
         if forth > back {
             Some(Site::Here)
         } else if forth < back {
@@ -118,11 +118,16 @@ impl Pairing {
 
     /// Returns `true` if no datagram is in both recordings.
     pub fn is_disjoint(&self) -> bool {
-        self.ways.iter().all(|way| way.both == 0)
+        self.ways.iter().all(|way| way.sums.both == 0)
     }
 }
 
 /// Returns `true` if a way goes from one address to another.
 pub(crate) fn goes(way: &Way, source: Address, destination: Address) -> bool {
     way.source == source && way.destination == destination
+}
+
+/// Returns the median of the differences of a way, or `None` without a pair.
+fn median(way: &Way) -> Option<u64> {
+    way.delays.median(way.sums.both)
 }

@@ -1,9 +1,8 @@
 //! A recording that is read datagram by datagram.
 
-use crate::delays::difference;
-use crate::way::{Arrival, Site};
+use crate::sites::{Extent, extend};
 use capture::{
-    BlockContent, Framed, Passed, Ports, Record, Recording, find_datagram, is_followed, spell,
+    Address, BlockContent, Framed, Passed, Ports, Record, Recording, find_datagram, is_followed, spell,
 };
 use capture_text::{
     FrameFault, Stop, is_whole, name_of_file_fault, read_whole, write_frame_fault,
@@ -11,13 +10,17 @@ use capture_text::{
 use std::alloc::Global;
 use std::io::{BufReader, Read, Write};
 
-/// When the frames of a recording were recorded.
+/// A recorded datagram.
 #[derive(Clone, Copy, Debug, PartialEq, Eq)]
-pub struct Extent {
-    /// The time of its first frame, in microseconds since 1970.
-    pub first: u64,
-    /// The time of its last frame.
-    pub last: u64,
+pub struct Arrival {
+    /// The address that sent it.
+    pub source: Address,
+    /// The address that it was sent to.
+    pub destination: Address,
+    /// The fingerprint of its bytes.
+    pub fingerprint: u64,
+    /// When it was recorded, in microseconds since 1970.
+    pub time: u64,
 }
 
 /// What was read of a recording.
@@ -60,35 +63,6 @@ pub(crate) enum Content {
     Other,
     /// A datagram that cannot be read.
     Unread(FrameFault),
-}
-
-/// Returns `true` if a datagram without a partner was recorded before the other recording begins or after it ends.
-pub(crate) fn is_outside(site: Site, time: u64, shift: u64, other: Option<Extent>) -> bool {
-    match other {
-        None => true,
-        Some(other) => match site {
-            Site::Here => {
-                shift < difference(time, other.first) || difference(time, other.last) < shift
-            }
-            Site::There => {
-                difference(other.first, time) < shift || shift < difference(other.last, time)
-            }
-        },
-    }
-}
-
-/// Returns the extent of a recording with one more frame.
-pub(crate) fn extended(extent: Option<Extent>, time: u64) -> Extent {
-    match extent {
-        None => Extent {
-            first: time,
-            last: time,
-        },
-        Some(extent) => Extent {
-            first: extent.first.min(time),
-            last: extent.last.max(time),
-        },
-    }
 }
 
 /// Reads a recording up to its next datagram that is paired.
@@ -158,7 +132,7 @@ fn take_frame<E: Write>(
 ) -> Result<(), Stop> {
     let counts = &mut reading.counts;
     counts.frames = counts.frames.saturating_add(1);
-    reading.extent = Some(extended(reading.extent, framed.time));
+    reading.extent = Some(extend(reading.extent, framed.time));
     let octets = &reading.block[framed.start..framed.end];
     match look(framed, octets, ports) {
         Content::Datagram(arrival) => {

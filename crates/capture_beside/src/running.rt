@@ -2,9 +2,9 @@
 
 use crate::json::write_json;
 use crate::pairing::Pairing;
-use crate::reading::{Counts, Extent, Reading, break_off, read_next};
+use crate::reading::{Counts, Reading, break_off, read_next};
+use crate::sites::{Extent, Site};
 use crate::text::write_lines;
-use crate::way::Site;
 use capture::{BlockContent, Ports, Recording};
 use capture_text::{
     FollowStatus, Stop, foreign, name_of_foreign, read_whole, status_after, stop_at_output,

@@ -1,9 +1,11 @@
 //! The result as lines.
 
-use crate::delays::{EVEN, Spread};
+use crate::delays::Spread;
 use crate::pairing::Pairing;
 use crate::reading::Counts;
-use crate::way::{Site, Way};
+use crate::sites::{EVEN, Site};
+use crate::sums::Sums;
+use crate::way::Way;
 use capture_text::{write_address, write_duration};
 use pdu_text::write_text;
 use std::io;
@@ -29,8 +31,8 @@ fn write_way<W: Write>(writer: &mut W, way: &Way, origin: Option<Site>) -> io::R
     write_text(writer, "->")?;
     write_address(writer, way.destination)?;
     write_text(writer, name_of_origin(origin))?;
-    write_pairs(writer, way)?;
-    match way.delays.spread(origin) {
+    write_pairs(writer, way.sums)?;
+    match way.delays.spread(origin, way.sums.both) {
         None => {}
         Some(spread) => write_spread(writer, spread)?,
     }
@@ -47,17 +49,17 @@ fn name_of_origin(origin: Option<Site>) -> &'static str {
 }
 
 /// Writes how many datagrams of a way which recording has.
-fn write_pairs<W: Write>(writer: &mut W, way: &Way) -> io::Result<()> {
-    let both = way.both;
-    let here = way.here.alone;
-    let there = way.there.alone;
-    let reordered = way.reordered;
+fn write_pairs<W: Write>(writer: &mut W, sums: Sums) -> io::Result<()> {
+    let both = sums.both;
+    let here = sums.here.alone;
+    let there = sums.there.alone;
+    let reordered = sums.reordered;
     write!(
         writer,
         " both {both} only here {here} only there {there} reordered {reordered}"
     )?;
-    let here = way.here.outside;
-    let there = way.there.outside;
+    let here = sums.here.outside;
+    let there = sums.there.outside;
     write!(writer, " outside here {here} there {there}")
 }
 
