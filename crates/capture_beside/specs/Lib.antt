@@ -3,3 +3,4 @@ pub mod Sites
 pub mod Sums
 pub mod Delays
 pub mod Ways
+pub mod Laws

@@ -1,5 +1,5 @@
 -- What becomes of the datagrams of a way, and what is counted of them.
-use Rattle.std.specs.Prelude.{◌≡◌, ℕ, ◌+◌, List, [], ◌∷◌, ◌++◌, length, slice_index_or, Option, Some, None}
+use Rattle.std.specs.Prelude.{ℕ, List, [], ◌∷◌, ◌++◌, slice_index_or, Option, Some, None}
 use Rattle.std.specs.List.{fold}
 use Rattle.capture_beside.specs.declared.queue.Queue.{Queue}
 use Rattle.capture_beside.specs.declared.queue.Waiting.{Waiting}

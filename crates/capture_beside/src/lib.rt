@@ -9,6 +9,7 @@
 
 mod delays;
 mod json;
+mod law;
 mod pairing;
 mod queue;
 mod reading;
@@ -19,6 +20,7 @@ mod text;
 mod way;
 
 pub use delays::{BUCKETS, Delays, MIDDLE, Spread, WIDTH};
+pub use law::counting_law;
 pub use pairing::{Pairing, WAYS};
 pub use queue::{Queue, WAITING, Waiting};
 pub use reading::{Arrival, Counts};
