@@ -25,7 +25,7 @@ mod window;
 mod words;
 mod wrapping;
 
-pub use connections::{CONNECTIONS, Connection, Connections, Entry, Route, follow};
+pub use connections::{CONNECTIONS, Connection, Connections, Entry, Route, follow, is_same};
 pub use direction::{
     CHANNELS, Confirmation, DAMAGES, Damage, Direction, Peer, Place, Remarks, SessionOpening,
     Tally, follow_pdu, is_first_copy, silence,

@@ -4,3 +4,7 @@ pub mod Sums
 pub mod Delays
 pub mod Ways
 pub mod Laws
+pub mod Counts
+pub mod Pairs
+pub mod Text
+pub mod Json

@@ -7,6 +7,7 @@
 //! order. Of each way and recording the last `WAITING` datagrams wait for a partner.
 #![tactic(auto)]
 
+mod counts;
 mod delays;
 mod json;
 mod law;
@@ -19,11 +20,11 @@ mod sums;
 mod text;
 mod way;
 
+pub use counts::Counts;
 pub use delays::{BUCKETS, Delays, MIDDLE, Spread, WIDTH};
 pub use law::counting_law;
-pub use pairing::{Pairing, WAYS};
+pub use pairing::{Arrival, Pairing, WAYS};
 pub use queue::{Queue, WAITING, Waiting};
-pub use reading::{Arrival, Counts};
 pub use running::{Request, run};
 pub use sites::{EVEN, Extent, Site, difference, extend, is_outside};
 pub use sums::{Sums, Tally};

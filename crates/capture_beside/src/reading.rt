@@ -1,40 +1,16 @@
 //! A recording that is read datagram by datagram.
 
+use crate::counts::Counts;
+use crate::pairing::Arrival;
 use crate::sites::{Extent, extend};
 use capture::{
-    Address, BlockContent, Framed, Passed, Ports, Record, Recording, find_datagram, is_followed, spell,
+    BlockContent, Framed, Passed, Ports, Record, Recording, find_datagram, is_followed, spell,
 };
 use capture_text::{
     FrameFault, Stop, is_whole, name_of_file_fault, read_whole, write_frame_fault,
 };
 use std::alloc::Global;
 use std::io::{BufReader, Read, Write};
-
-/// A recorded datagram.
-#[derive(Clone, Copy, Debug, PartialEq, Eq)]
-pub struct Arrival {
-    /// The address that sent it.
-    pub source: Address,
-    /// The address that it was sent to.
-    pub destination: Address,
-    /// The fingerprint of its bytes.
-    pub fingerprint: u64,
-    /// When it was recorded, in microseconds since 1970.
-    pub time: u64,
-}
-
-/// What was read of a recording.
-#[derive(Clone, Copy, Debug, PartialEq, Eq)]
-pub struct Counts {
-    /// How many frames it has.
-    pub frames: u64,
-    /// How many frames have a datagram that is paired.
-    pub datagrams: u64,
-    /// How many have a datagram of a chosen port that is no redundancy PDU.
-    pub strange: u64,
-    /// How many frames could not be read, and one more if the recording breaks off.
-    pub unreadable: u64,
-}
 
 /// A recording that is read.
 #[derive(Drop)]

@@ -1,8 +1,9 @@
 //! A run over two recordings, from their readers to the output.
 
+use crate::counts::Counts;
 use crate::json::write_json;
 use crate::pairing::Pairing;
-use crate::reading::{Counts, Reading, break_off, read_next};
+use crate::reading::{Reading, break_off, read_next};
 use crate::sites::{Extent, Site};
 use crate::text::write_lines;
 use capture::{BlockContent, Ports, Recording};
@@ -97,12 +98,7 @@ fn open<'a, R: Read, E: Write>(
         name,
         recording: Recording::new(),
         block: Vec::new(alloc),
-        counts: Counts {
-            frames: 0,
-            datagrams: 0,
-            strange: 0,
-            unreadable: 0,
-        },
+        counts: Counts::new(),
         extent: None,
         next: None,
     };
