@@ -648,7 +648,7 @@ fn count_damage(direction: &mut Direction, place: usize, damage: Option<Damage>)
 }
 
 /// Compares two addresses.
-fn is_same(one: Address, other: Address) -> bool
+pub fn is_same(one: Address, other: Address) -> bool
     // The addresses are the same if port and host are.
     ensures { result ≡ is_same_address one other }
 {

@@ -90,7 +90,7 @@ fn read_header(pdu: &SafePdu<'_>, octets: &[u8]) -> Header
 }
 
 /// Computes the fingerprint: the number that the bytes spell to a large base, after a leading 1 and modulo 2^64.
-fn spell(octets: &[u8]) -> u64
+pub fn spell(octets: &[u8]) -> u64
     // The fingerprint starts at 1 and takes in every byte in order (`fingerprint_of`).
     ensures { result ≡ fingerprint_of octets.now }
 {

@@ -28,7 +28,7 @@ mod window;
 mod words;
 mod wrapping;
 
-pub use connections::{CONNECTIONS, Connection, Connections, Entry, Route, follow};
+pub use connections::{CONNECTIONS, Connection, Connections, Entry, Route, follow, is_same};
 pub use direction::{
     CHANNELS, Confirmation, DAMAGES, Damage, Direction, Peer, Place, Remarks, SessionOpening,
     Tally, follow_pdu, is_first_copy, silence,
@@ -40,7 +40,7 @@ pub use file::{
 };
 pub use following::{Following, Remark, Totals, sum_up};
 pub use frame::{Found, Link, Passed, find_datagram};
-pub use heard::{Header, Heard, hear};
+pub use heard::{Header, Heard, hear, spell};
 pub use instants::{Instant, Span, is_between, read_instant};
 pub use interfaces::{Interface, TimeOffset};
 pub use law::sums_law;

@@ -35,9 +35,12 @@ pub use events::write_events;
 pub use frames::{FrameFault, write_frame_fault};
 pub use json::write_json;
 pub use passed::PassedOver;
-pub use pieces::{Clock, TimeForm};
+pub use pieces::{Clock, TimeForm, write_address, write_duration};
 pub use record::write_record;
 pub use remarks::write_remarks;
-pub use running::{FollowStatus, run};
+pub use running::{
+    FollowStatus, ForeignForm, Stop, foreign, is_whole, name_of_file_fault, name_of_foreign,
+    read_whole, run, status_after, stop_at_output,
+};
 pub use summary::{CaptureCounts, Scale, write_summary};
 pub use telegrams::write_telegrams;

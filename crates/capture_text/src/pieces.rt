@@ -57,7 +57,7 @@ fn write_difference<W: Write>(writer: &mut W, first: u64, time: u64) -> io::Resu
 
 /// Writes microseconds as seconds with six digits after the point.
 #[tactic(auto, unfolding(crate::specs::Pieces::duration_text))]
-pub(crate) fn write_duration<W: Write>(writer: &mut W, micros: u64) -> io::Result<()>
+pub fn write_duration<W: Write>(writer: &mut W, micros: u64) -> io::Result<()>
     // On success the whole seconds, a point, and six digits are appended.
     ensures { OnOk result (Appends (W.contents writer.old) (W.contents writer.new) (duration_text micros)) }
 {
@@ -144,7 +144,7 @@ fn spell(number: u64) -> [u8; 6]
 }
 
 /// Writes an address.
-pub(crate) fn write_address<W: Write>(writer: &mut W, address: Address) -> io::Result<()>
+pub fn write_address<W: Write>(writer: &mut W, address: Address) -> io::Result<()>
     // On success the host of `address`, IPv4 or IPv6, and its port are appended.
     ensures { OnOk result (Appends (W.contents writer.old) (W.contents writer.new) (address_text address)) }
 {

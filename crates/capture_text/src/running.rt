@@ -16,7 +16,7 @@ ghost use Rattle.capture_text.specs.FaultText.{all_miscoded, fault_text, faults_
 ghost use Rattle.capture_text.specs.FrameSteps.{payload_at};
 ghost use Rattle.capture_text.specs.Lines.{cut, lines_of};
 ghost use Rattle.capture_text.specs.Steps.{without_end};
-ghost use Rattle.capture_text.specs.Stops.{output_stop};
+ghost use Rattle.capture_text.specs.Stops.{output_stop, status_of};
 
 use crate::course::{Asked, Course, write_fault};
 use crate::frames::{FrameFault, write_frame_fault};
@@ -48,7 +48,7 @@ pub enum FollowStatus {
 
 /// The form of a file that is not followed.
 #[derive(Clone, Copy, Debug, PartialEq, Eq)]
-pub(crate) enum ForeignForm {
+pub enum ForeignForm {
     /// Compressed by gzip.
     Gzip,
     /// Compressed by zstd.
@@ -61,7 +61,7 @@ pub(crate) enum ForeignForm {
 
 /// Why a run stops early.
 #[derive(Clone, Copy, Debug, PartialEq, Eq)]
-pub(crate) enum Stop {
+pub enum Stop {
     /// An allocation failed.
     Memory,
     /// The reader failed.
@@ -84,7 +84,16 @@ pub fn run<R: Read + Drop, O: Write, E: Write>(
     out: &mut O,
     err: &mut E,
 ) -> FollowStatus {
-    match follow_input(alloc, reader, asked, out, err) {
+    status_after(follow_input(alloc, reader, asked, out, err))
+}
+
+/// Returns how a run ended that had so many faults, or stopped early.
+pub fn status_after(ended: Result<u64, Stop>) -> FollowStatus
+    // A run without a fault is `Done`, one with faults `Unreadable`; one that stopped has the status of its stop
+    // (`status_of`).
+    ensures { result ≡ status_of ended }
+{
+    match ended {
         Ok(0) => FollowStatus::Done,
         Ok(_) => FollowStatus::Unreadable,
         Err(Stop::Memory) => FollowStatus::Memory,
@@ -191,7 +200,7 @@ fn write_miscoded<E: Write>(miscoded: u64, err: &mut E) -> Result<(), Stop>
 }
 
 /// Returns the form of a file that is not followed, by its first four bytes.
-fn foreign(front: [u8; 4]) -> Option<ForeignForm>
+pub fn foreign(front: [u8; 4]) -> Option<ForeignForm>
     // Only a file of gzip, zstd, snoop, or modified pcap has a form; each begins with its own bytes (`foreign_of`).
     ensures { result ≡ foreign_of front }
 {
@@ -219,7 +228,7 @@ fn is_front(front: [u8; 4], wanted: [u8; 4]) -> bool
 }
 
 /// Returns why a file is not followed, and what to do with it.
-fn name_of_foreign(form: ForeignForm) -> &'static str
+pub fn name_of_foreign(form: ForeignForm) -> &'static str
     // Each `form` has its words, with a command that makes it readable (`foreign_word`).
     ensures { result.now ≡ foreign_word form }
 {
@@ -479,7 +488,7 @@ fn take_long<E: Write>(course: &mut Course, err: &mut E) -> Result<(), Stop>
 }
 
 /// Returns why a failed output stops a run.
-fn stop_at_output(error: &io::Error) -> Stop
+pub fn stop_at_output(error: &io::Error) -> Stop
     // An output that its reader has closed is `Unread`; any other failure is `Output` (`output_stop`).
     ensures { result ≡ output_stop (error_kind error.now) }
 {
@@ -522,7 +531,7 @@ fn tell<E: Write>(err: &mut E, number: u64, fault: LineFault) -> Result<(), Stop
 }
 
 /// Reads until the buffer is full or the reader ends, and returns how many bytes came.
-fn read_whole<R: Read>(reader: &mut R, buffer: &mut [u8]) -> Result<usize, Stop>
+pub fn read_whole<R: Read>(reader: &mut R, buffer: &mut [u8]) -> Result<usize, Stop>
     // The number of bytes is at most the length of the `buffer`.
     ensures { IfOk result (λ size. size ≤ length buffer.new) }
 {
@@ -649,7 +658,7 @@ fn end<E: Write>(course: &mut Course, part: FilePart, size: usize, err: &mut E) 
 }
 
 /// Returns `true` if a recording is whole that ends after so many bytes of this part.
-fn is_whole(part: FilePart, size: usize) -> bool
+pub fn is_whole(part: FilePart, size: usize) -> bool
     // Only before a record or a block, of which no byte came, a recording is whole (`is_whole_at`).
     ensures { result ≡ is_whole_at part size }
 {
@@ -684,7 +693,7 @@ fn give_up<E: Write>(course: &mut Course, why: &str, err: &mut E) -> Result<(), 
 }
 
 /// Returns the words of a recording's fault.
-fn name_of_file_fault(fault: FileFault) -> &'static str
+pub fn name_of_file_fault(fault: FileFault) -> &'static str
     // Each `fault` has its words (`file_fault_word`).
     ensures { result.now ≡ file_fault_word fault }
 {

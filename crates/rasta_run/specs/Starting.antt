@@ -1,4 +1,6 @@
--- How ends run for a request.
+-- How ends run for a request, and which file a name means.
+use Rattle.std.specs.Prelude.{List, codes, if◌then◌else◌, ℕ}
+use Rattle.std.specs.Str.{bytes_eq}
 use Rattle.rasta_run.specs.declared.net.Run.{Run}
 use Rattle.rasta_words.specs.declared.command_line.RunRequest.{RunRequest}
 
@@ -14,3 +16,7 @@ run_under r =
       keep = r.keep;
       counts = r.counts;
     }
+
+-- the path of a file: `-` is standard input
+abbrev pub path_to : List ℕ → List ℕ
+path_to file = if bytes_eq file (codes "-") then codes "/dev/stdin" else file

@@ -77,7 +77,7 @@ fn form(json: bool, events: bool) -> OutputForm
 }
 
 /// Prints the fault that stopped a run, and returns how the program ends.
-fn end<E: Write>(err: &mut E, ended: FollowStatus) -> Status
+pub(crate) fn end<E: Write>(err: &mut E, ended: FollowStatus) -> Status
     // `end` returns `Done` for a capture without fault and for an output that nobody reads any more, `Failed` for a
     // failed output, and else `Refused`.
     ensures { result ≡ end_of ended }

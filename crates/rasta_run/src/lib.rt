@@ -4,6 +4,7 @@
 //! script, a capture or a whole run over sockets, nor the order of the log; tests do.
 #![tactic(auto)]
 
+mod beside;
 mod calendar;
 mod check;
 mod counting;
@@ -43,6 +44,7 @@ mod undone;
 mod unopened;
 mod waiting;
 
+pub use beside::run_beside;
 pub use check::run_check;
 pub use counts::{ChannelCounts, Counted};
 pub use follow::run_follow;

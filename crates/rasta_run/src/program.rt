@@ -6,8 +6,9 @@ ghost use Rattle.rasta_words.specs.CommandLine.{rasta_app};
 ghost use Rattle.rasta_run.specs.Checked.{HasCheckedSome};
 ghost use Rattle.rasta_run.specs.Done.{DoneAs};
 ghost use Rattle.rasta_run.specs.Refusal.{EndsBy};
-ghost use Rattle.rasta_run.specs.Starting.{run_under};
+ghost use Rattle.rasta_run.specs.Starting.{path_to, run_under};
 
+use crate::beside::run_beside;
 use crate::check::run_check;
 use crate::follow::run_follow;
 use crate::scripts::run_sim;
@@ -76,20 +77,43 @@ fn run_script<R: AllocGlobal + Files, O: Write, E: Write>(
     }
 }
 
-/// Follows the capture of a file; for `-` that of standard input, `/dev/stdin`.
+/// Follows the capture of a file, or pairs it with another one.
 fn run_capture<R: AllocGlobal + Files, O: Write, E: Write>(
     rt: &R,
     following: &FollowRequest<'_>,
     out: &mut O,
     err: &mut E,
 ) -> Status {
-    let path = if following.file == "-" {
-        "/dev/stdin"
-    } else {
-        following.file
-    };
+    let path = path_of(following.file);
     match fs::open(rt, path) {
-        Ok(file) => run_follow(rt.alloc(), file, following, out, err),
+        Ok(file) => match following.beside {
+            None => run_follow(rt.alloc(), file, following, out, err),
+            Some(beside) => run_both(rt, file, following, beside, out, err),
+        },
+        Err(error) => refuse_file(path, &error, err),
+    }
+}
+
+/// Returns the path of a file; for `-` that of standard input, `/dev/stdin`.
+fn path_of(file: &str) -> &str
+    // `path_of` returns `/dev/stdin` for `-`, and any other name as it is.
+    ensures { result.now ≡ path_to file.now }
+{
+    if file == "-" { "/dev/stdin" } else { file }
+}
+
+/// Pairs the datagrams of an open recording with those of another one.
+fn run_both<R: AllocGlobal + Files, H: Read + Drop, O: Write, E: Write>(
+    rt: &R,
+    here: H,
+    following: &FollowRequest<'_>,
+    beside: &str,
+    out: &mut O,
+    err: &mut E,
+) -> Status {
+    let path = path_of(beside);
+    match fs::open(rt, path) {
+        Ok(there) => run_beside(rt.alloc(), here, there, following, beside, out, err),
         Err(error) => refuse_file(path, &error, err),
     }
 }

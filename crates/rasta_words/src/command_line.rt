@@ -100,6 +100,8 @@ pub struct FollowRequest<'a> {
     pub choose: bool,
     /// Which times are read, and how they are printed.
     pub times: FollowTimes,
+    /// `--beside`: the name of the recording whose datagrams are paired with those of the file.
+    pub beside: Option<&'a str>,
 }
 
 /// The times of a recorded connection that is analysed.

@@ -3,7 +3,7 @@
 ghost use Rattle.std.specs.Prelude.{◌≡◌, IfOk, false};
 ghost use Rattle.clap.specs.declared.Command.TheViews.{out-Command};
 ghost use Rattle.clap.specs.Words.{app_of};
-ghost use Rattle.rasta_words.specs.Choices.{beginning_app, choosing_app, chosen_app, bounded_app, follow_app, length_app, limited_app, only_app, ported_app, periodic_app, summing_app, telling_app, clocked_app, eventful_app};
+ghost use Rattle.rasta_words.specs.Choices.{beginning_app, choosing_app, chosen_app, bounded_app, follow_app, length_app, limited_app, only_app, ported_app, paired_app, periodic_app, summing_app, telling_app, clocked_app, eventful_app};
 
 use clap::{Arg, ArgAction, Command};
 use std::alloc::{AllocError, Global};
@@ -11,13 +11,13 @@ use std::alloc::{AllocError, Global};
 /// Declares `follow`.
 #[inline(never)]
 pub fn follow_command<'a>(alloc: Global) -> Result<Command<'a>, AllocError>
-    // `follow_command` declares the subcommand `follow` with the options of `periodic_app` and the required
+    // `follow_command` declares the subcommand `follow` with the options of `paired_app` and the required
     // argument `file`.
     ensures app { IfOk result (λ command. app_of command ≡ follow_app) }
     // No argument that `follow_command` declares is global.
     ensures local { IfOk result (λ command. (out-Command command).has_globals ≡ false) }
 {
-    let command = periodic_command(alloc)?;
+    let command = paired_command(alloc)?;
     let file = Arg::new(alloc, "file").required(true).help(
         "Capture file, or - for standard input: pcap, pcapng, or the output of `tshark -T fields -e frame.time_epoch -e ip.src -e udp.srcport -e ip.dst -e udp.dstport -e udp.payload`",
     );
@@ -25,6 +25,21 @@ pub fn follow_command<'a>(alloc: Global) -> Result<Command<'a>, AllocError>
 }
 
 /// Declares `follow` without its file.
+#[inline(never)]
+fn paired_command<'a>(alloc: Global) -> Result<Command<'a>, AllocError>
+    // `paired_command` declares the subcommand `follow` with the options of `periodic_app` and `--beside`.
+    ensures app { IfOk result (λ command. app_of command ≡ paired_app) }
+    // No argument that `paired_command` declares is global.
+    ensures local { IfOk result (λ command. (out-Command command).has_globals ≡ false) }
+{
+    let command = periodic_command(alloc)?;
+    let beside = Arg::new(alloc, "beside").long("beside").help(
+        "Pair its datagrams with those of this recording, taken at another place, and print what was lost in between and how long it took; only --ports and --json go with it",
+    );
+    command.arg(beside)
+}
+
+/// Declares `follow` without `--beside` and its file.
 #[inline(never)]
 fn periodic_command<'a>(alloc: Global) -> Result<Command<'a>, AllocError>
     // `periodic_command` declares the subcommand `follow` with the options of `bounded_app` and `--every`.

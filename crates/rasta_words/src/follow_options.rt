@@ -9,6 +9,7 @@ ghost use Rattle.capture.specs.declared.ports.PortRange.{PortRange};
 ghost use Rattle.rasta_words.specs.Choices.{ArePortsChosen, HasChoices, HasNoChoices, IsAgeChosen, IsCodeChosen, IsMilliseconds, IsRemarkChosen};
 
 use crate::command_line::FollowRequest;
+use crate::beside_options::chosen_recording;
 use crate::entries::{code_length, entry, is_chosen};
 use crate::follow_times::chosen_times;
 use crate::rejection::{Choice, Rejection};
@@ -18,7 +19,7 @@ use clap::ArgMatches;
 use safe_pdu::CodeLength;
 
 /// Returns the choices of the entries of `follow`. The options are read in the order `--code`, `--only`, `--t-max`,
-/// `--ports`, then those of times.
+/// `--ports`, those of times, then `--beside`.
 pub fn choices<'a>(entries: &ArgMatches<'a>) -> Result<FollowRequest<'a>, Rejection<'a>>
     // The choices that `choices` returns have the values of the entries.
     ensures found { IfOk result (HasChoices (rows_of (found_of entries.now))) }
@@ -35,6 +36,7 @@ pub fn choices<'a>(entries: &ArgMatches<'a>) -> Result<FollowRequest<'a>, Reject
     };
     let ports = chosen_ports(entry(entries, "ports"))?;
     let times = chosen_times(entries)?;
+    let beside = chosen_recording(entries, file)?;
     Ok(FollowRequest {
         code,
         iv: entry(entries, "iv"),
@@ -47,6 +49,7 @@ pub fn choices<'a>(entries: &ArgMatches<'a>) -> Result<FollowRequest<'a>, Reject
         events: is_chosen(entry(entries, "events")),
         choose: is_chosen(entry(entries, "choose")),
         times,
+        beside,
     })
 }
 

@@ -56,6 +56,13 @@ pub enum Rejection<'a> {
     TwoLengths,
     /// `--every` is given without `--stats`.
     EveryAlone,
+    /// An option is given with `--beside` that does not go with it.
+    NotBeside {
+        /// The name of the option, without dashes.
+        option: &'static str,
+    },
+    /// Both recordings are standard input.
+    OneInput,
     /// A subcommand or a required argument is missing. clap reports that itself, so this is never printed.
     Missing,
 }
@@ -119,7 +126,7 @@ const SHOW_USAGE: &str =
 
 /// The usage of `follow`.
 const FOLLOW_USAGE: &str =
-    "Usage: rasta follow [--code <0|8|16>] [--iv <iv>] [--json] [--events] [--choose] [--messages] [--only <word>] [--ports <ports>] [--t-max <ms>] [--time <since|epoch|utc>] [--from <instant>] [--to <instant>] [--every <seconds>] <file>\n\nFor more information, try 'rasta follow --help'.";
+    "Usage: rasta follow [--code <0|8|16>] [--iv <iv>] [--json] [--events] [--choose] [--messages] [--only <word>] [--ports <ports>] [--t-max <ms>] [--time <since|epoch|utc>] [--from <instant>] [--to <instant>] [--every <seconds>] [--beside <recording>] <file>\n\nFor more information, try 'rasta follow --help'.";
 
 /// The usage of `il`, `fe` and `pair`.
 const RUN_USAGE: &str =
@@ -150,6 +157,14 @@ impl fmt::Display for Rejection<'_> {
             Rejection::EveryAlone => write!(
                 f,
                 "error: '--every' requires '--stats'\n\n{RUN_USAGE}"
+            ),
+            Rejection::NotBeside { option } => write!(
+                f,
+                "error: '--{option}' does not go with '--beside'\n\n{FOLLOW_USAGE}"
+            ),
+            Rejection::OneInput => write!(
+                f,
+                "error: only one of both recordings can be standard input\n\n{FOLLOW_USAGE}"
             ),
             Rejection::Missing => write!(f, "error: an argument is missing\n\n{USAGE}"),
         }

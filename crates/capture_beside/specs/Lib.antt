@@ -1,0 +1,10 @@
+pub mod Queues
+pub mod Sites
+pub mod Sums
+pub mod Delays
+pub mod Ways
+pub mod Laws
+pub mod Counts
+pub mod Pairs
+pub mod Text
+pub mod Json

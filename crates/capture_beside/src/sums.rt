@@ -1,0 +1,162 @@
+//! What is counted of a way.
+
+ghost use Rattle.std.specs.Prelude.{◌≡◌};
+ghost use Rattle.capture_beside.specs.Sites.{difference_of};
+ghost use Rattle.capture_beside.specs.Sums.{arrived_of, given_up, left_alone, no_sums, no_tally, numbered, paired, reached, recorded_at, shift_from, with_recorded};
+
+use crate::queue::Waiting;
+use crate::sites::{Extent, Site, difference, is_outside};
+
+/// What a recording has of a way.
+#[derive(Clone, Copy, Debug, PartialEq, Eq)]
+pub struct Tally {
+    /// How many datagrams were recorded.
+    pub recorded: u64,
+    /// How many are missing in the other recording.
+    pub alone: u64,
+    /// How many were recorded before the other recording begins or after it ends.
+    pub outside: u64,
+    /// The number after the furthest one that has a partner.
+    pub furthest: u64,
+}
+
+/// What both recordings have of a way.
+#[derive(Clone, Copy, Debug, PartialEq, Eq)]
+pub struct Sums {
+    /// What the recording here has.
+    pub here: Tally,
+    /// What the recording there has.
+    pub there: Tally,
+    /// How many are in both recordings.
+    pub both: u64,
+    /// How many of those came behind one that was sent later.
+    pub reordered: u64,
+    /// The difference of the last pair.
+    pub shift: Option<u64>,
+}
+
+impl Tally {
+    /// Returns a tally without datagrams.
+    fn new() -> Self
+        // All counts are 0.
+        ensures { result ≡ no_tally }
+    {
+        Tally {
+            recorded: 0,
+            alone: 0,
+            outside: 0,
+            furthest: 0,
+        }
+    }
+
+    /// Counts a datagram as recorded, and returns it with its number.
+    fn note(&mut self, fingerprint: u64, time: u64) -> Waiting
+        // The result has the number of datagrams that were recorded before.
+        ensures arrived { result ≡ numbered fingerprint time self.old.recorded }
+        // Only the count of recorded datagrams grows, by 1.
+        ensures tally { self.new ≡ with_recorded self.old }
+    {
+        let number = self.recorded;
+        self.recorded = number.saturating_add(1);
+        Waiting {
+            fingerprint,
+            time,
+            number,
+        }
+    }
+
+    /// Counts a datagram that has no partner.
+    fn leave(&mut self, is_outside: bool)
+        // Only the count of those outside grows by 1 if it is one of them, else only that of the missing ones.
+        ensures { self.new ≡ left_alone is_outside self.old }
+    {
+        if is_outside {
+            self.outside = self.outside.saturating_add(1);
+        } else {
+            self.alone = self.alone.saturating_add(1);
+        }
+    }
+
+    /// Counts the number of a datagram that has a partner.
+    fn reach(&mut self, number: u64)
+        // The furthest number is at least the one after this `number`.
+        ensures { self.new ≡ reached number self.old }
+    {
+        self.furthest = self.furthest.max(number.saturating_add(1));
+    }
+}
+
+impl Sums {
+    /// Returns sums without datagrams.
+    pub fn new() -> Self
+        // All counts are 0, and there is no last pair.
+        ensures { result ≡ no_sums }
+    {
+        Sums {
+            here: Tally::new(),
+            there: Tally::new(),
+            both: 0,
+            reordered: 0,
+            shift: None,
+        }
+    }
+
+    /// Counts a datagram as recorded, and returns it with its number.
+    pub fn note(&mut self, site: Site, fingerprint: u64, time: u64) -> Waiting
+        // The result has the number of datagrams that the site recorded before.
+        ensures arrived { result ≡ arrived_of site fingerprint time self.old }
+        // Only the count of recorded datagrams of this site grows, by 1 (`recorded_at`).
+        ensures sums { self.new ≡ recorded_at site self.old }
+    {
+        match site {
+            Site::Here => self.here.note(fingerprint, time),
+            Site::There => self.there.note(fingerprint, time),
+        }
+    }
+
+    /// Counts a pair, and returns its difference.
+    pub fn pair(&mut self, here: Waiting, there: Waiting) -> u64
+        // The result is the difference of the times of both.
+        ensures difference { result ≡ difference_of here.time there.time }
+        // The pair is counted, also as reordered if one of both comes behind a later one that has a partner
+        // (`paired`).
+        ensures sums { self.new ≡ paired here there self.old }
+    {
+        let difference = difference(here.time, there.time);
+        if here.number < self.here.furthest || there.number < self.there.furthest {
+            self.reordered = self.reordered.saturating_add(1);
+        }
+        self.both = self.both.saturating_add(1);
+        self.here.reach(here.number);
+        self.there.reach(there.number);
+        self.shift = Some(difference);
+        difference
+    }
+
+    /// Returns the sums with one more datagram that has no partner. `shift` is the difference of the clocks before the
+    /// first pair of the way, `other` what is read of the other recording.
+    pub fn without(self, site: Site, gone: Waiting, shift: u64, other: Option<Extent>) -> Self
+        // The datagram is counted as outside of the other recording if it is, else as missing there (`given_up`).
+        ensures { result ≡ given_up site gone shift other self }
+    {
+        let shift = shift_of(self.shift, shift);
+        let is_outside = is_outside(site, gone.time, shift, other);
+        let mut sums = self;
+        match site {
+            Site::Here => sums.here.leave(is_outside),
+            Site::There => sums.there.leave(is_outside),
+        }
+        sums
+    }
+}
+
+/// Returns the difference of the clocks: that of the last pair of a way, or else of all ways.
+fn shift_of(own: Option<u64>, shift: u64) -> u64
+    // The result is `own` if there is one, else `shift`.
+    ensures { result ≡ shift_from own shift }
+{
+    match own {
+        None => shift,
+        Some(own) => own,
+    }
+}
