@@ -1,7 +1,6 @@
 -- One channel over UDP: what a send and a reception do with its socket.
 use Rattle.std.specs.Prelude.{◌≡◌, ◌≢◌, ℕ, ◌==◌, None, Result, Ok, Err, List, [], ◌∷◌, length, take, if◌then◌else◌}
 use Rattle.std.specs.declared.io.Error.{Error}
-use Rattle.std.specs.Borrow.{unit}
 use Rattle.std.specs.IoError.{error_kind, raw_os_error}
 use Rattle.std.specs.declared.io.ErrorKind.TheVariants.{WouldBlock}
 use Rattle.std.specs.declared.net.socket_addr.SocketAddr.{SocketAddr}
@@ -22,7 +21,7 @@ fault_of error = record { error = raw_os_error error }
 
 -- a send of a datagram of this size succeeds if the system took all of it
 abbrev pub sent_whole : Result ℕ Error → ℕ → Result (Unit {0}) CallFault
-sent_whole (Ok size) whole = if size == whole then Ok unit else Err (record { error = None })
+sent_whole (Ok size) whole = if size == whole then Ok tt else Err (record { error = None })
 sent_whole (Err why) whole = Err (fault_of why)
 
 -- a send on a path

@@ -1,4 +1,4 @@
-use Rattle.std.proofs.Common.{rules, search}
+use Rattle.std.proofs.Common.{rules}
 use Rattle.udp_channels.proofs.Asking.{sends-on}
 use Rattle.udp_channels.proofs.sockets.tell.Goals as goal
 
@@ -6,4 +6,4 @@ pub returns-in-Ok-clause-sent : goal.returns-in-Ok-clause-sent
 returns-in-Ok-clause-sent g c = sends-on c.args.list.now _ c.if-channel-eq0.false c.if-channel-list.false (search rules) c.send.ensures
 
 pub returns-in-Err-clause-sent : goal.returns-in-Err-clause-sent
-returns-in-Err-clause-sent g t c = sends-on c.args.list.now _ c.if-channel-eq0.false c.if-channel-list.false (search rules) c.send.ensures
+returns-in-Err-clause-sent t c = sends-on c.args.list.now _ c.if-channel-eq0.false c.if-channel-list.false (search rules) c.send.ensures
