@@ -50,7 +50,7 @@ pub use header::{Header, header_of};
 pub use net::{Run, run_net};
 pub use program::{run, run_words};
 pub use recorded_channels::RecordedChannels;
-pub use recorder::Recorder;
+pub use recorder::{Recorder, Wanted};
 pub use scripts::run_sim;
 pub use settings::{SETTINGS_MAX, refuse_long};
 pub use show::{run_md4, run_show};

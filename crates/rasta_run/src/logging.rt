@@ -15,6 +15,7 @@ ghost use Rattle.rasta_run.specs.Noticing.{notice_line};
 ghost use Rattle.rasta_run.specs.Failing.{all_seen, notice_at, seen_at};
 ghost use Rattle.rasta_run.specs.declared.failing.Call.TheVariants as Call;
 ghost use Rattle.rasta_run.specs.Telling as telling;
+ghost use Rattle.end_settings.specs.Configured.{settings_of};
 ghost use Rattle.stack_end.specs.EndValue.{inside};
 
 use crate::events::{
@@ -31,7 +32,7 @@ use crate::stamping::{write_stamped, zero_of};
 use crate::{Counted, Recorder};
 use arrayvec::ArrayVec;
 use channels::Channels;
-use end_settings::Side;
+use end_settings::{EndConfig, Side};
 use octets::Milliseconds;
 use octets::limits::CHANNELS_MAX;
 use pdu_text::{
@@ -42,6 +43,7 @@ use rasta_words::{LogLevel, LogTime};
 use safe_machine::ConnectionState;
 use safe_pdu::Kind;
 use settings_file::Settings;
+use settings_text::write_expected;
 use stack_end::{End, Statistics};
 use std::alloc::Allocator;
 use std::io;
@@ -223,6 +225,7 @@ impl Log {
         &mut self,
         recorder: &Recorder,
         departure: Option<Departure>,
+        config: &EndConfig,
         now: Milliseconds,
         err: &mut E,
     )
@@ -245,6 +248,7 @@ impl Log {
                         happening,
                         departure,
                         recorder.last_data.as_slice(),
+                        config,
                         now,
                         err,
                     );
@@ -271,12 +275,13 @@ impl Log {
     }
 
     /// Logs one event, after the one that explains it. If that is a fault of the session, the messages of the last Data
-    /// follow.
+    /// follow, and what these settings expect in them.
     fn tell_explained<E: Write>(
         &mut self,
         happening: Happening,
         departure: Option<Departure>,
         last: &[u8],
+        config: &EndConfig,
         now: Milliseconds,
         err: &mut E,
     )
@@ -290,27 +295,34 @@ impl Log {
     {
         if let Some(explanation) = explanation_of(happening, departure) {
             let _ = self.tell(explanation, now, err);
-            let _ = self.show_data(explanation, last, err);
+            let _ = self.show_data(explanation, last, config, err);
         }
         let _ = self.tell(happening, now, err);
     }
 
-    /// Writes the messages of a Data, as `rasta show` does, if the event is that the end disconnects for a fault of the
-    /// session, and is logged.
+    /// Writes the messages of a Data, as `rasta show` does, and what these settings expect in them, if the event is that
+    /// the end disconnects for a fault of the session, and is logged.
     ///
     /// # Errors
     ///
     /// - The error of the writer; what it wrote before stays written.
-    fn show_data<E: Write>(&self, event: Happening, last: &[u8], err: &mut E) -> io::Result<()>
-        // If `show_data` succeeds, it has appended the lines of the messages for such an event, and else nothing.
+    fn show_data<E: Write>(
+        &self,
+        event: Happening,
+        last: &[u8],
+        config: &EndConfig,
+        err: &mut E,
+    ) -> io::Result<()>
+        // If `show_data` succeeds, it has appended the lines of the messages and of the settings for such an event, and
+        // else nothing.
         ensures { OnOk result (Appends (E.contents err.old) (E.contents err.new)
-            (telling.data_lines (telling.is_session_fault event && (not self.now.is_quiet && not (telling.is_off self.now.level))) last.now self.now.code)) }
+            (telling.data_lines (telling.is_session_fault event && (not self.now.is_quiet && not (telling.is_off self.now.level)))
+            last.now self.now.code self.now.side (settings_of config.now))) }
     {
         if self.is_quiet || self.is_off() || !is_session_fault(event) {
             return write_text(err, "");
         }
-        let _clean = show_body(err, Kind::Data, body_of(last, self.code))?;
-        Ok(())
+        write_mismatch(err, body_of(last, self.code), self.side, config)
     }
 
     /// Logs one event, if the level includes it. At the level of states each cause for dropping is logged once, and
@@ -746,4 +758,20 @@ impl Log {
             LogLevel::State | LogLevel::All => false,
         }
     }
+}
+
+/// Writes the messages in the body of a Data, and what an end with these settings expects in them.
+#[tactic(auto, unfolding(crate::specs::Telling::mismatch_lines))]
+fn write_mismatch<W: Write>(
+    writer: &mut W,
+    body: &[u8],
+    side: Side,
+    config: &EndConfig,
+) -> io::Result<()>
+    // If `write_mismatch` succeeds, it has appended the lines of the messages, and those of the settings.
+    ensures { OnOk result (Appends (W.contents writer.old) (W.contents writer.new)
+        (telling.mismatch_lines body.now side (settings_of config.now))) }
+{
+    let _clean = show_body(writer, Kind::Data, body)?;
+    write_expected(writer, side, config)
 }

@@ -180,7 +180,8 @@ impl<'a, C: Channels, A: Allocator + Copy> Actor<'a, C, A> {
         let departure = self.log.departure(&self.end);
         let counted = self.counted();
         let recorder = &self.end.channels_seen().recorder;
-        self.log.catch_up(recorder, departure, now, err);
+        let config = &self.keeper.config;
+        self.log.catch_up(recorder, departure, config, now, err);
         self.log.look(&counted.sums, now, err);
         self.log.look_at_calls(&counted, now, err);
         let _ = self.log.look_at_request(self.end.state(), now, err);
