@@ -48,8 +48,8 @@ pub fn header_of(datagram: &[u8]) -> Option<Header>
 
 /// Returns the length of the safety code in bytes, if type and length of the datagram tell it.
 fn code_of(datagram: &[u8]) -> Option<u64>
-    // `code_of` returns the length of what is left after both headers and the body, for a type whose bodies have all the
-    // same length, if it is one that a safety code can have, and else `None`.
+    // `code_of` returns what is left after both headers and a body of the type's length, if that is 0, 8 or 16 bytes, and
+    // else `None`.
     ensures { result ≡ code_seen datagram.now }
 {
     let body = match kind_of(datagram) {
