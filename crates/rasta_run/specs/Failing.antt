@@ -8,7 +8,6 @@ use Rattle.rasta_run.specs.declared.noticing.Notice.TheVariants.{CallsFail, Call
 use Rattle.rasta_run.specs.declared.failing.Call.{Call}
 use Rattle.rasta_run.specs.declared.failing.Call.TheVariants as call
 use Rattle.rasta_run.specs.declared.failing.Failing.{Failing}
-use Rattle.stack_end.specs.Statistics.{none_received}
 use Rattle.udp_channels.specs.Sockets.{ChannelState, failures_of, no_failures}
 use Rattle.udp_channels.specs.declared.sockets.CallFault.{CallFault}
 use Rattle.udp_channels.specs.declared.sockets.FailedCalls.{FailedCalls}
@@ -23,21 +22,26 @@ abbrev pub all_failures : {S : Type 0} → List (ChannelState S) → List Failur
 all_failures channels =
     failures_at channels 1 ∷ failures_at channels 2 ∷ failures_at channels 3 ∷ failures_at channels 4 ∷ []
 
--- no call was made, and none has failed
+-- no call has succeeded or failed
 abbrev pub untried : ℕ → Failing
-untried at = record { done = 0; failed = 0; at = at; before = 0; is_failing = false }
+untried at = record { done = None; failed = 0; at = at; before = 0; is_failing = false }
 
--- calls no longer fail: a datagram has gone or come, and no call has failed for longer than T_max
-abbrev pub has_recovered : Failing → (done now t_max : ℕ) → Bool
-has_recovered s done now t_max = s.is_failing && (not (nat_eq done s.done) && nat_lt t_max (now - s.at))
+-- a call was made since this many had succeeded: each turn makes one, or the number is another
+abbrev pub is_tried : (done before : Option ℕ) → Bool
+is_tried None before = true
+is_tried (Some done) None = true
+is_tried (Some done) (Some before) = not (nat_eq done before)
+
+-- calls no longer fail: one was tried, and none has failed for longer than T_max
+abbrev pub has_recovered : Failing → (done : Option ℕ) → (now t_max : ℕ) → Bool
+has_recovered s done now t_max = s.is_failing && (is_tried done s.done && nat_lt t_max (now - s.at))
 
 -- the number of calls that had failed before these began to fail
 abbrev pub failed_before : Failing → ℕ
 failed_before s = if s.is_failing then s.before else s.failed
 
--- the calls of a channel after a look at how many datagrams have gone or come and how many calls failed: one more has failed, or they no longer fail, or
--- neither
-abbrev pub seen : Failing → (done failed now t_max : ℕ) → Failing
+-- the calls of a channel after a look at how many succeeded and how many failed: one more has failed, or they no longer fail, or neither
+abbrev pub seen : Failing → (done : Option ℕ) → (failed now t_max : ℕ) → Failing
 seen s done failed now t_max =
     if nat_eq failed s.failed
     then (if has_recovered s done now t_max then record s { is_failing = false } else s)
@@ -59,10 +63,10 @@ change_notice false false kind channel failed last = None
 abbrev pub notice_of : Failing → Failing → Call → (channel : ℕ) → Option CallFault → Option Notice
 notice_of s t kind channel last = change_notice s.is_failing t.is_failing kind channel (t.failed - t.before) last
 
--- how many datagrams have gone or come on the channel at a place
-abbrev pub done_at : Call → Counted → (place : ℕ) → ℕ
-done_at call.Send c place = (slice_index_or c.channels place no_datagrams).sent
-done_at call.Receive c place = (slice_index_or c.sums.channels place none_received).received
+-- how many calls succeeded on the channel at a place; an end asks each channel in every turn
+abbrev pub done_at : Call → Counted → (place : ℕ) → Option ℕ
+done_at call.Send c place = Some (slice_index_or c.channels place no_datagrams).sent
+done_at call.Receive c place = None
 
 -- the calls that failed on the channel at a place
 abbrev pub failed_at : Call → Counted → (place : ℕ) → FailedCalls

@@ -21,8 +21,8 @@ pub enum Call {
 /// Whether the calls of one kind fail on a channel.
 #[derive(Clone, Copy, Debug, PartialEq, Eq)]
 pub struct Failing {
-    /// How many datagrams had gone or come when a call was last found failed.
-    pub done: u64,
+    /// How many calls had succeeded when one was last found failed; `None` if each turn makes one.
+    pub done: Option<u64>,
     /// How many calls had failed then.
     pub failed: u64,
     /// When that was, in milliseconds.
@@ -36,11 +36,11 @@ pub struct Failing {
 impl Failing {
     /// Returns that no call was made and none has failed.
     pub fn none(now: Milliseconds) -> Self
-        // In `none` no datagram has gone or come, and nothing has failed.
+        // In `none` no call has succeeded or failed.
         ensures { result ≡ failing.untried now }
     {
         Failing {
-            done: 0,
+            done: None,
             failed: 0,
             at: now,
             before: 0,
@@ -48,19 +48,19 @@ impl Failing {
         }
     }
 
-    /// Compares how many datagrams have gone or come and how many calls failed, and returns the change to be logged
-    /// of a channel, numbered from 1.
+    /// Compares how many calls succeeded, if not every turn makes one, and how many failed, and returns the change to
+    /// be logged of a channel, numbered from 1.
     pub fn look(
         &mut self,
         call: Call,
-        done: u64,
+        done: Option<u64>,
         failed: FailedCalls,
         channel: usize,
         now: Milliseconds,
         t_max: Milliseconds,
     ) -> Option<Notice>
-        // After `look` the calls are failing if one more has failed. They no longer are once a datagram has gone or
-        // come and no call has failed for longer than T_max.
+        // After `look` the calls are failing if one more has failed. They no longer are once one was tried and none
+        // has failed for longer than T_max.
         ensures seen { self.new ≡ failing.seen self.old done failed.count now t_max }
         // `look` returns the notice of calls that begin to fail, with the system's number for the last failure, or
         // that succeed again, with the number of those that failed.
@@ -100,12 +100,22 @@ impl Failing {
     }
 
     /// Returns whether calls no longer fail.
-    fn has_recovered(&self, done: u64, now: Milliseconds, t_max: Milliseconds) -> bool
-        // `has_recovered` is true for calls that fail, if a datagram has gone or come and none has failed for longer
-        // than T_max.
+    fn has_recovered(&self, done: Option<u64>, now: Milliseconds, t_max: Milliseconds) -> bool
+        // `has_recovered` is true for calls that fail, if one was tried and none has failed for longer than T_max.
         ensures { result ≡ failing.has_recovered self.now done now t_max }
     {
-        self.is_failing && done != self.done && now.saturating_sub(self.at) > t_max
+        self.is_failing && is_tried(done, self.done) && now.saturating_sub(self.at) > t_max
+    }
+}
+
+/// Returns whether a call was made since this many had succeeded.
+fn is_tried(done: Option<u64>, before: Option<u64>) -> bool
+    // `is_tried` is false if and only if both numbers are there and equal.
+    ensures { result ≡ failing.is_tried done before }
+{
+    match (done, before) {
+        (Some(done), Some(before)) => done != before,
+        _ => true,
     }
 }
 

@@ -611,7 +611,7 @@ impl Log {
         if place >= self.count {
             return write_text(err, "");
         }
-        let done = counted.channels[place].sent;
+        let done = Some(counted.channels[place].sent);
         let failed = counted.failures[place].sends;
         let notice = self.sends[place].look(Call::Send, done, failed, place + 1, now, self.t_max);
         self.notice(notice, now, err)
@@ -642,10 +642,9 @@ impl Log {
         if place >= self.count {
             return write_text(err, "");
         }
-        let done = counted.sums.channels[place].received;
         let failed = counted.failures[place].receives;
         let receptions = &mut self.receptions[place];
-        let notice = receptions.look(Call::Receive, done, failed, place + 1, now, self.t_max);
+        let notice = receptions.look(Call::Receive, None, failed, place + 1, now, self.t_max);
         self.notice(notice, now, err)
     }
 
