@@ -9,7 +9,7 @@ use Rattle.safe_machine.specs.declared.DropCause.TheVariants as cause
 use Rattle.safe_pdu.specs.declared.SafeFault.{SafeFault}
 use Rattle.safe_pdu.specs.declared.SafeFault.TheVariants as fault
 use Rattle.pdu_text.specs.declared.causes.Cause.{Cause}
-use Rattle.pdu_text.specs.declared.causes.Cause.TheVariants.{Early, Part, Stranger}
+use Rattle.pdu_text.specs.declared.causes.Cause.TheVariants.{Early, OtherCode, Part, Stranger}
 
 -- the words for an event of the redundancy layer
 abbrev pub event_text : RedEvent → List ℕ
@@ -39,14 +39,23 @@ part_text cause.Request = codes "it is not the requested retransmission"
 part_text cause.Answered = codes "a retransmission request that was already answered"
 part_text cause.Below = codes "a retransmission request that confirms less than an earlier PDU"
 
--- the words for a PDU of other ends, with the identifiers of its sender and receiver
-unfoldable pub stranger_text : ℕ → ℕ → List ℕ
-stranger_text sender receiver =
+-- the words for a PDU of other ends, with the identifiers of its sender and receiver, and those of the peer and this end
+unfoldable pub stranger_text : (sender receiver peer_id id : ℕ) → List ℕ
+stranger_text sender receiver peer_id id =
     joined
-    (codes "a stranger's: from id " ∷ decimal sender ∷ codes " for id " ∷ decimal receiver ∷ codes ", which are not peer_id and id" ∷ [])
+    (codes "a stranger's: from id " ∷ decimal sender ∷ codes " for id " ∷ decimal receiver
+    ∷ codes ", not from " ∷ decimal peer_id ∷ codes " (peer_id) for " ∷ decimal id ∷ codes " (id)" ∷ [])
+
+-- the words for a PDU with another safety code, with its length in bytes and that of this end
+unfoldable pub other_code_text : (found own : ℕ) → List ℕ
+other_code_text found own =
+    joined
+    (codes "its length is that of a PDU with a safety code of " ∷ decimal found ∷ codes " bytes, not " ∷ decimal own
+    ∷ codes " (code): another code, or damage" ∷ [])
 
 -- the words for why a datagram was dropped
 abbrev pub cause_text : Cause → List ℕ
 cause_text (Early why) = event_text why
 cause_text (Part why) = part_text why
-cause_text (Stranger sender receiver) = stranger_text sender receiver
+cause_text (Stranger sender receiver peer_id id) = stranger_text sender receiver peer_id id
+cause_text (OtherCode found own) = other_code_text found own

@@ -24,6 +24,17 @@ pub enum Cause {
         sender: u32,
         /// The identifier of the end that it is for.
         receiver: u32,
+        /// The identifier of the peer.
+        peer_id: u32,
+        /// The identifier of this end.
+        id: u32,
+    },
+    /// It has the length of a PDU with another safety code.
+    OtherCode {
+        /// The length of that safety code, in bytes.
+        found: u64,
+        /// The length of the safety code of this end, in bytes.
+        own: u64,
     },
 }
 
@@ -35,20 +46,45 @@ pub(crate) fn write_cause<W: Write>(writer: &mut W, cause: Cause) -> io::Result<
     match cause {
         Cause::Early(event) => write_text(writer, event_words(event)),
         Cause::Part(why) => write_text(writer, part_words(why)),
-        Cause::Stranger { sender, receiver } => write_stranger(writer, sender, receiver),
+        Cause::Stranger {
+            sender,
+            receiver,
+            peer_id,
+            id,
+        } => write_stranger(writer, sender, receiver, peer_id, id),
+        Cause::OtherCode { found, own } => write_other_code(writer, found, own),
     }
 }
 
-/// Writes that a datagram is a stranger's, with both identifiers.
+/// Writes that a datagram is a stranger's, with its identifiers and those expected.
 #[tactic(auto, unfolding(crate::specs::Causes::stranger_text))]
-fn write_stranger<W: Write>(writer: &mut W, sender: u32, receiver: u32) -> io::Result<()>
-    // If it succeeds, `write_stranger` has appended the text with both identifiers in decimal.
+fn write_stranger<W: Write>(
+    writer: &mut W,
+    sender: u32,
+    receiver: u32,
+    peer_id: u32,
+    id: u32,
+) -> io::Result<()>
+    // If it succeeds, `write_stranger` has appended the text with all four identifiers in decimal.
     ensures { OnOk result (Appends (W.contents writer.old) (W.contents writer.new)
-        (causes.stranger_text sender receiver)) }
+        (causes.stranger_text sender receiver peer_id id)) }
 {
     write!(
         writer,
-        "a stranger's: from id {sender} for id {receiver}, which are not peer_id and id"
+        "a stranger's: from id {sender} for id {receiver}, not from {peer_id} (peer_id) for {id} (id)"
+    )
+}
+
+/// Writes that a datagram has another safety code, with its length and that expected.
+#[tactic(auto, unfolding(crate::specs::Causes::other_code_text))]
+fn write_other_code<W: Write>(writer: &mut W, found: u64, own: u64) -> io::Result<()>
+    // If it succeeds, `write_other_code` has appended the text with both lengths in decimal.
+    ensures { OnOk result (Appends (W.contents writer.old) (W.contents writer.new)
+        (causes.other_code_text found own)) }
+{
+    write!(
+        writer,
+        "its length is that of a PDU with a safety code of {found} bytes, not {own} (code): another code, or damage"
     )
 }
 

@@ -11,6 +11,8 @@ use Rattle.rasta_run.specs.declared.header.Header.{Header}
 use Rattle.rasta_run.specs.declared.recorder.Recorder.{Recorder}
 use Rattle.rasta_run.specs.Totals.{plus, sum}
 use Rattle.stack_end.specs.declared.statistics.Statistics.{Statistics}
+use Rattle.udp_channels.specs.Sockets.{no_failures}
+use Rattle.udp_channels.specs.declared.sockets.Failures.{Failures}
 
 -- the next count
 abbrev pub one_more : ℕ → ℕ
@@ -74,10 +76,11 @@ closing_after (step.Dropped why) n = n
 closing_after step.Taken n = n
 closing_after step.Gap n = n
 
--- all that is counted of an end: its own counts added to those of its earlier openings, those of its recorder, and the telegrams put and taken
-abbrev pub counted_of : (earlier own : Statistics) → Recorder → (put taken : ℕ) → Counted
-counted_of earlier own r put taken =
-    record { sums = plus earlier own; channels = r.channels; closing = r.closing; put = put; taken = taken }
+-- all that is counted of an end: its own counts added to those of its earlier openings, those of its recorder, the calls that failed on each channel,
+-- and the telegrams put and taken
+abbrev pub counted_of : (earlier own : Statistics) → Recorder → List Failures → (put taken : ℕ) → Counted
+counted_of earlier own r failures put taken =
+    record { sums = plus earlier own; channels = r.channels; failures = failures; closing = r.closing; put = put; taken = taken }
 
 -- the PDUs that the safety machine did not drop: taken, with a gap before them, or at the end of a connection or after it
 abbrev pub accepted : Counted → ℕ
@@ -92,3 +95,7 @@ dropped c =
 -- the greatest age of a confirmed timestamp in milliseconds, if a PDU was taken
 abbrev pub oldest : Counted → Option ℕ
 oldest c = if nat_eq c.sums.parts.taken 0 then None else Some c.sums.parts.oldest
+
+-- the calls that failed on the channel at a place, from 0
+abbrev pub failures_in : Counted → (place : ℕ) → Failures
+failures_in c place = slice_index_or c.failures place no_failures

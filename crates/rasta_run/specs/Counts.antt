@@ -7,7 +7,7 @@ use Rattle.rasta_run.specs.declared.counts.ChannelCounts.{ChannelCounts}
 use Rattle.rasta_run.specs.declared.counts.Counted.{Counted}
 use Rattle.rasta_run.specs.declared.counting.Teller.{Teller}
 use Rattle.rasta_run.specs.declared.logging.Listening.{Listening}
-use Rattle.rasta_run.specs.Counting.{accepted, dropped, no_datagrams, oldest}
+use Rattle.rasta_run.specs.Counting.{accepted, dropped, failures_in, no_datagrams, oldest}
 use Rattle.rasta_run.specs.Silence.{hears_all}
 use Rattle.rasta_run.specs.Totals.{sum}
 use Rattle.stack_end.specs.Statistics.{none_received}
@@ -73,18 +73,18 @@ end_of Json = codes "}\n"
 abbrev pub fields_text : LineForm → List (List ℕ × ℕ) → List ℕ
 fields_text form fields = flat_map (λ f. field_text form f.0 f.1) fields
 
--- the numbers of a channel: the time in milliseconds of the run, the channel, from 1, what it sent and received, and when something last came. Damaged
--- are the datagrams of the redundancy layer and those of the safety machine.
-abbrev pub channel_fields : ℕ → ℕ → ReceptionCounts → ChannelCounts → ℕ → List (List ℕ × ℕ)
-channel_fields at channel r c heard =
-    (codes "time", at) ∷ (codes "channel", channel) ∷ (codes "sent", c.sent) ∷ (codes "failed", c.failed) ∷ (codes "received", r.received)
+-- the numbers of a channel: the time in milliseconds of the run, the channel, from 1, what it sent, how many receptions the system refused, what it
+-- received, and when something last came. Damaged are the datagrams of the redundancy layer and those of the safety machine.
+abbrev pub channel_fields : ℕ → ℕ → ReceptionCounts → ChannelCounts → (refused heard : ℕ) → List (List ℕ × ℕ)
+channel_fields at channel r c refused heard =
+    (codes "time", at) ∷ (codes "channel", channel) ∷ (codes "sent", c.sent) ∷ (codes "failed", c.failed) ∷ (codes "refused", refused) ∷ (codes "received", r.received)
     ∷ (codes "passed", r.passed) ∷ (codes "deferred", r.deferred) ∷ (codes "old", r.old) ∷ (codes "repeats", r.repeated) ∷ (codes "far", r.far)
     ∷ (codes "full", r.full) ∷ (codes "damaged", sum r.damaged c.damaged) ∷ (codes "strangers", c.strangers) ∷ (codes "heard", heard) ∷ []
 
 -- the line of a channel
-unfoldable pub channel_text : LineForm → ℕ → Side → ℕ → ReceptionCounts → ChannelCounts → ℕ → List ℕ
-channel_text form at side channel r c heard =
-    joined (front_of form side ∷ fields_text form (channel_fields at channel r c heard) ∷ end_of form ∷ [])
+unfoldable pub channel_text : LineForm → ℕ → Side → ℕ → ReceptionCounts → ChannelCounts → (refused heard : ℕ) → List ℕ
+channel_text form at side channel r c refused heard =
+    joined (front_of form side ∷ fields_text form (channel_fields at channel r c refused heard) ∷ end_of form ∷ [])
 
 -- the time in milliseconds of the run, the PDUs that the end made, the retransmissions requested and granted, the PDUs accepted and dropped, and the
 -- units that the peer confirmed
@@ -116,7 +116,7 @@ unfoldable pub place_text : Teller → LineForm → ℕ → Counted → ℕ → 
 place_text t form at c place =
     if nat_le t.count place then []
     else channel_text form at t.side (place + 1) (slice_index_or c.sums.channels place none_received) (slice_index_or c.channels place no_datagrams)
-    (heard_at t.heard place)
+    (failures_in c place).receives.count (heard_at t.heard place)
 
 -- the lines of the channels and of the connection
 unfoldable pub all_text : Teller → LineForm → ℕ → Counted → List ℕ

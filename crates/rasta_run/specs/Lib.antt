@@ -16,7 +16,7 @@ pub mod Drawing
 pub mod Unopened
 pub mod Putting
 pub mod Noticing
-pub mod Sending
+pub mod Failing
 pub mod Printing
 pub mod Pending
 pub mod Progress

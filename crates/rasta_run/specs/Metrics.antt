@@ -4,7 +4,7 @@ use Rattle.std.specs.Fmt.{decimal}
 use Rattle.end_settings.specs.declared.Side.{Side}
 use Rattle.pdu_text.specs.Lines.{joined}
 use Rattle.pdu_text.specs.Names.{side_name}
-use Rattle.rasta_run.specs.Counting.{accepted, no_datagrams, oldest}
+use Rattle.rasta_run.specs.Counting.{accepted, failures_in, no_datagrams, oldest}
 use Rattle.rasta_run.specs.Counts.{margin_of}
 use Rattle.rasta_run.specs.Totals.{sum}
 use Rattle.rasta_run.specs.declared.counts.ChannelCounts.{ChannelCounts}
@@ -16,25 +16,28 @@ use Rattle.rasta_run.specs.declared.metrics.Sample.{Sample}
 use Rattle.rasta_run.specs.declared.metrics.Samples.{Samples}
 use Rattle.stack_end.specs.Statistics.{none_received}
 use Rattle.stack_end.specs.declared.statistics.ReceptionCounts.{ReceptionCounts}
+use Rattle.udp_channels.specs.declared.sockets.Failures.{Failures}
 
 -- the count of a channel
-abbrev pub channel_number : ChannelMetric → ReceptionCounts → ChannelCounts → ℕ
-channel_number channel.Sent r c = c.sent
-channel_number channel.Failed r c = c.failed
-channel_number channel.Received r c = r.received
-channel_number channel.Passed r c = r.passed
-channel_number channel.Deferred r c = r.deferred
-channel_number channel.Old r c = r.old
-channel_number channel.Repeated r c = r.repeated
-channel_number channel.Far r c = r.far
-channel_number channel.Full r c = r.full
-channel_number channel.Damaged r c = sum r.damaged c.damaged
-channel_number channel.Stranger r c = c.strangers
+abbrev pub channel_number : ChannelMetric → ReceptionCounts → ChannelCounts → Failures → ℕ
+channel_number channel.Sent r c f = c.sent
+channel_number channel.Failed r c f = c.failed
+channel_number channel.Refused r c f = f.receives.count
+channel_number channel.Received r c f = r.received
+channel_number channel.Passed r c f = r.passed
+channel_number channel.Deferred r c f = r.deferred
+channel_number channel.Old r c f = r.old
+channel_number channel.Repeated r c f = r.repeated
+channel_number channel.Far r c f = r.far
+channel_number channel.Full r c f = r.full
+channel_number channel.Damaged r c f = sum r.damaged c.damaged
+channel_number channel.Stranger r c f = c.strangers
 
 -- the name of the metric of a channel, after the prefix of all
 abbrev pub channel_name : ChannelMetric → List ℕ
 channel_name channel.Sent = codes "datagrams_sent_total"
 channel_name channel.Failed = codes "datagrams_failed_total"
+channel_name channel.Refused = codes "receptions_refused_total"
 channel_name channel.Received = codes "datagrams_received_total"
 channel_name channel.Passed = codes "datagrams_passed_total"
 channel_name channel.Deferred = codes "datagrams_deferred_total"
@@ -49,6 +52,7 @@ channel_name channel.Stranger = codes "datagrams_dropped_total"
 abbrev pub channel_cause : ChannelMetric → List ℕ
 channel_cause channel.Sent = []
 channel_cause channel.Failed = []
+channel_cause channel.Refused = []
 channel_cause channel.Received = []
 channel_cause channel.Passed = []
 channel_cause channel.Deferred = []
@@ -129,6 +133,7 @@ end_cause end.Margin = []
 abbrev pub channel_help : ChannelMetric → List ℕ
 channel_help channel.Sent = codes "Datagrams that the system took."
 channel_help channel.Failed = codes "Datagrams that the system refused."
+channel_help channel.Refused = codes "Receptions that the system refused."
 channel_help channel.Received = codes "Datagrams received, from anyone."
 channel_help channel.Passed = codes "Datagrams passed on in turn."
 channel_help channel.Deferred = codes "Datagrams that came early and were deferred."
@@ -211,7 +216,8 @@ unfoldable pub place_text : ChannelMetric → Sample → ℕ → List ℕ
 place_text m s place =
     if nat_le s.count place then []
     else channel_line (channel_name m) (channel_cause m) s.side (place + 1)
-    (channel_number m (slice_index_or s.counted.sums.channels place none_received) (slice_index_or s.counted.channels place no_datagrams))
+    (channel_number m (slice_index_or s.counted.sums.channels place none_received) (slice_index_or s.counted.channels place no_datagrams)
+    (failures_in s.counted place))
 
 -- the lines of the channels of an end
 unfoldable pub channels_text : ChannelMetric → Sample → List ℕ
@@ -253,6 +259,7 @@ traffic_text s =
     joined
     (channel_counter channel.Sent s
     ∷ channel_counter channel.Failed s
+    ∷ channel_counter channel.Refused s
     ∷ channel_counter channel.Received s
     ∷ channel_counter channel.Passed s
     ∷ channel_counter channel.Deferred s ∷ [])

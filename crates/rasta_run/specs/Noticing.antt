@@ -1,16 +1,14 @@
 -- What the log says of the run itself, beside the events of an end.
-use Rattle.std.specs.Prelude.{ℕ, ◌/◌, ◌%◌, List, [], ◌∷◌, codes}
-use Rattle.std.specs.Fmt.{decimal}
+use Rattle.std.specs.Prelude.{ℕ, ℤ, ◌/◌, ◌%◌, List, [], ◌∷◌, Option, None, Some, codes}
+use Rattle.std.specs.Fmt.{decimal, signed_decimal}
 use Rattle.end_settings.specs.declared.Side.{Side}
 use Rattle.pdu_text.specs.Lines.{joined}
 use Rattle.pdu_text.specs.Names.{side_name}
 use Rattle.pdu_text.specs.Pieces.{three_digits}
+use Rattle.rasta_run.specs.declared.failing.Call.{Call}
+use Rattle.rasta_run.specs.declared.failing.Call.TheVariants.{Send, Receive}
 use Rattle.rasta_run.specs.declared.noticing.Notice.{Notice}
-use Rattle.rasta_run.specs.declared.noticing.Notice.TheVariants.{Deaf, Receives, SendsFail, SendsSucceed, Unanswered, Drops, WrongRequest, InDoubt, NoTurn, Fruitless, Session, Unread}
-
--- receptions succeed again, after this many turns in which one failed
-unfoldable pub receives_text : ℕ → List ℕ
-receives_text turns = joined (codes "receptions succeed again; one failed in " ∷ decimal turns ∷ codes " turns" ∷ [])
+use Rattle.rasta_run.specs.declared.noticing.Notice.TheVariants.{CallsFail, CallsSucceed, Unanswered, Drops, WrongRequest, InDoubt, NoTurn, Fruitless, Session, Unread}
 
 -- the connection is lost, and this many telegrams were put and not confirmed
 unfoldable pub in_doubt_text : ℕ → List ℕ
@@ -29,14 +27,29 @@ fruitless_text count =
 unfoldable pub session_text : ℕ → List ℕ
 session_text count = joined (codes "a session again, after " ∷ decimal count ∷ codes " openings without one" ∷ [])
 
--- sends on this channel, from 1, fail
-unfoldable pub sends_fail_text : ℕ → List ℕ
-sends_fail_text channel = joined (codes "sends on channel " ∷ decimal channel ∷ codes " fail: the system refuses them" ∷ [])
+-- the name of calls of a kind
+abbrev pub call_name : Call → List ℕ
+call_name Send = codes "sends"
+call_name Receive = codes "receptions"
 
--- sends on this channel succeed again, after this many that failed
-unfoldable pub sends_succeed_text : (channel failed : ℕ) → List ℕ
-sends_succeed_text channel failed =
-    joined (codes "sends on channel " ∷ decimal channel ∷ codes " succeed again: none failed for T_max; " ∷ decimal failed ∷ codes " failed before" ∷ [])
+-- the system's number for a reason
+unfoldable pub number_text : ℤ → List ℕ
+number_text number = joined (codes " (error " ∷ signed_decimal number ∷ codes ")" ∷ [])
+
+-- the same, if there is one
+abbrev pub error_text : Option ℤ → List ℕ
+error_text None = []
+error_text (Some number) = number_text number
+
+-- calls on this channel, from 1, fail for this reason
+unfoldable pub calls_fail_text : Call → (channel : ℕ) → Option ℤ → List ℕ
+calls_fail_text call channel error =
+    joined (call_name call ∷ codes " on channel " ∷ decimal channel ∷ codes " fail: the system refuses them" ∷ error_text error ∷ [])
+
+-- calls on this channel succeed again, after this many that failed
+unfoldable pub calls_succeed_text : Call → (channel failed : ℕ) → List ℕ
+calls_succeed_text call channel failed =
+    joined (call_name call ∷ codes " on channel " ∷ decimal channel ∷ codes " succeed again: none failed for T_max; " ∷ decimal failed ∷ codes " failed before" ∷ [])
 
 -- a requested retransmission did not come for this many milliseconds
 unfoldable pub unanswered_text : ℕ → List ℕ
@@ -49,10 +62,8 @@ drops_text count = joined (codes "dropped " ∷ decimal count ∷ codes " more d
 
 -- the text of a notice
 abbrev pub notice_text : Notice → List ℕ
-notice_text Deaf = codes "a reception fails: the system refuses it"
-notice_text (Receives turns) = receives_text turns
-notice_text (SendsFail channel) = sends_fail_text channel
-notice_text (SendsSucceed channel failed) = sends_succeed_text channel failed
+notice_text (CallsFail call channel error) = calls_fail_text call channel error
+notice_text (CallsSucceed call channel failed) = calls_succeed_text call channel failed
 notice_text (Unanswered milliseconds) = unanswered_text milliseconds
 notice_text (Drops count) = drops_text count
 notice_text WrongRequest = codes "a connection request came, which only an interlocking makes: the peer is one, too"

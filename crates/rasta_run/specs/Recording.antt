@@ -14,6 +14,12 @@ use Rattle.rasta_run.specs.Headers.{header_seen, kind_seen}
 use Rattle.rasta_run.specs.Telling.{drop_cause, event_cause, last_of, made_told}
 use Rattle.rasta_run.specs.declared.header.Header.{Header}
 use Rattle.rasta_run.specs.declared.recorder.Recorder.{Recorder}
+use Rattle.rasta_run.specs.declared.recorder.Wanted.{Wanted}
+use Rattle.end_settings.specs.declared.EndConfig.{EndConfig}
+
+-- what an end with these settings expects of its peer
+abbrev pub wanted_by : EndConfig → Wanted
+wanted_by c = record { peer_id = c.peer_id; id = c.id; code = c.code }
 
 -- a datagram of this type requests a connection
 abbrev pub is_request : Option Kind → Bool
@@ -78,7 +84,7 @@ header_under number (Some h) = if nat_eq h.number number then Some h else None
 abbrev pub after_part : (number : ℕ) → DropCause → Recorder → Recorder
 after_part number cause r =
     let channel = channel_under number r.came.0 r.came.1 in
-    after_drop channel (drop_cause cause (header_under number r.came.1)) (record r { channels = dropped_on channel cause r.channels })
+    after_drop channel (drop_cause cause (header_under number r.came.1) r.wanted) (record r { channels = dropped_on channel cause r.channels })
 
 -- the safety machine handled the part with this number
 abbrev pub after_step : (number : ℕ) → Step → Recorder → Recorder

@@ -1,5 +1,5 @@
 -- The events that are recorded for the log.
-use Rattle.std.specs.Prelude.{ℕ, Bool, true, false, not, ◌&&◌, ◌||◌, ◌+◌, ◌-◌, ◌^◌, ◌%◌, min, nat_eq, nat_le, nat_lt, List, [], slice_index_or, Option, Some, None, if◌then◌else◌}
+use Rattle.std.specs.Prelude.{ℕ, Bool, true, false, not, ◌&&◌, ◌||◌, ◌+◌, ◌-◌, ◌^◌, ◌%◌, min, nat_eq, nat_le, nat_lt, List, [], ◌∷◌, slice_index_or, Option, Some, None, if◌then◌else◌}
 use Rattle.end_settings.specs.declared.Side.{Side}
 use Rattle.end_settings.specs.declared.Side.TheVariants.{Interlocking, FieldElement}
 use Rattle.red_layer.specs.declared.RedEvent.{RedEvent}
@@ -7,11 +7,15 @@ use Rattle.red_layer.specs.declared.RedEvent.TheVariants as event
 use Rattle.safe_machine.specs.declared.DropCause.{DropCause}
 use Rattle.safe_machine.specs.declared.DropCause.TheVariants as cause
 use Rattle.safe_pdu.specs.declared.Leaving.{Leaving}
+use Rattle.safe_pdu.specs.declared.SafeFault.{SafeFault}
 use Rattle.pdu_text.specs.declared.causes.Cause.{Cause}
-use Rattle.pdu_text.specs.declared.causes.Cause.TheVariants.{Early, Part, Stranger}
+use Rattle.pdu_text.specs.declared.causes.Cause.TheVariants.{Early, OtherCode, Part, Stranger}
 use Rattle.pdu_text.specs.declared.lines.Happening.{Happening}
 use Rattle.pdu_text.specs.declared.lines.Happening.TheVariants.{State, Phase, Anew, Left, PeerLeft, Asked, Resent, PutRefused, InitRefused, Silent, Heard, Dropped}
+use Rattle.end_settings.specs.EndSettings.{EndSettings}
+use Rattle.pdu_text.specs.Lines.{joined}
 use Rattle.pdu_text.specs.MessageText.{unit_lines}
+use Rattle.settings_text.specs.InForce.{expected_lines}
 use Rattle.rasta_run.specs.Headers.{body_seen}
 use Rattle.rasta_run.specs.Standing.{is_up}
 use Rattle.rasta_words.specs.declared.status.LogLevel.{LogLevel}
@@ -27,6 +31,7 @@ use Rattle.stack_end.specs.declared.departure.Leaver.{Leaver}
 use Rattle.stack_end.specs.declared.departure.Leaver.TheVariants as by
 use Rattle.rasta_run.specs.declared.header.Header.{Header}
 use Rattle.rasta_run.specs.declared.noticing.Notice.{Notice}
+use Rattle.rasta_run.specs.declared.recorder.Wanted.{Wanted}
 use Rattle.rasta_run.specs.declared.noticing.Notice.TheVariants.{Drops, Unanswered, WrongRequest}
 
 -- why the redundancy layer dropped a datagram; none if it did not
@@ -39,33 +44,44 @@ event_cause event.Full = Some (Early event.Full)
 event_cause event.Again = Some (Early event.Again)
 event_cause (event.Fault why) = Some (Early (event.Fault why))
 
--- why the safety machine dropped a part, with the identifiers of its datagram if they are known
-abbrev pub drop_cause : DropCause → Option Header → Cause
-drop_cause cause.Stranger (Some header) = Stranger header.sender header.receiver
-drop_cause cause.Stranger None = Part cause.Stranger
-drop_cause (cause.Fault why) header = Part (cause.Fault why)
-drop_cause cause.NotOpened header = Part cause.NotOpened
-drop_cause cause.Number header = Part cause.Number
-drop_cause cause.Request header = Part cause.Request
-drop_cause cause.Answered header = Part cause.Answered
-drop_cause cause.Below header = Part cause.Below
+-- why a part with a fault was dropped, if its safety code has this length: that length, if it is another one
+abbrev pub fault_cause : SafeFault → (found : Option ℕ) → (own : ℕ) → Cause
+fault_cause why None own = Part (cause.Fault why)
+fault_cause why (Some found) own = if nat_eq found own then Part (cause.Fault why) else OtherCode found own
 
--- the datagram is a copy of an earlier one
-abbrev pub is_copy : Cause → Bool
-is_copy (Early event.Old) = true
-is_copy (Early event.Passed) = false
-is_copy (Early event.Wait) = false
-is_copy (Early event.Far) = false
-is_copy (Early event.Full) = false
-is_copy (Early event.Again) = false
-is_copy (Early (event.Fault why)) = false
-is_copy (Part why) = false
-is_copy (Stranger sender receiver) = false
+-- the length of the safety code, if the header of the datagram is known and tells it
+abbrev pub code_in : Option Header → Option ℕ
+code_in None = None
+code_in (Some header) = header.code
+
+-- why the safety machine dropped a part, with what its datagram shows and what was expected, if that is known
+abbrev pub drop_cause : DropCause → Option Header → Wanted → Cause
+drop_cause cause.Stranger (Some header) wanted = Stranger header.sender header.receiver wanted.peer_id wanted.id
+drop_cause cause.Stranger None wanted = Part cause.Stranger
+drop_cause (cause.Fault why) header wanted = fault_cause why (code_in header) wanted.code
+drop_cause cause.NotOpened header wanted = Part cause.NotOpened
+drop_cause cause.Number header wanted = Part cause.Number
+drop_cause cause.Request header wanted = Part cause.Request
+drop_cause cause.Answered header wanted = Part cause.Answered
+drop_cause cause.Below header wanted = Part cause.Below
+
+-- the datagram is a copy of an earlier one, which is not a cause
+abbrev pub is_repeat : Cause → Bool
+is_repeat (Early event.Old) = true
+is_repeat (Early event.Again) = true
+is_repeat (Early event.Passed) = false
+is_repeat (Early event.Wait) = false
+is_repeat (Early event.Far) = false
+is_repeat (Early event.Full) = false
+is_repeat (Early (event.Fault why)) = false
+is_repeat (Part why) = false
+is_repeat (Stranger sender receiver peer_id id) = false
+is_repeat (OtherCode found own) = false
 
 -- which of two causes explains that nothing was taken: a copy explains nothing
 abbrev pub last_of : Option Cause → Cause → Cause
 last_of None cause = cause
-last_of (Some before) cause = if is_copy cause then before else cause
+last_of (Some before) cause = if is_repeat cause then before else cause
 
 -- the event of a PDU of this type that the end made
 abbrev pub made_told : Option Kind → Option Happening
@@ -182,18 +198,6 @@ is_told level.Off quiet new h = false
 is_told level.State quiet new h = is_told_by (dropped_cause h) quiet new h
 is_told level.All quiet new h = true
 
--- the datagram is a repetition, which is not a cause
-abbrev pub is_repeat : Cause → Bool
-is_repeat (Early event.Old) = true
-is_repeat (Early event.Again) = true
-is_repeat (Early event.Passed) = false
-is_repeat (Early event.Wait) = false
-is_repeat (Early event.Far) = false
-is_repeat (Early event.Full) = false
-is_repeat (Early (event.Fault why)) = false
-is_repeat (Part why) = false
-is_repeat (Stranger sender receiver) = false
-
 -- the number of datagrams dropped for known causes, after one more was dropped
 abbrev pub drops_after : (new : Bool) → Cause → ℕ → ℕ
 drops_after new why drops = if new || is_repeat why then drops else min (drops + 1) (2 ^ 64 - 1)
@@ -271,10 +275,14 @@ is_session_fault (Silent channel) = false
 is_session_fault (Heard channel) = false
 is_session_fault (Dropped channel why) = false
 
--- the messages of a Data with a safety code of this length, if they are shown
-abbrev pub data_lines : (shown : Bool) → (octets : List ℕ) → (code : ℕ) → List ℕ
-data_lines true octets code = unit_lines Data (body_seen octets code)
-data_lines false octets code = []
+-- the messages in the body of a Data, and what an end of this side with these settings expects in them
+unfoldable pub mismatch_lines : (body : List ℕ) → Side → EndSettings → List ℕ
+mismatch_lines body side c = joined (unit_lines Data body ∷ expected_lines side c ∷ [])
+
+-- the same of a Data with a safety code of this length, if they are shown
+abbrev pub data_lines : (shown : Bool) → (octets : List ℕ) → (code : ℕ) → Side → EndSettings → List ℕ
+data_lines true octets code side c = mismatch_lines (body_seen octets code) side c
+data_lines false octets code side c = []
 
 -- nothing is logged
 abbrev pub is_off : LogLevel → Bool

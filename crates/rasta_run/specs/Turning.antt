@@ -6,7 +6,7 @@ use Rattle.pdi_session.specs.SessionStep.{Item}
 use Rattle.rasta_run.specs.Putting.{CompletesIf, PutsBeginning}
 use Rattle.rasta_run.specs.Standing.{ends_in, puts_in}
 use Rattle.rasta_run.specs.declared.noticing.Notice.{Notice}
-use Rattle.rasta_run.specs.declared.noticing.Notice.TheVariants.{Deaf, InDoubt, NoTurn, Receives}
+use Rattle.rasta_run.specs.declared.noticing.Notice.TheVariants.{InDoubt, NoTurn}
 use Rattle.settings_file.specs.declared.values.Put.{Put as Telegram}
 use Rattle.stack_end.specs.EndValue.{EndTurns, EndValue, inside}
 use Rattle.stack_end.specs.Polling.{HeardUntilFault, Polled, With, most_datagrams}
@@ -62,11 +62,6 @@ gap_most = 1_500
 -- the notice of a time without a turn, if it is long
 abbrev pub gap_notice : (gap : ℕ) → Option Notice
 gap_notice gap = if nat_lt gap_most gap then Some (NoTurn gap) else None
-
--- the notice of receptions that begin to fail, or that succeed again
-abbrev pub reception_notice : (works : Bool) → (deaf : ℕ) → Option Notice
-reception_notice false deaf = if nat_lt 0 deaf then None else Some Deaf
-reception_notice true deaf = if nat_lt 0 deaf then Some (Receives deaf) else None
 
 -- the notice of a connection that is found closed with telegrams in doubt
 abbrev pub loss_notice : (before now : Bool) → (doubt : ℕ) → Option Notice

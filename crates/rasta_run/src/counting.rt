@@ -214,6 +214,7 @@ impl Teller {
         }
         let receptions = &counted.sums.channels[place];
         let beside = &counted.channels[place];
+        let refused = counted.failures[place].receives.count;
         let heard = self.heard[place].at;
         write_channel(
             writer,
@@ -223,6 +224,7 @@ impl Teller {
             place + 1,
             receptions,
             beside,
+            refused,
             heard,
         )
     }
@@ -295,7 +297,8 @@ fn is_due(next: Option<u64>, now: u64) -> bool
     }
 }
 
-/// Writes the line of a channel, numbered from 1, which last received something at `heard` milliseconds.
+/// Writes the line of a channel, numbered from 1, which had this number of receptions refused, and last received
+/// something at `heard` milliseconds.
 ///
 /// # Errors
 ///
@@ -309,12 +312,13 @@ pub fn write_channel<W: Write>(
     channel: usize,
     receptions: &ReceptionCounts,
     beside: &ChannelCounts,
+    refused: u64,
     heard: u64,
 ) -> io::Result<()>
     // If `write_channel` succeeds, it has appended the line of this channel with its traffic, order and refusals
     // and when it last received something.
     ensures { OnOk result (Appends (W.contents writer.old) (W.contents writer.new)
-        (counts.channel_text form at side channel receptions.now beside.now heard)) }
+        (counts.channel_text form at side channel receptions.now beside.now refused heard)) }
 {
     let damaged = receptions.damaged.wrapping_add(beside.damaged);
     let fields = [
@@ -322,6 +326,7 @@ pub fn write_channel<W: Write>(
         ("channel", channel as u64),
         ("sent", beside.sent),
         ("failed", beside.failed),
+        ("refused", refused),
         ("received", receptions.received),
         ("passed", receptions.passed),
         ("deferred", receptions.deferred),

@@ -6,6 +6,7 @@ ghost use Rattle.rasta_run.specs.Counting as counting;
 use octets::limits::CHANNELS_MAX;
 use safe_machine::DropCause;
 use stack_end::Statistics;
+use udp_channels::Failures;
 
 /// The counts of a channel that its end does not keep.
 #[derive(Clone, Copy, Debug, PartialEq, Eq)]
@@ -27,6 +28,8 @@ pub struct Counted {
     pub sums: Statistics,
     /// What is counted of each channel beside, the first one first.
     pub channels: [ChannelCounts; CHANNELS_MAX],
+    /// The calls that the system refused on each channel.
+    pub failures: [Failures; CHANNELS_MAX],
     /// The number of parts that ended a connection or came after its end.
     pub closing: u64,
     /// The number of telegrams put.

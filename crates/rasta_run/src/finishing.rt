@@ -104,7 +104,7 @@ impl<C: Channels, A: Allocator + Copy> Actor<'_, C, A> {
         // If `log_ending` succeeds, it has appended the line of the end with its state and phase, how it disconnected,
         // and what came.
         ensures { OnOk result (Logs self.now.log now (log_line now self.now.log.side (ending_text (ending_of self.now.log.side self.now.end
-            (counted_of self.now.earlier.sums (statistics_of self.now.end) (channels_of self.now.end).recorder.value self.now.put self.now.taken)
+            (counted_of self.now.earlier.sums (statistics_of self.now.end) (channels_of self.now.end).recorder.value self.now.failures self.now.put self.now.taken)
             (channels_of self.now.end).recorder.value.last_cause))) (E.contents err.old) (E.contents err.new)) }
     {
         let counted = self.counted();
@@ -182,7 +182,7 @@ impl<C: Channels, A: Allocator + Copy> Actor<'_, C, A> {
           count = self.now.teller.count;
           t_max = self.now.teller.t_max;
           at = now;
-          counted = counted_of self.now.earlier.sums (statistics_of self.now.end) (channels_of self.now.end).recorder.value self.now.put self.now.taken;
+          counted = counted_of self.now.earlier.sums (statistics_of self.now.end) (channels_of self.now.end).recorder.value self.now.failures self.now.put self.now.taken;
         } }
     {
         self.teller.sample(&self.counted(), now)
@@ -196,7 +196,7 @@ impl<C: Channels, A: Allocator + Copy> Actor<'_, C, A> {
         // next; it changes nothing else.
         ensures kept { self.new ≡ record self.old {
           teller = counts.looked self.old.teller (counted_of self.old.earlier.sums
-              (statistics_of self.old.end) (channels_of self.old.end).recorder.value self.old.put self.old.taken) now;
+              (statistics_of self.old.end) (channels_of self.old.end).recorder.value self.old.failures self.old.put self.old.taken) now;
         } }
     {
         if self.teller.is_off() {

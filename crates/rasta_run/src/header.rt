@@ -1,8 +1,9 @@
 //! The fields of datagrams that the log names. The end itself tests whether a datagram is a PDU; this does not.
 
 ghost use Rattle.std.specs.Prelude.{◌≡◌};
-ghost use Rattle.rasta_run.specs.Headers.{body_seen, header_seen, kind_seen};
+ghost use Rattle.rasta_run.specs.Headers.{body_length, body_seen, code_seen, header_seen, kind_seen};
 
+use octets::limits::{LEAVING_BODY, OPENING_BODY};
 use octets::places::{u16_at, u32_at};
 use safe_pdu::Kind;
 
@@ -15,7 +16,7 @@ const SENDER_END: usize = 20;
 /// Where the body of the safety PDU begins.
 const BODY: usize = 36;
 
-/// The number and the identifiers in a datagram.
+/// The number and the identifiers in a datagram, and the length of its safety code.
 #[derive(Clone, Copy, Debug, PartialEq, Eq)]
 pub struct Header {
     /// The redundancy number.
@@ -24,12 +25,14 @@ pub struct Header {
     pub receiver: u32,
     /// The identifier of the sender.
     pub sender: u32,
+    /// The length of the safety code in bytes, if type and length of the datagram tell it.
+    pub code: Option<u64>,
 }
 
 /// Reads the number and the identifiers; `None` if there are too few bytes.
 pub fn header_of(datagram: &[u8]) -> Option<Header>
-    // `header_of` returns the little-endian numbers at the places of the fields, and `None` for fewer than 20
-    // bytes.
+    // `header_of` returns the little-endian numbers at the places of the fields and the length of the safety code,
+    // and `None` for fewer than 20 bytes.
     ensures { result ≡ header_seen datagram.now }
 {
     if datagram.len() < SENDER_END {
@@ -39,7 +42,43 @@ pub fn header_of(datagram: &[u8]) -> Option<Header>
         number: u32_at(datagram, 4),
         receiver: u32_at(datagram, 12),
         sender: u32_at(datagram, 16),
+        code: code_of(datagram),
     })
+}
+
+/// Returns the length of the safety code in bytes, if type and length of the datagram tell it.
+fn code_of(datagram: &[u8]) -> Option<u64>
+    // `code_of` returns what is left after both headers and a body of the type's length, if that is 0, 8 or 16 bytes, and
+    // else `None`.
+    ensures { result ≡ code_seen datagram.now }
+{
+    let body = match kind_of(datagram) {
+        Some(kind) => body_length(kind)?,
+        None => return None,
+    };
+    let front = BODY + body;
+    if datagram.len() < front {
+        return None;
+    }
+    match datagram.len() - front {
+        0 => Some(0),
+        8 => Some(8),
+        16 => Some(16),
+        _ => None,
+    }
+}
+
+/// Returns the length of the body of a PDU of this type, in bytes, if all have the same.
+fn body_length(kind: Kind) -> Option<usize>
+    // `body_length` returns that of the type, and `None` for the types that carry messages.
+    ensures { result ≡ body_length kind }
+{
+    match kind {
+        Kind::ConnReq | Kind::ConnResp => Some(OPENING_BODY),
+        Kind::RetrReq | Kind::RetrResp | Kind::Heartbeat => Some(0),
+        Kind::DiscReq => Some(LEAVING_BODY),
+        Kind::Data | Kind::RetrData => None,
+    }
 }
 
 /// Reads the type of the safety PDU; `None` if there are too few bytes, or no type has the number.

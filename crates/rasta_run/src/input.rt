@@ -3,7 +3,7 @@
 //! Input is watched together with the sockets, and read only if something is there.
 
 ghost use Rattle.std.specs.Prelude.{◌≡◌, ◌⊎◌, ◌≤◌, ◌<◌, ◌++◌, [], Bool, List, ℕ, None, Some, false, true, is_some, length, nat_eq, nat_lt, IfErr, IfOk, OnErr, OnOk, IfSome};
-ghost use Rattle.std.specs.Io.KnownBytes.{Appends, Consumes};
+ghost use Rattle.std.specs.Io.KnownBytes.{Appends, Consumes, IsAtEnd};
 ghost use Rattle.rasta_run.specs.Feeding.{Reads, ReadsLine, ahead_most, cut_after, feed_place, input_of, is_done, is_open, is_wanted, IsNumbered, left_behind, line_read, line_seen, lines_left, next_line, none_text, one_more, unfed_line, unput};
 
 use crate::readiness::{Gate, Readiness, Stream};
@@ -101,8 +101,9 @@ impl<I: Read + Drop> Feed<I> {
         // `read` cuts no line, and changes neither the next telegram nor the number of lines that are not telegrams.
         ensures kept { (self.new.lines.cut ≡ self.old.lines.cut) × (self.new.next ≡ self.old.next)
             × (self.new.unread ≡ self.old.unread) }
-        // If `read` finds the end of input, it records that it was now.
-        ensures ended { (self.new.ended ≡ self.old.ended) ⊎ (self.new.ended ≡ Some now) }
+        // `read` records the end of input, and that it was now, only if the reader has nothing left.
+        ensures ended { (self.new.ended ≡ self.old.ended)
+            ⊎ ((self.new.ended ≡ Some now) × IsAtEnd (I.remaining self.new.reader)) }
         // `read` fails only with `File` or `Memory`.
         ensures refused { IfErr result (λ why. (why ≡ Fault.File) ⊎ (why ≡ Fault.Memory)) }
     {

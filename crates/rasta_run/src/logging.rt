@@ -12,25 +12,27 @@ ghost use Rattle.pdu_text.specs.Endings.{ending_text};
 ghost use Rattle.pdu_text.specs.LogLines.{channel_text, missed_text};
 ghost use Rattle.pdu_text.specs.Pieces.{log_line};
 ghost use Rattle.rasta_run.specs.Noticing.{notice_line};
-ghost use Rattle.rasta_run.specs.Sending.{sends_all, sends_at, sends_notice, sends_now, unsent};
+ghost use Rattle.rasta_run.specs.Failing.{all_seen, notice_at, seen_at};
+ghost use Rattle.rasta_run.specs.declared.failing.Call.TheVariants as Call;
 ghost use Rattle.rasta_run.specs.Telling as telling;
+ghost use Rattle.end_settings.specs.Configured.{settings_of};
 ghost use Rattle.stack_end.specs.EndValue.{inside};
 
 use crate::events::{
     departure_told, dropped_cause, drops_after, explanation_of, is_of_opening, is_repeat,
     is_session_fault, quiet_after,
 };
+use crate::failing::{Call, Failing};
 use crate::header::body_of;
 use crate::noticing::{
     Notice, are_drops_due, asked_by, drops_notice, is_wrong_request, request_notice, write_notice,
     wrong_request_notice,
 };
-use crate::sending::Sending;
 use crate::stamping::{write_stamped, zero_of};
-use crate::{ChannelCounts, Recorder};
+use crate::{Counted, Recorder};
 use arrayvec::ArrayVec;
 use channels::Channels;
-use end_settings::Side;
+use end_settings::{EndConfig, Side};
 use octets::Milliseconds;
 use octets::limits::CHANNELS_MAX;
 use pdu_text::{
@@ -41,6 +43,7 @@ use rasta_words::{LogLevel, LogTime};
 use safe_machine::ConnectionState;
 use safe_pdu::Kind;
 use settings_file::Settings;
+use settings_text::write_expected;
 use stack_end::{End, Statistics};
 use std::alloc::Allocator;
 use std::io;
@@ -132,8 +135,10 @@ pub struct Log {
     drops: u64,
     /// When that was, in milliseconds.
     drops_at: Milliseconds,
-    /// How the sends of each channel go.
-    sends: [Sending; CHANNELS_MAX],
+    /// Whether the sends of each channel fail.
+    sends: [Failing; CHANNELS_MAX],
+    /// Whether the receptions of each channel fail.
+    receptions: [Failing; CHANNELS_MAX],
     /// Since when a retransmission is awaited, in milliseconds, if one is.
     asked: Option<u64>,
     /// Whether it was logged that a connection request came at an interlocking.
@@ -176,7 +181,8 @@ impl Log {
             is_quiet: false,
             drops: 0,
             drops_at: now,
-            sends: [Sending::none(now); CHANNELS_MAX],
+            sends: [Failing::none(now); CHANNELS_MAX],
+            receptions: [Failing::none(now); CHANNELS_MAX],
             asked: None,
             has_request: false,
             code: settings.config.code as usize,
@@ -219,6 +225,7 @@ impl Log {
         &mut self,
         recorder: &Recorder,
         departure: Option<Departure>,
+        config: &EndConfig,
         now: Milliseconds,
         err: &mut E,
     )
@@ -241,6 +248,7 @@ impl Log {
                         happening,
                         departure,
                         recorder.last_data.as_slice(),
+                        config,
                         now,
                         err,
                     );
@@ -267,12 +275,13 @@ impl Log {
     }
 
     /// Logs one event, after the one that explains it. If that is a fault of the session, the messages of the last Data
-    /// follow.
+    /// follow, and what these settings expect in them.
     fn tell_explained<E: Write>(
         &mut self,
         happening: Happening,
         departure: Option<Departure>,
         last: &[u8],
+        config: &EndConfig,
         now: Milliseconds,
         err: &mut E,
     )
@@ -286,27 +295,34 @@ impl Log {
     {
         if let Some(explanation) = explanation_of(happening, departure) {
             let _ = self.tell(explanation, now, err);
-            let _ = self.show_data(explanation, last, err);
+            let _ = self.show_data(explanation, last, config, err);
         }
         let _ = self.tell(happening, now, err);
     }
 
-    /// Writes the messages of a Data, as `rasta show` does, if the event is that the end disconnects for a fault of the
-    /// session, and is logged.
+    /// Writes the messages of a Data, as `rasta show` does, and what these settings expect in them, if the event is that
+    /// the end disconnects for a fault of the session, and is logged.
     ///
     /// # Errors
     ///
     /// - The error of the writer; what it wrote before stays written.
-    fn show_data<E: Write>(&self, event: Happening, last: &[u8], err: &mut E) -> io::Result<()>
-        // If `show_data` succeeds, it has appended the lines of the messages for such an event, and else nothing.
+    fn show_data<E: Write>(
+        &self,
+        event: Happening,
+        last: &[u8],
+        config: &EndConfig,
+        err: &mut E,
+    ) -> io::Result<()>
+        // If `show_data` succeeds, it has appended the lines of the messages and of the settings for such an event, and
+        // else nothing.
         ensures { OnOk result (Appends (E.contents err.old) (E.contents err.new)
-            (telling.data_lines (telling.is_session_fault event && (not self.now.is_quiet && not (telling.is_off self.now.level))) last.now self.now.code)) }
+            (telling.data_lines (telling.is_session_fault event && (not self.now.is_quiet && not (telling.is_off self.now.level)))
+            last.now self.now.code self.now.side (settings_of config.now))) }
     {
         if self.is_quiet || self.is_off() || !is_session_fault(event) {
             return write_text(err, "");
         }
-        let _clean = show_body(err, Kind::Data, body_of(last, self.code))?;
-        Ok(())
+        write_mismatch(err, body_of(last, self.code), self.side, config)
     }
 
     /// Logs one event, if the level includes it. At the level of states each cause for dropping is logged once, and
@@ -552,22 +568,22 @@ impl Log {
         }
     }
 
-    /// Logs the channels on which sends begin to fail, and those on which they succeed again.
-    pub fn look_at_sends<E: Write>(
-        &mut self,
-        counts: &[ChannelCounts; CHANNELS_MAX],
-        now: Milliseconds,
-        err: &mut E,
-    )
-        // `look_at_sends` compares the counts of each channel of the end with those before; it changes nothing else.
+    /// Logs the channels on which sends or receptions begin to fail, and those on which they succeed again.
+    pub fn look_at_calls<E: Write>(&mut self, counted: &Counted, now: Milliseconds, err: &mut E)
+        // `look_at_calls` compares the calls of each channel of the end with those before; it changes nothing else.
         ensures { self.new ≡ record self.old {
-          sends = sends_all counts.now self.old.count now self.old.t_max self.old.sends;
+          sends = all_seen Call.Send counted.now self.old.count now self.old.t_max self.old.sends;
+          receptions = all_seen Call.Receive counted.now self.old.count now self.old.t_max self.old.receptions;
         } }
     {
-        let _ = self.look_at_send(counts, now, 0, err);
-        let _ = self.look_at_send(counts, now, 1, err);
-        let _ = self.look_at_send(counts, now, 2, err);
-        let _ = self.look_at_send(counts, now, 3, err);
+        let _ = self.look_at_sends(counted, now, 0, err);
+        let _ = self.look_at_sends(counted, now, 1, err);
+        let _ = self.look_at_sends(counted, now, 2, err);
+        let _ = self.look_at_sends(counted, now, 3, err);
+        let _ = self.look_at_receptions(counted, now, 0, err);
+        let _ = self.look_at_receptions(counted, now, 1, err);
+        let _ = self.look_at_receptions(counted, now, 2, err);
+        let _ = self.look_at_receptions(counted, now, 3, err);
     }
 
     /// Logs whether sends on the channel at a place, from 0, begin to fail or succeed again, if the end has it.
@@ -575,28 +591,60 @@ impl Log {
     /// # Errors
     ///
     /// - The error of the writer; what it wrote before stays written.
-    fn look_at_send<E: Write>(
+    fn look_at_sends<E: Write>(
         &mut self,
-        counts: &[ChannelCounts; CHANNELS_MAX],
+        counted: &Counted,
         now: Milliseconds,
         place: usize,
         err: &mut E,
     ) -> io::Result<()>
         requires { place < CHANNELS_MAX }
-        // `look_at_send` compares the counts of this channel with those before, and of no other; it changes nothing
+        // `look_at_sends` compares the sends of this channel with those before, and of no other; it changes nothing
         // else.
         ensures kept { self.new ≡ record self.old {
-          sends = sends_at counts.now self.old.count now self.old.t_max place self.old.sends;
+          sends = seen_at Call.Send counted.now self.old.count now self.old.t_max place self.old.sends;
         } }
-        // If `look_at_send` succeeds, it has appended the line of the channel's change, or nothing.
-        ensures told { OnOk result (LogsNotice (if nat_le self.old.count place then None
-            else sends_notice (slice_index_or self.old.sends place (unsent 0)) (sends_now self.old.sends counts.now place now self.old.t_max)
-            (place + 1)) self.new now (E.contents err.old) (E.contents err.new)) }
+        // If `look_at_sends` succeeds, it has appended the line of the channel's change, or nothing.
+        ensures told { OnOk result (LogsNotice (notice_at Call.Send self.old.sends counted.now self.old.count now self.old.t_max place)
+            self.new now (E.contents err.old) (E.contents err.new)) }
     {
         if place >= self.count {
             return write_text(err, "");
         }
-        let notice = self.sends[place].look(&counts[place], place + 1, now, self.t_max);
+        let done = Some(counted.channels[place].sent);
+        let failed = counted.failures[place].sends;
+        let notice = self.sends[place].look(Call::Send, done, failed, place + 1, now, self.t_max);
+        self.notice(notice, now, err)
+    }
+
+    /// Logs whether receptions on the channel at a place, from 0, begin to fail or succeed again, if the end has it.
+    ///
+    /// # Errors
+    ///
+    /// - The error of the writer; what it wrote before stays written.
+    fn look_at_receptions<E: Write>(
+        &mut self,
+        counted: &Counted,
+        now: Milliseconds,
+        place: usize,
+        err: &mut E,
+    ) -> io::Result<()>
+        requires { place < CHANNELS_MAX }
+        // `look_at_receptions` compares the receptions of this channel with those before, and of no other; it changes
+        // nothing else.
+        ensures kept { self.new ≡ record self.old {
+          receptions = seen_at Call.Receive counted.now self.old.count now self.old.t_max place self.old.receptions;
+        } }
+        // If `look_at_receptions` succeeds, it has appended the line of the channel's change, or nothing.
+        ensures told { OnOk result (LogsNotice (notice_at Call.Receive self.old.receptions counted.now self.old.count now self.old.t_max place)
+            self.new now (E.contents err.old) (E.contents err.new)) }
+    {
+        if place >= self.count {
+            return write_text(err, "");
+        }
+        let failed = counted.failures[place].receives;
+        let receptions = &mut self.receptions[place];
+        let notice = receptions.look(Call::Receive, None, failed, place + 1, now, self.t_max);
         self.notice(notice, now, err)
     }
 
@@ -709,4 +757,20 @@ impl Log {
             LogLevel::State | LogLevel::All => false,
         }
     }
+}
+
+/// Writes the messages in the body of a Data, and what an end with these settings expects in them.
+#[tactic(auto, unfolding(crate::specs::Telling::mismatch_lines))]
+fn write_mismatch<W: Write>(
+    writer: &mut W,
+    body: &[u8],
+    side: Side,
+    config: &EndConfig,
+) -> io::Result<()>
+    // If `write_mismatch` succeeds, it has appended the lines of the messages, and those of the settings.
+    ensures { OnOk result (Appends (W.contents writer.old) (W.contents writer.new)
+        (telling.mismatch_lines body.now side (settings_of config.now))) }
+{
+    let _clean = show_body(writer, Kind::Data, body)?;
+    write_expected(writer, side, config)
 }

@@ -17,6 +17,7 @@ use pdu_text::{side_name, write_text};
 use stack_end::ReceptionCounts;
 use std::io;
 use std::io::Write;
+use udp_channels::Failures;
 
 /// What is counted of an end at a time of a run.
 #[derive(Clone, Copy, Debug)]
@@ -49,6 +50,8 @@ pub enum ChannelMetric {
     Sent,
     /// Datagrams that the system refused.
     Failed,
+    /// Receptions that the system refused.
+    Refused,
     /// Datagrams received.
     Received,
     /// Datagrams passed on in turn.
@@ -71,13 +74,19 @@ pub enum ChannelMetric {
 
 impl ChannelMetric {
     /// Returns the count of a channel.
-    fn number(self, receptions: &ReceptionCounts, beside: &ChannelCounts) -> u64
+    fn number(
+        self,
+        receptions: &ReceptionCounts,
+        beside: &ChannelCounts,
+        failures: &Failures,
+    ) -> u64
         // `number` returns this count of the end itself, or of what is counted beside.
-        ensures { result ≡ metrics.channel_number self receptions.now beside.now }
+        ensures { result ≡ metrics.channel_number self receptions.now beside.now failures.now }
     {
         match self {
             ChannelMetric::Sent => beside.sent,
             ChannelMetric::Failed => beside.failed,
+            ChannelMetric::Refused => failures.receives.count,
             ChannelMetric::Received => receptions.received,
             ChannelMetric::Passed => receptions.passed,
             ChannelMetric::Deferred => receptions.deferred,
@@ -98,6 +107,7 @@ impl ChannelMetric {
         match self {
             ChannelMetric::Sent => "datagrams_sent_total",
             ChannelMetric::Failed => "datagrams_failed_total",
+            ChannelMetric::Refused => "receptions_refused_total",
             ChannelMetric::Received => "datagrams_received_total",
             ChannelMetric::Passed => "datagrams_passed_total",
             ChannelMetric::Deferred => "datagrams_deferred_total",
@@ -118,6 +128,7 @@ impl ChannelMetric {
         match self {
             ChannelMetric::Sent
             | ChannelMetric::Failed
+            | ChannelMetric::Refused
             | ChannelMetric::Received
             | ChannelMetric::Passed
             | ChannelMetric::Deferred => "",
@@ -138,6 +149,7 @@ impl ChannelMetric {
         match self {
             ChannelMetric::Sent => "Datagrams that the system took.",
             ChannelMetric::Failed => "Datagrams that the system refused.",
+            ChannelMetric::Refused => "Receptions that the system refused.",
             ChannelMetric::Received => "Datagrams received, from anyone.",
             ChannelMetric::Passed => "Datagrams passed on in turn.",
             ChannelMetric::Deferred => "Datagrams that came early and were deferred.",
@@ -326,6 +338,7 @@ fn write_traffic<W: Write>(writer: &mut W, samples: &Samples) -> io::Result<()>
 {
     write_channel_counter(writer, ChannelMetric::Sent, samples)?;
     write_channel_counter(writer, ChannelMetric::Failed, samples)?;
+    write_channel_counter(writer, ChannelMetric::Refused, samples)?;
     write_channel_counter(writer, ChannelMetric::Received, samples)?;
     write_channel_counter(writer, ChannelMetric::Passed, samples)?;
     write_channel_counter(writer, ChannelMetric::Deferred, samples)
@@ -496,7 +509,8 @@ fn write_place<W: Write>(
     }
     let receptions = &sample.counted.sums.channels[place];
     let beside = &sample.counted.channels[place];
-    let number = metric.number(receptions, beside);
+    let failures = &sample.counted.failures[place];
+    let number = metric.number(receptions, beside, failures);
     write_channel(
         writer,
         metric.name(),

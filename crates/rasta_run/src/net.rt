@@ -18,6 +18,7 @@ use crate::counting::Teller;
 use crate::drawing::{Draw, Random, first_number};
 use crate::keeping::Keeper;
 use crate::logging::Log;
+use crate::recorder::Wanted;
 use crate::running::Running;
 use crate::settings::{NoAddress, read_ends, warn};
 use crate::streams::Streams;
@@ -355,10 +356,11 @@ fn open_end<'a, D: Draw>(
 {
     let is_heard = run.log != LogLevel::Off || run.expected.is_some();
     let listens = is_heard || run.keep || run.counts.is_some();
+    let wanted = Wanted::of(&settings.config);
     let keeper = Keeper::new(settings.config, now);
     let t_max = settings.config.t_max;
     let teller = Teller::new(side, t_max, run.counts, settings.local.len(), now);
-    let Ok(recorded) = RecordedChannels::over(alloc, channels, listens) else {
+    let Ok(recorded) = RecordedChannels::over(alloc, channels, listens, wanted) else {
         return Err(Fault::Memory);
     };
     let log = Log::new(side, run.log, run.time, settings, now);

@@ -5,6 +5,7 @@ ghost use Rattle.std.specs.Io.KnownBytes.{Appends};
 ghost use Rattle.rasta_run.specs.Noticing as noticing;
 ghost use Rattle.rasta_run.specs.Telling as telling;
 
+use crate::failing::Call;
 use crate::stamping::spell;
 use end_settings::Side;
 use octets::Milliseconds;
@@ -19,14 +20,10 @@ const DROPS_WAIT: u64 = 60_000;
 /// What happened to the run of an end.
 #[derive(Clone, Copy, Debug, PartialEq, Eq)]
 pub enum Notice {
-    /// The system refuses a reception.
-    Deaf,
-    /// Receptions succeed again, after this many turns in which one failed.
-    Receives(u64),
-    /// The system refuses sends on this channel, numbered from 1.
-    SendsFail(usize),
-    /// Sends on this channel succeed again, after this many that failed.
-    SendsSucceed(usize, u64),
+    /// The system refuses these calls on this channel, numbered from 1, with its number for the reason.
+    CallsFail(Call, usize, Option<i32>),
+    /// These calls on this channel succeed again, after this many that failed.
+    CallsSucceed(Call, usize, u64),
     /// The connection ended this many milliseconds after a retransmission was requested, which did not come.
     Unanswered(u64),
     /// This many more datagrams were dropped, for causes that are logged.
@@ -86,10 +83,10 @@ fn write_what<W: Write>(writer: &mut W, notice: Notice) -> io::Result<()>
     ensures { OnOk result (Appends (W.contents writer.old) (W.contents writer.new) (noticing.notice_text notice)) }
 {
     match notice {
-        Notice::Deaf => write_text(writer, "a reception fails: the system refuses it"),
-        Notice::Receives(turns) => write_receives(writer, turns),
-        Notice::SendsFail(channel) => write_sends_fail(writer, channel),
-        Notice::SendsSucceed(channel, failed) => write_sends_succeed(writer, channel, failed),
+        Notice::CallsFail(call, channel, error) => write_calls_fail(writer, call, channel, error),
+        Notice::CallsSucceed(call, channel, failed) => {
+            write_calls_succeed(writer, call, channel, failed)
+        }
         Notice::Unanswered(milliseconds) => write_unanswered(writer, milliseconds),
         Notice::Drops(count) => write_drops(writer, count),
         Notice::WrongRequest => write_text(
@@ -104,42 +101,76 @@ fn write_what<W: Write>(writer: &mut W, notice: Notice) -> io::Result<()>
     }
 }
 
-/// Writes that receptions succeed again.
-#[tactic(auto, unfolding(crate::specs::Noticing::receives_text))]
-fn write_receives<W: Write>(writer: &mut W, turns: u64) -> io::Result<()>
-    // If `write_receives` succeeds, it has appended the number of turns in which a reception failed.
-    ensures { OnOk result (Appends (W.contents writer.old) (W.contents writer.new) (noticing.receives_text turns)) }
+/// Writes that calls on a channel fail, and why.
+#[tactic(auto, unfolding(crate::specs::Noticing::calls_fail_text))]
+fn write_calls_fail<W: Write>(
+    writer: &mut W,
+    call: Call,
+    channel: usize,
+    error: Option<i32>,
+) -> io::Result<()>
+    // If `write_calls_fail` succeeds, it has appended the kind of call, the number of the channel, and the system's
+    // number for the reason.
+    ensures { OnOk result (Appends (W.contents writer.old) (W.contents writer.new)
+        (noticing.calls_fail_text call channel error)) }
 {
+    let calls = call_name(call);
     write!(
         writer,
-        "receptions succeed again; one failed in {turns} turns"
+        "{calls} on channel {channel} fail: the system refuses them"
+    )?;
+    write_error(writer, error)
+}
+
+/// Writes the system's number for a reason, if it gave one.
+fn write_error<W: Write>(writer: &mut W, error: Option<i32>) -> io::Result<()>
+    // If `write_error` succeeds, it has appended the number in brackets, or nothing without one.
+    ensures { OnOk result (Appends (W.contents writer.old) (W.contents writer.new) (noticing.error_text error)) }
+{
+    match error {
+        None => write_text(writer, ""),
+        Some(number) => write_number(writer, number),
+    }
+}
+
+/// Writes the system's number for a reason.
+#[tactic(auto, unfolding(crate::specs::Noticing::number_text))]
+fn write_number<W: Write>(writer: &mut W, number: i32) -> io::Result<()>
+    // If `write_number` succeeds, it has appended the number in brackets.
+    ensures { OnOk result (Appends (W.contents writer.old) (W.contents writer.new) (noticing.number_text number)) }
+{
+    write!(writer, " (error {number})")
+}
+
+/// Writes that calls on a channel succeed again.
+#[tactic(auto, unfolding(crate::specs::Noticing::calls_succeed_text))]
+fn write_calls_succeed<W: Write>(
+    writer: &mut W,
+    call: Call,
+    channel: usize,
+    failed: u64,
+) -> io::Result<()>
+    // If `write_calls_succeed` succeeds, it has appended the kind of call, the number of the channel and that of the
+    // calls that failed.
+    ensures { OnOk result (Appends (W.contents writer.old) (W.contents writer.new)
+        (noticing.calls_succeed_text call channel failed)) }
+{
+    let calls = call_name(call);
+    write!(
+        writer,
+        "{calls} on channel {channel} succeed again: none failed for T_max; {failed} failed before"
     )
 }
 
-/// Writes that sends on a channel fail.
-#[tactic(auto, unfolding(crate::specs::Noticing::sends_fail_text))]
-fn write_sends_fail<W: Write>(writer: &mut W, channel: usize) -> io::Result<()>
-    // If `write_sends_fail` succeeds, it has appended the number of the channel.
-    ensures { OnOk result (Appends (W.contents writer.old) (W.contents writer.new)
-        (noticing.sends_fail_text channel)) }
+/// Returns the name of calls of a kind.
+fn call_name(call: Call) -> &'static str
+    // `call_name` returns "sends" or "receptions".
+    ensures { result.now ≡ noticing.call_name call }
 {
-    write!(
-        writer,
-        "sends on channel {channel} fail: the system refuses them"
-    )
-}
-
-/// Writes that sends on a channel succeed again.
-#[tactic(auto, unfolding(crate::specs::Noticing::sends_succeed_text))]
-fn write_sends_succeed<W: Write>(writer: &mut W, channel: usize, failed: u64) -> io::Result<()>
-    // If `write_sends_succeed` succeeds, it has appended the numbers of the channel and of the sends that failed.
-    ensures { OnOk result (Appends (W.contents writer.old) (W.contents writer.new)
-        (noticing.sends_succeed_text channel failed)) }
-{
-    write!(
-        writer,
-        "sends on channel {channel} succeed again: none failed for T_max; {failed} failed before"
-    )
+    match call {
+        Call::Send => "sends",
+        Call::Receive => "receptions",
+    }
 }
 
 /// Writes that a requested retransmission did not come.

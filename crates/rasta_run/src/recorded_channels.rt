@@ -6,7 +6,7 @@
 ghost use Rattle.std.specs.Prelude.{◌≡◌, ◌≤◌, true, length, is_ok, IfOk, IfSome};
 ghost use Rattle.channels.specs.Told.{Sends, after_receive};
 
-use crate::recorder::Recorder;
+use crate::recorder::{Recorder, Wanted};
 use channels::{ChannelFault, Channels, Note};
 use std::alloc::{AllocError, Global};
 
@@ -25,13 +25,15 @@ impl<C: Drop> RecordedChannels<C> {
     /// # Errors
     ///
     /// - Returns the error if an allocation fails.
-    pub fn over(alloc: Global, inner: C, listens: bool) -> Result<Self, AllocError>
+    pub fn over(alloc: Global, inner: C, listens: bool, wanted: Wanted) -> Result<Self, AllocError>
         // If `over` succeeds, the channels inside are the ones given.
         ensures inner { IfOk result (λ o. o.inner ≡ inner) }
         // If `over` succeeds, the recorder listens if and only if `listens` is true.
         ensures listens { IfOk result (λ o. o.recorder.value.listens ≡ listens) }
+        // If `over` succeeds, the recorder knows what its end expects.
+        ensures wanted { IfOk result (λ o. o.recorder.value.wanted ≡ wanted) }
     {
-        let recorder = Box::new(alloc, Recorder::new(listens))?;
+        let recorder = Box::new(alloc, Recorder::new(listens, wanted))?;
         Ok(RecordedChannels { inner, recorder })
     }
 }

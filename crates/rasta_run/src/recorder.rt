@@ -8,18 +8,21 @@ ghost use Rattle.safe_machine.specs.declared.ConnectionState.{ConnectionState};
 ghost use Rattle.safe_machine.specs.declared.Step.{Step};
 ghost use Rattle.rasta_run.specs.Counting as counting;
 ghost use Rattle.rasta_run.specs.Headers.{header_seen, kind_seen};
+ghost use Rattle.rasta_run.specs.Recording.{wanted_by};
 ghost use Rattle.rasta_run.specs.Recording as recording;
 ghost use Rattle.rasta_run.specs.Telling as telling;
 
 use crate::counts::{ChannelCounts, count_dropped, count_sent};
+use crate::events::is_repeat;
 use crate::header::{Header, header_of, kind_of};
 use arrayvec::ArrayVec;
 use channels::Note;
+use end_settings::EndConfig;
 use octets::limits::CHANNELS_MAX;
 use pdu_text::{Cause, Happening};
 use red_layer::RedEvent;
 use safe_machine::{DropCause, Step};
-use safe_pdu::Kind;
+use safe_pdu::{Kind, SafeFault};
 
 /// The greatest number of events that are kept. A turn receives at most 64 datagrams, and few of them make more
 /// than two events.
@@ -28,11 +31,38 @@ const KEPT: usize = 256;
 /// The longest datagram, in bytes.
 const DATAGRAM_MAX: usize = 1_258;
 
+/// What an end expects in the datagrams of its peer.
+#[derive(Clone, Copy, Debug, PartialEq, Eq)]
+pub struct Wanted {
+    /// The identifier of the peer, as the sender.
+    pub peer_id: u32,
+    /// The identifier of the end, as the receiver.
+    pub id: u32,
+    /// The length of the safety code, in bytes.
+    pub code: u64,
+}
+
+impl Wanted {
+    /// Returns what an end with these settings expects.
+    pub fn of(config: &EndConfig) -> Self
+        // `of` returns both identifiers and the length of the safety code of the settings.
+        ensures { result ≡ wanted_by config.now }
+    {
+        Wanted {
+            peer_id: config.peer_id,
+            id: config.id,
+            code: config.code,
+        }
+    }
+}
+
 /// The recorder of an end. If it does not listen, it keeps nothing, and costs one test a datagram.
 #[derive(Drop)]
 pub struct Recorder {
     /// Whether it listens.
     pub listens: bool,
+    /// What its end expects.
+    wanted: Wanted,
     /// The counts of each channel, the first one first.
     pub channels: [ChannelCounts; CHANNELS_MAX],
     /// The number of parts that ended a connection or came after its end, modulo 2^64.
@@ -53,9 +83,11 @@ pub struct Recorder {
 
 impl Recorder {
     /// Returns a recorder that has recorded nothing.
-    pub fn new(listens: bool) -> Self
+    pub fn new(listens: bool, wanted: Wanted) -> Self
         // A new recorder listens if and only if `listens` is true.
         ensures listens { result.listens ≡ listens }
+        // The end of a new recorder expects what is given.
+        ensures wanted { result.wanted ≡ wanted }
         // A new recorder has no events.
         ensures happened { result.happened ≡ 0 }
         // In a new recorder nothing is counted of any channel.
@@ -69,6 +101,7 @@ impl Recorder {
     {
         Recorder {
             listens,
+            wanted,
             channels: [ChannelCounts::none(); CHANNELS_MAX],
             closing: 0,
             last_cause: None,
@@ -205,13 +238,13 @@ impl Recorder {
             (counting.channel_under number self.old.came.0 self.old.came.1) cause self.old.channels }
         // `hear_dropped` does not change the number of parts that ended a connection.
         ensures closing { self.new.closing ≡ self.old.closing }
-        // `hear_dropped` also keeps the channel and the cause, with the identifiers of a stranger if they are known; it
-        // changes nothing else.
+        // `hear_dropped` also keeps the channel and the cause, with the identifiers of a stranger or another length of
+        // the safety code, and what was expected, if they are known; it changes nothing else.
         ensures kept { self.new ≡ recording.after_part number cause self.old }
     {
         let (channel, header) = under(self.came, number);
         count_dropped(&mut self.channels, channel, cause);
-        self.drop_for(channel, drop_cause(cause, header));
+        self.drop_for(channel, drop_cause(cause, header, self.wanted));
     }
 
     /// Records a dropped datagram with its cause.
@@ -315,23 +348,38 @@ fn last_of(before: Option<Cause>, cause: Cause) -> Cause
     // earlier datagram.
     ensures { result ≡ telling.last_of before cause }
 {
-    match (before, cause) {
-        (Some(before), Cause::Early(RedEvent::Old)) => before,
+    match before {
+        Some(before) if is_repeat(cause) => before,
         _ => cause,
     }
 }
 
-/// Returns why the safety machine dropped a part, with the identifiers of its header if they are known.
-fn drop_cause(cause: DropCause, header: Option<Header>) -> Cause
-    // `drop_cause` returns the cause itself, and for a stranger with a known header the identifiers in it.
-    ensures { result ≡ telling.drop_cause cause header }
+/// Returns why the safety machine dropped a part, with what its header shows and what was expected, if that is known.
+fn drop_cause(cause: DropCause, header: Option<Header>, wanted: Wanted) -> Cause
+    // `drop_cause` returns the cause itself, but for a stranger with a known header the identifiers in it, and for a
+    // fault the length of the safety code, if it is known and another one.
+    ensures { result ≡ telling.drop_cause cause header wanted }
 {
     match (cause, header) {
         (DropCause::Stranger, Some(header)) => Cause::Stranger {
             sender: header.sender,
             receiver: header.receiver,
+            peer_id: wanted.peer_id,
+            id: wanted.id,
         },
+        (DropCause::Fault(fault), Some(header)) => fault_cause(fault, header.code, wanted.code),
         (cause, _) => Cause::Part(cause),
+    }
+}
+
+/// Returns the cause of a part with a fault, whose safety code has the length `found`, if that is known.
+fn fault_cause(fault: SafeFault, found: Option<u64>, own: u64) -> Cause
+    // `fault_cause` returns both lengths if they differ, and else the fault itself.
+    ensures { result ≡ telling.fault_cause fault found own }
+{
+    match found {
+        Some(found) if found != own => Cause::OtherCode { found, own },
+        _ => Cause::Part(DropCause::Fault(fault)),
     }
 }
 

@@ -18,6 +18,7 @@ use crate::RecordedChannels;
 use crate::drawing::{Draw, first_number};
 use crate::keeping::{end_of_wait, is_wait_over};
 use crate::noticing::Notice;
+use crate::recorder::Wanted;
 use crate::standing::is_up;
 use crate::turns::Actor;
 use crate::unopened::fault_of_end;
@@ -199,8 +200,9 @@ impl Actor<'_, UdpChannels> {
             return Ok(false);
         }
         let first_sn = first_number(source, None)?;
-        let Ok(spare) = RecordedChannels::over(alloc, SocketChannels::over(Vec::new(alloc)), false)
-        else {
+        let wanted = Wanted::of(&config);
+        let none = SocketChannels::over(Vec::new(alloc));
+        let Ok(spare) = RecordedChannels::over(alloc, none, false, wanted) else {
             return Err(Fault::Memory);
         };
         self.note_opening(now);

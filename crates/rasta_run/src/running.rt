@@ -4,6 +4,7 @@ ghost use Rattle.std.specs.Prelude.{◌≡◌, ℕ, ◌≤◌, ◌+◌, ◌%◌,
 ghost use Rattle.rasta_run.specs.Acting as acting;
 ghost use Rattle.rasta_run.specs.Counting.{counted_of};
 ghost use Rattle.rasta_run.specs.Counts.{looked};
+ghost use Rattle.rasta_run.specs.Failing.{all_failures};
 ghost use Rattle.rasta_run.specs.Pending.{unread_lines};
 ghost use Rattle.rasta_run.specs.Progress.{limit_after};
 ghost use Rattle.rasta_run.specs.Ticking.{greatest_time};
@@ -266,7 +267,7 @@ impl Running<'_> {
         // If `keep` succeeds, it has looked at the counts of the first end, as it is then.
         ensures counts { OnOk result (self.new.first.teller ≡ looked self.old.first.teller
             (counted_of self.new.first.earlier.sums (statistics_of self.new.first.end)
-            (channels_of self.new.first.end).recorder.value self.new.first.put self.new.first.taken) now) }
+            (channels_of self.new.first.end).recorder.value self.new.first.failures self.new.first.put self.new.first.taken) now) }
     {
         let mut source = Random { system: rt };
         let second = keep_second(&mut self.second, &mut source, alloc, now, err)?;
@@ -405,8 +406,10 @@ impl Running<'_> {
         now: Milliseconds,
         err: &mut E,
     ) {
+        self.first.note_failures();
         self.first.conclude(now, first_met, err);
         if let Some(second) = &mut self.second {
+            second.note_failures();
             second.conclude(now, second_met, err);
         }
         let _ = self.tell_block(now, err);
@@ -423,11 +426,14 @@ fn turn_of<O: Write, E: Write>(
     requires now { now ≤ 2 ^ 62 }
     requires later { actor.old.end.time ≤ now }
     // After `turn_of` the end is no later than `now`, and it has taken a turn.
-    ensures { (actor.new.end.time ≤ now) × (actor.new.last_turn ≡ now) }
+    ensures turned { (actor.new.end.time ≤ now) × (actor.new.last_turn ≡ now) }
+    // After `turn_of` the calls that failed so far are noted.
+    ensures noted { actor.new.failures ≡ all_failures (channels_of actor.new.end).inner.channels }
 {
     let mut printer = Printer::new(actor.side, out);
     let ran = actor.turn(now, &mut printer, err);
     actor.note_taken(printer.taken);
+    actor.note_failures();
     ran
 }
 

@@ -1,6 +1,6 @@
 //! One end in a turn: it receives, then it puts telegrams of its list.
 
-ghost use Rattle.std.specs.Prelude.{◌≡◌, ◌+◌, ◌-◌, ◌≤◌, ◌^◌, ◌%◌, length, ◌==◌, None, false, IfErr, IfOk, OnOk};
+ghost use Rattle.std.specs.Prelude.{◌≡◌, ◌∷◌, [], ◌+◌, ◌-◌, ◌≤◌, ◌^◌, ◌%◌, length, ◌==◌, None, false, IfErr, IfOk, OnOk};
 ghost use Rattle.rasta_run.specs.Counting.{counted_of};
 ghost use Rattle.rasta_run.specs.Counts.{told_text};
 ghost use Rattle.rasta_run.specs.Progress as progress;
@@ -13,6 +13,7 @@ ghost use Rattle.stack_end.specs.Certain.{confirmed_in};
 ghost use Rattle.stack_end.specs.EndValue.{channels_of, inside, statistics_of};
 ghost use Rattle.stack_end.specs.Turns.{is_over, is_settled};
 ghost use Rattle.std.specs.Io.KnownBytes.{Appends};
+ghost use Rattle.udp_channels.specs.Sockets.{no_failures};
 
 use crate::RecordedChannels;
 use crate::counting::Teller;
@@ -27,6 +28,7 @@ use crate::undone::doubt_of;
 use channels::Channels;
 use end_settings::Side;
 use octets::Milliseconds;
+use octets::limits::CHANNELS_MAX;
 use pdi_session::Taker;
 use rasta_words::Fault;
 use safe_machine::ConnectionState;
@@ -36,6 +38,7 @@ use std::alloc::{Allocator, Global};
 use std::io;
 use std::io::Write;
 use std::time::Clock;
+use udp_channels::Failures;
 
 /// The longest time between two turns that is not logged, in milliseconds. The longest wait is 1,000.
 const GAP_MAX: u64 = 1_500;
@@ -73,6 +76,8 @@ pub struct Actor<'a, C, A: Allocator = Global> {
     pub was_closed: bool,
     /// The number of telegrams taken.
     pub taken: u64,
+    /// The calls that failed on each channel, the first one first, as they were last noted.
+    pub failures: [Failures; CHANNELS_MAX],
     /// Its log.
     pub log: Log,
     /// Whether it is opened again if its connection is lost.
@@ -110,6 +115,8 @@ impl<'a, C: Channels, A: Allocator + Copy> Actor<'a, C, A> {
         ensures kept { result.is_kept ≡ is_kept }
         // A new `Actor` has no earlier opening.
         ensures earlier { result.earlier.sums ≡ totals.none }
+        // No call is noted as failed of a new `Actor`.
+        ensures failures { result.failures ≡ no_failures ∷ no_failures ∷ no_failures ∷ no_failures ∷ [] }
         // A new `Actor` logs and prints as it is given.
         ensures outputs { (result.log ≡ log) × (result.teller ≡ teller) }
         // A new `Actor` has put, taken, refused and lost nothing, and got on when it was opened.
@@ -134,6 +141,7 @@ impl<'a, C: Channels, A: Allocator + Copy> Actor<'a, C, A> {
             deaf_turns: 0,
             was_closed: false,
             taken: 0,
+            failures: [Failures::none(); CHANNELS_MAX],
             log,
             is_kept,
             keeper,
@@ -160,7 +168,7 @@ impl<'a, C: Channels, A: Allocator + Copy> Actor<'a, C, A> {
         self.log_events(now, err);
     }
 
-    /// Logs the events since the last call, the channels that became silent or receive again, sends that begin to fail
+    /// Logs the events since the last call, the channels that became silent or receive again, calls that begin to fail
     /// or succeed again, and how many more datagrams were dropped.
     pub fn log_events<E: Write>(&mut self, now: Milliseconds, err: &mut E)
         // `log_events` changes nothing but the log.
@@ -172,9 +180,10 @@ impl<'a, C: Channels, A: Allocator + Copy> Actor<'a, C, A> {
         let departure = self.log.departure(&self.end);
         let counted = self.counted();
         let recorder = &self.end.channels_seen().recorder;
-        self.log.catch_up(recorder, departure, now, err);
+        let config = &self.keeper.config;
+        self.log.catch_up(recorder, departure, config, now, err);
         self.log.look(&counted.sums, now, err);
-        self.log.look_at_sends(&counted.channels, now, err);
+        self.log.look_at_calls(&counted, now, err);
         let _ = self.log.look_at_request(self.end.state(), now, err);
         let _ = self.log.look_for_request(recorder.has_request, now, err);
         let _ = self.log.tell_drops(now, err);
@@ -182,15 +191,16 @@ impl<'a, C: Channels, A: Allocator + Copy> Actor<'a, C, A> {
 
     /// Returns all that is counted of the end.
     pub fn counted(&self) -> Counted
-        // `counted` adds the end's own counts to those of its earlier openings, and has those of the recorder and
-        // the numbers of telegrams put and taken.
+        // `counted` adds the end's own counts to those of its earlier openings, and has those of the recorder, the
+        // calls that failed, and the numbers of telegrams put and taken.
         ensures { result ≡ counted_of self.now.earlier.sums (statistics_of self.now.end)
-            (channels_of self.now.end).recorder.value self.now.put self.now.taken }
+            (channels_of self.now.end).recorder.value self.now.failures self.now.put self.now.taken }
     {
         let recorder = &self.end.channels_seen().recorder;
         Counted {
             sums: self.earlier.plus(&self.end.statistics()).sums,
             channels: recorder.channels,
+            failures: self.failures,
             closing: recorder.closing,
             put: self.put,
             taken: self.taken,
@@ -207,7 +217,7 @@ impl<'a, C: Channels, A: Allocator + Copy> Actor<'a, C, A> {
         // what is counted beside.
         ensures { OnOk result (Appends (E.contents err.old) (E.contents err.new)
             (told_text self.now.teller now (counted_of self.now.earlier.sums (statistics_of self.now.end)
-            (channels_of self.now.end).recorder.value self.now.put self.now.taken))) }
+            (channels_of self.now.end).recorder.value self.now.failures self.now.put self.now.taken))) }
     {
         self.teller.tell(&self.counted(), now, err)
     }
@@ -266,7 +276,7 @@ impl<'a, C: Channels, A: Allocator + Copy> Actor<'a, C, A> {
         let _ = self.note_turn(now, err);
         let works = self.hear(now, app)?;
         self.log_events(now, err);
-        let _ = self.note_reception(works, now, err);
+        self.note_reception(works);
         let _ = self.note_loss(now, err);
         self.put_now(now, app, err)?;
         Ok(())
@@ -360,28 +370,13 @@ impl<'a, C: Channels, A: Allocator + Copy> Actor<'a, C, A> {
         self.log.notice(gap_notice(gap), now, err)
     }
 
-    /// Counts turns in which a reception fails, and logs when they begin and when they are over.
-    ///
-    /// # Errors
-    ///
-    /// - The error of the writer; what it wrote before stays written.
-    fn note_reception<E: Write>(
-        &mut self,
-        works: bool,
-        now: Milliseconds,
-        err: &mut E,
-    ) -> io::Result<()>
+    /// Counts turns in which a reception fails.
+    fn note_reception(&mut self, works: bool)
         // `note_reception` counts a turn in which a reception failed, and begins again after one in which none did;
         // it changes nothing else.
         ensures kept { self.new ≡ record self.old { deaf_turns = turning.deaf_after works self.old.deaf_turns } }
-        // If `note_reception` succeeds, it has logged the first turn in which a reception failed, and the first one
-        // in which none did.
-        ensures told { OnOk result (LogsNotice (turning.reception_notice works self.old.deaf_turns) self.old.log now
-            (E.contents err.old) (E.contents err.new)) }
     {
-        let notice = reception_notice(works, self.deaf_turns);
         self.deaf_turns = deaf_after(works, self.deaf_turns);
-        self.log.notice(notice, now, err)
     }
 
     /// Logs how many telegrams are in doubt when the connection is lost.
@@ -471,18 +466,6 @@ fn deaf_after(works: bool, count: u64) -> u64
     match works {
         true => 0,
         false => count.saturating_add(1),
-    }
-}
-
-/// Returns the notice of receptions that begin to fail, or that succeed again.
-fn reception_notice(works: bool, deaf_turns: u64) -> Option<Notice>
-    // `reception_notice` returns `Deaf` at the first failure, `Receives` after the last one, and else `None`.
-    ensures { result ≡ turning.reception_notice works deaf_turns }
-{
-    match works {
-        true if deaf_turns > 0 => Some(Notice::Receives(deaf_turns)),
-        false if deaf_turns == 0 => Some(Notice::Deaf),
-        _ => None,
     }
 }
 

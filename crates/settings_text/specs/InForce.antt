@@ -92,6 +92,10 @@ identity_lines named c =
     (number_line named key.Id c.connection.own ∷ number_line named key.PeerId c.connection.peer ∷ text_line named key.Name c.addressing.own
     ∷ text_line named key.PeerName c.addressing.peer ∷ number_line named key.Protocol c.addressing.protocol ∷ [])
 
+-- the lines of what an end of this side expects of its peer's telegrams
+unfoldable pub expected_lines : Side → EndSettings → List ℕ
+expected_lines side c = joined (identity_lines (Some side) c ∷ versions_line (Some side) c.versions ∷ [])
+
 -- the lines of what an end uses to connect
 unfoldable pub beginning_lines : Option Side → EndSettings → Option ℕ → List ℕ
 beginning_lines named c first_sn =

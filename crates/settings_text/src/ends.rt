@@ -5,7 +5,7 @@ ghost use Rattle.std.specs.Io.KnownBytes.{Appends};
 ghost use Rattle.safe_pdu.specs.SafeText.{code_octets};
 ghost use Rattle.end_settings.specs.Configured.{code_of, settings_of};
 ghost use Rattle.settings_file.specs.Whole.{ends_seen, settings_seen};
-ghost use Rattle.settings_text.specs.InForce.{address_lines, all_lines, beginning_lines, count_lines, end_lines, head_text, identity_lines, limit_lines, settings_text, time_lines};
+ghost use Rattle.settings_text.specs.InForce.{address_lines, all_lines, beginning_lines, count_lines, end_lines, expected_lines, head_text, identity_lines, limit_lines, settings_text, time_lines};
 
 use crate::lists::{write_addresses, write_puts, write_versions};
 use crate::pieces::{write_bytes, write_first, write_initial_value, write_number, write_quoted};
@@ -76,6 +76,21 @@ fn write_end<W: Write>(writer: &mut W, named: Option<Side>, settings: &Settings)
     )?;
     write_limits(writer, named, &settings.config)?;
     write_puts(writer, named, settings.puts.as_slice())
+}
+
+/// Writes what an end with these settings expects of its peer's telegrams, in the form of a settings file for both
+/// ends: the keys from `id` to `versions`.
+///
+/// # Errors
+///
+/// - The error of the writer.
+#[tactic(auto, unfolding(crate::specs::InForce::expected_lines))]
+pub fn write_expected<W: Write>(writer: &mut W, side: Side, config: &EndConfig) -> io::Result<()>
+    // If it succeeds, `write_expected` has appended the lines from `id` to `versions`, with the name of the end.
+    ensures { OnOk result (Appends (W.contents writer.old) (W.contents writer.new) (expected_lines side (settings_of config.now))) }
+{
+    write_identity(writer, Some(side), config)?;
+    write_versions(writer, Some(side), config.versions.as_slice())
 }
 
 /// Writes the lines of identifiers, names and protocol type.

@@ -8,5 +8,5 @@ mod lists;
 mod pieces;
 mod places;
 
-pub use ends::write_settings;
+pub use ends::{write_expected, write_settings};
 pub use places::write_place;

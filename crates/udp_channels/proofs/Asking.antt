@@ -1,10 +1,11 @@
 -- How one more channel extends what asking several channels does, and what a send does to one of them.
-use Rattle.std.proofs.Common.{◌≡◌, ℕ, ◌+◌, ◌-◌, ◌≤◌, ◌<◌, ◌⊎◌, inl, inr, Bool, true, false, List, [], ◌∷◌, ◌++◌, Option, Some, None, Result, Ok, Err, length, take, drop, slice_set, slice_index_or, refl, sym, subst, rules, arith}
+use Rattle.std.proofs.Common.{◌≡◌, ℕ, ◌+◌, ◌-◌, ◌≤◌, ◌<◌, ◌⊎◌, inl, inr, Bool, true, false, List, [], ◌∷◌, ◌++◌, Option, Some, None, Result, Ok, Err, is_ok, length, take, drop, slice_set, slice_index_or, refl, sym, subst, rules, arith}
 use Rattle.std.proofs.lemmas.List.{drop_at, take_at}
 use Rattle.std.proofs.lemmas.Option.{slice_get-get_or}
 use Rattle.channels.specs.Told.{Answer, answered}
 use Rattle.channels.specs.declared.ChannelFault.{ChannelFault}
 use Rattle.udp_channels.specs.Sockets.{Asks, AsksAround, AsksThen, ChannelState, IsAsked, IsSent, SendsOn, or_none, unless_failed}
+use Rattle.udp_channels.specs.declared.sockets.CallFault.{CallFault}
 use Rattle.udp_channels.specs.declared.sockets.Reception.{Reception}
 use Rattle.udp_channels.specs.declared.sockets.Reception.TheVariants.{Came, Nothing, Refused}
 
@@ -17,11 +18,11 @@ asks-came channel is asked = rw is (_, _, refl, inl (_, _, asked, refl, refl))
 
 -- after a channel that refuses the others are asked
 pub asks-refused : {S : Type 0} {receives : S → ℕ → Reception → List ℕ → S → Type 0} {room same : ℕ} (channel : ℕ) (answers : List Answer)
-    {asked left : ChannelState S} {others before : List (ChannelState S)} (rest : List (ChannelState S))
-    → before ≡ asked ∷ others → same ≡ room → IsAsked receives room Refused [] asked left → Asks receives same (channel + 1) answers others rest
+    {why : CallFault} {asked left : ChannelState S} {others before : List (ChannelState S)} (rest : List (ChannelState S))
+    → before ≡ asked ∷ others → same ≡ room → IsAsked receives room (Refused why) [] asked left → Asks receives same (channel + 1) answers others rest
     → Asks receives room channel answers before (left ∷ rest)
 asks-refused {receives = receives} channel answers {others = others} rest is equal asked later =
-    rw is (_, _, refl, inr (inr (asked, subst (λ n. Asks receives n (channel + 1) answers others rest) equal later)))
+    rw is (_, _, refl, inr (inr (_, asked, subst (λ n. Asks receives n (channel + 1) answers others rest) equal later)))
 
 -- after a channel that has nothing the others are asked, and their failure is no failure
 pub asks-nothing : {S : Type 0} {receives : S → ℕ → Reception → List ℕ → S → Type 0} {room same : ℕ} (channel : ℕ)
@@ -92,12 +93,12 @@ pub then-asked : {S : Type 0} (receives : S → ℕ → Reception → List ℕ �
 then-asked receives answers front earlier equal asked = subst (λ n. Asks receives n 1 answers front earlier) equal asked
 
 -- one send of a channel of the list, which it leaves in its place
-pub sends-on : {S : Type 0} {sends : S → List ℕ → Bool → S → Type 0} {channel : ℕ} {datagram : List ℕ} {went : Bool}
+pub sends-on : {S : Type 0} {sends : S → List ℕ → Result (Unit {0}) CallFault → S → Type 0} {channel : ℕ} {datagram : List ℕ} {given : Result (Unit {0}) CallFault} {went : Bool}
     (before : List (ChannelState S)) (d : ChannelState S) {left : ChannelState S}
-    → (channel ≡ 0 → ⊥) → channel ≤ length before → IsSent sends datagram went (slice_index_or before (channel - 1) d) left
+    → (channel ≡ 0 → ⊥) → channel ≤ length before → went ≡ is_ok given → IsSent sends datagram given (slice_index_or before (channel - 1) d) left
     → SendsOn sends channel datagram went before (slice_set before (channel - 1) left)
-sends-on {channel = channel} before d positive within sent =
+sends-on {channel = channel} before d positive within went sent =
     record {
-      own = λ _. (_, _, slice_get-get_or before (channel - 1) d (omega (arith, positive, within)), sent, refl);
+      own = λ _. (_, _, _, slice_get-get_or before (channel - 1) d (omega (arith, positive, within)), sent, went, refl);
       none = search (rules, positive, within);
     }

@@ -1,10 +1,11 @@
 -- One channel over UDP: what a send and a reception do with its socket.
-use Rattle.std.specs.Prelude.{◌≡◌, ◌≢◌, ℕ, ◌==◌, Bool, false, Result, Ok, Err, List, [], ◌∷◌, length, take}
+use Rattle.std.specs.Prelude.{◌≡◌, ◌≢◌, ℕ, ◌==◌, None, Result, Ok, Err, List, [], ◌∷◌, length, take, if◌then◌else◌}
 use Rattle.std.specs.declared.io.Error.{Error}
-use Rattle.std.specs.IoError.{error_kind}
+use Rattle.std.specs.IoError.{error_kind, raw_os_error}
 use Rattle.std.specs.declared.io.ErrorKind.TheVariants.{WouldBlock}
 use Rattle.std.specs.declared.net.socket_addr.SocketAddr.{SocketAddr}
 use Rattle.udp_channels.specs.Sockets.{ChannelState, new_channel}
+use Rattle.udp_channels.specs.declared.sockets.CallFault.{CallFault}
 use Rattle.udp_channels.specs.declared.sockets.Reception.{Reception}
 use Rattle.udp_channels.specs.declared.sockets.Reception.TheVariants.{Came, Nothing, Refused}
 use Rattle.udp_channels.specs.declared.paths.Addresses.{Addresses}
@@ -14,19 +15,23 @@ pub record Path (T : Type 0) : Type 0 where
   pub socket : T
   pub addresses : Addresses
 
--- the system took the whole datagram
-abbrev pub is_whole : Result ℕ Error → ℕ → Bool
-is_whole (Ok size) whole = size == whole
-is_whole (Err why) whole = false
+-- the fault of a call with this error: the system's number for it, if it has one
+abbrev pub fault_of : Error → CallFault
+fault_of error = record { error = raw_os_error error }
+
+-- a send of a datagram of this size succeeds if the system took all of it
+abbrev pub sent_whole : Result ℕ Error → ℕ → Result (Unit {0}) CallFault
+sent_whole (Ok size) whole = if size == whole then Ok tt else Err (record { error = None })
+sent_whole (Err why) whole = Err (fault_of why)
 
 -- a send on a path
-pub record SendsToPeer {T : Type 0} (sends_to : T → List ℕ → SocketAddr → Result ℕ Error → T → Type 0) (path : Path T) (datagram : List ℕ) (went : Bool) (left : Path T) : Type 0 where
+pub record SendsToPeer {T : Type 0} (sends_to : T → List ℕ → SocketAddr → Result ℕ Error → T → Type 0) (path : Path T) (datagram : List ℕ) (sent : Result (Unit {0}) CallFault) (left : Path T) : Type 0 where
   -- what the system gave for it
   pub given : Result ℕ Error
   -- its socket makes one call, with the datagram and the peer's address
   pub call : sends_to path.socket datagram path.addresses.peer given left.socket
-  -- it succeeds if and only if the system takes the whole datagram
-  pub whole : went ≡ is_whole given (length datagram)
+  -- it succeeds if and only if the system takes the whole datagram, and its fault is that of the system's error
+  pub whole : sent ≡ sent_whole given (length datagram)
   -- the addresses stay
   pub addresses : left.addresses ≡ path.addresses
 
@@ -35,10 +40,10 @@ abbrev pub given_octets : Result (ℕ × SocketAddr) Error → List ℕ → List
 given_octets (Ok (size, sender)) buffer = take size buffer
 given_octets (Err why) buffer = []
 
--- a datagram of any sender came; nothing came if the call would have waited; any other error is a refusal
+-- a datagram of any sender came; nothing came if the call would have waited; any other error is a refusal, with that error
 abbrev pub IsReception : Result (ℕ × SocketAddr) Error → Reception → Type 0
 IsReception (Ok (size, sender)) reception = reception ≡ Came size
-IsReception (Err why) reception = (error_kind why ≡ WouldBlock → reception ≡ Nothing) × (error_kind why ≢ WouldBlock → reception ≡ Refused)
+IsReception (Err why) reception = (error_kind why ≡ WouldBlock → reception ≡ Nothing) × (error_kind why ≢ WouldBlock → reception ≡ Refused (fault_of why))
 
 -- a reception on a path
 pub record ReceivesFromAny {T : Type 0} (gives : T → ℕ → Result (ℕ × SocketAddr) Error → List ℕ → T → Type 0) (path : Path T) (room : ℕ) (reception : Reception) (octets : List ℕ) (left : Path T) : Type 0 where

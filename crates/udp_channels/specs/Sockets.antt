@@ -1,14 +1,16 @@
 -- Channels over sockets: what a send and a reception do to the channels, and what contracts know of them.
-use Rattle.std.specs.Prelude.{◌≡◌, ℕ, ◌+◌, ◌-◌, ◌%◌, ◌^◌, ◌≤◌, ◌==◌, ◌&&◌, ◌⊎◌, Bool, true, false, nat_le, if◌then◌else◌, Option, None, Some, option_map, Result, Ok, Err, List, [], ◌∷◌, length, take, drop, slice_get, slice_set}
+use Rattle.std.specs.Prelude.{◌≡◌, ℕ, ◌+◌, ◌-◌, ◌%◌, ◌^◌, ◌≤◌, ◌==◌, ◌&&◌, ◌⊎◌, Bool, true, false, nat_le, if◌then◌else◌, Option, None, Some, option_map, Result, Ok, Err, is_ok, List, [], ◌∷◌, length, take, drop, slice_get, slice_set}
 use Rattle.octets.specs.declared.limits.TheConstants.{CHANNELS_MAX}
-use Rattle.channels.specs.Told.{Answer, Told, counted}
+use Rattle.channels.specs.Told.{Answer, Told}
 use Rattle.channels.specs.declared.ChannelFault.{ChannelFault}
 use Rattle.channels.specs.declared.ChannelFault.TheVariants as fault
+use Rattle.udp_channels.specs.declared.sockets.CallFault.{CallFault}
+use Rattle.udp_channels.specs.declared.sockets.FailedCalls.{FailedCalls}
 use Rattle.udp_channels.specs.declared.sockets.Failures.{Failures}
 use Rattle.udp_channels.specs.declared.sockets.Reception.{Reception}
 use Rattle.udp_channels.specs.declared.sockets.Reception.TheVariants.{Came, Nothing, Refused}
 
--- one channel: its socket, and how often its calls failed
+-- one channel: its socket, and the calls that failed
 pub record ChannelState (S : Type 0) : Type 0 where
   pub socket : S
   pub failures : Failures
@@ -21,9 +23,26 @@ pub record Kept (S : Type 0) : Type 0 where
   pub failed_receives : ℕ
   pub received : ℕ
 
+-- no call of a kind has failed
+abbrev pub none_failed : FailedCalls
+none_failed = record { count = 0; last = None }
+
+-- the failures of a channel on which nothing has failed
+abbrev pub no_failures : Failures
+no_failures = record { sends = none_failed; receives = none_failed }
+
+-- one more call has failed: it is counted, and its cause is the last one
+abbrev pub one_more : CallFault → FailedCalls → FailedCalls
+one_more why calls = record { count = (calls.count + 1) % 2 ^ 64; last = Some why }
+
+-- the calls that failed after one more call, which failed for this cause, if it did
+abbrev pub failed_after : Option CallFault → FailedCalls → FailedCalls
+failed_after None calls = calls
+failed_after (Some why) calls = one_more why calls
+
 -- a channel on which nothing has failed
 abbrev pub new_channel : {S : Type 0} → S → ChannelState S
-new_channel socket = record { socket = socket; failures = record { sends = 0; receives = 0 } }
+new_channel socket = record { socket = socket; failures = no_failures }
 
 -- channels that were not used yet
 abbrev pub new_kept : {S : Type 0} → List (ChannelState S) → Kept S
@@ -45,39 +64,44 @@ told_of c =
 abbrev pub octets_of : Reception → List ℕ → List ℕ
 octets_of (Came size) buffer = take size buffer
 octets_of Nothing buffer = []
-octets_of Refused buffer = []
+octets_of (Refused why) buffer = []
 
 -- a datagram received is not longer than the buffer
 abbrev pub Fits : Reception → ℕ → Type 0
 Fits (Came size) room = size ≤ room
 Fits Nothing room = Unit {0}
-Fits Refused room = Unit {0}
+Fits (Refused why) room = Unit {0}
 
--- the socket did not refuse the call
-abbrev pub was_done : Reception → Bool
-was_done (Came size) = true
-was_done Nothing = true
-was_done Refused = false
+-- why a socket did not accept a datagram, if it did not
+abbrev pub unsent : Result (Unit {0}) CallFault → Option CallFault
+unsent (Ok done) = None
+unsent (Err why) = Some why
+
+-- why a socket refused a reception, if it did
+abbrev pub unheard : Reception → Option CallFault
+unheard (Came size) = None
+unheard Nothing = None
+unheard (Refused why) = Some why
 
 -- there is such a channel; channels are numbered from 1
 abbrev pub has_channel : {S : Type 0} → ℕ → List S → Bool
 has_channel channel channels = nat_le 1 channel && nat_le channel (length channels)
 
--- the counts of a channel, if there is one of this number
+-- the failures of a channel, if there is one of this number
 abbrev pub failures_of : {S : Type 0} → ℕ → List (ChannelState S) → Option Failures
 failures_of channel channels = if has_channel channel channels then option_map (λ c. c.failures) (slice_get channels (channel - 1)) else None
 
--- a send on one channel: its socket makes one send, and the channel counts a failure
-pub record IsSent {S : Type 0} (sends : S → List ℕ → Bool → S → Type 0) (datagram : List ℕ) (went : Bool) (before after : ChannelState S) : Type 0 where
+-- a send on one channel: its socket makes one send, and the channel counts a failure with its cause
+pub record IsSent {S : Type 0} (sends : S → List ℕ → Result (Unit {0}) CallFault → S → Type 0) (datagram : List ℕ) (given : Result (Unit {0}) CallFault) (before after : ChannelState S) : Type 0 where
   -- the socket makes one send of the datagram, and accepts it or not
-  pub sent : sends before.socket datagram went after.socket
-  -- a datagram that it does not accept adds 1 to this channel's failed sends
-  pub failures : after.failures ≡ record { sends = counted went before.failures.sends; receives = before.failures.receives }
+  pub sent : sends before.socket datagram given after.socket
+  -- a datagram that it does not accept adds 1 to this channel's failed sends, with its cause
+  pub failures : after.failures ≡ record { sends = failed_after (unsent given) before.failures.sends; receives = before.failures.receives }
 
 -- a send on a channel: only this channel changes, and it makes the send
-pub record SendsOn {S : Type 0} (sends : S → List ℕ → Bool → S → Type 0) (channel : ℕ) (datagram : List ℕ) (went : Bool) (before after : List (ChannelState S)) : Type 0 where
+pub record SendsOn {S : Type 0} (sends : S → List ℕ → Result (Unit {0}) CallFault → S → Type 0) (channel : ℕ) (datagram : List ℕ) (went : Bool) (before after : List (ChannelState S)) : Type 0 where
   -- if there is such a channel, it makes one send, and the others do not change
-  pub own : has_channel channel before ≡ true → (used left : ChannelState S) × (slice_get before (channel - 1) ≡ Some used) × IsSent sends datagram went used left × (after ≡ slice_set before (channel - 1) left)
+  pub own : has_channel channel before ≡ true → (given : Result (Unit {0}) CallFault) × (used left : ChannelState S) × (slice_get before (channel - 1) ≡ Some used) × IsSent sends datagram given used left × (went ≡ is_ok given) × (after ≡ slice_set before (channel - 1) left)
   -- if there is no such channel, nothing is sent
   pub none : has_channel channel before ≡ false → (went ≡ false) × (after ≡ before)
 
@@ -85,12 +109,12 @@ pub record SendsOn {S : Type 0} (sends : S → List ℕ → Bool → S → Type 
 abbrev pub fault_on : {S : Type 0} → ℕ → List S → ChannelFault
 fault_on channel channels = if has_channel channel channels then fault.System else fault.Room
 
--- one channel is asked: its socket makes one reception, and the channel counts a refusal
+-- one channel is asked: its socket makes one reception, and the channel counts a refusal with its cause
 pub record IsAsked {S : Type 0} (receives : S → ℕ → Reception → List ℕ → S → Type 0) (room : ℕ) (reception : Reception) (octets : List ℕ) (before after : ChannelState S) : Type 0 where
   -- the socket makes one reception with this result and these bytes
   pub received : receives before.socket room reception octets after.socket
-  -- a refusal adds 1 to this channel's failed receptions
-  pub failures : after.failures ≡ record { sends = before.failures.sends; receives = counted (was_done reception) before.failures.receives }
+  -- a refusal adds 1 to this channel's failed receptions, with its cause
+  pub failures : after.failures ≡ record { sends = before.failures.sends; receives = failed_after (unheard reception) before.failures.receives }
 
 -- the result of several channels if one more of them has nothing
 abbrev pub unless_failed : Result (Option (ℕ × ℕ)) ChannelFault → Result (Option (ℕ × ℕ)) ChannelFault
@@ -110,7 +134,7 @@ Asks {S} receives room channel answers (asked ∷ others) after =
     (left : ChannelState S) × (rest : List (ChannelState S)) × (after ≡ left ∷ rest)
     × (((size : ℕ) × (octets : List ℕ) × IsAsked receives room (Came size) octets asked left × (answers ≡ Some (channel, octets) ∷ []) × (rest ≡ others))
     ⊎ (((later : List Answer) × IsAsked receives room Nothing [] asked left × Asks receives room (channel + 1) later others rest × (answers ≡ or_none later))
-    ⊎ (IsAsked receives room Refused [] asked left × Asks receives room (channel + 1) answers others rest)))
+    ⊎ ((why : CallFault) × IsAsked receives room (Refused why) [] asked left × Asks receives room (channel + 1) answers others rest)))
 
 -- after these answers of the later channels, those from channel 1 on are asked, unless a datagram was given
 abbrev pub AsksThen : {S : Type 0} → (S → ℕ → Reception → List ℕ → S → Type 0) → ℕ → (later answers : List Answer) → (before after : List (ChannelState S)) → Type 0

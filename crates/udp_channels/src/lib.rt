@@ -8,5 +8,7 @@ mod sockets;
 mod udp;
 
 pub use paths::{Addresses, UdpCalls, UdpPath};
-pub use sockets::{Failures, Reception, Socket, SocketChannel, SocketChannels};
+pub use sockets::{
+    CallFault, FailedCalls, Failures, Reception, Socket, SocketChannel, SocketChannels,
+};
 pub use udp::{Place, Refusal, UdpChannels, UdpFault, Watch, is_address, open_udp};

@@ -3,9 +3,9 @@
 ghost use Rattle.std.specs.Prelude.{◌≡◌, ◌≤◌, ℕ, List, Result, length, IfOk};
 ghost use Rattle.std.specs.declared.io.Error.{Error};
 ghost use Rattle.std.specs.declared.net.socket_addr.SocketAddr.{SocketAddr};
-ghost use Rattle.udp_channels.specs.Paths.{IsReception, ReceivesFromAny, SendsToPeer, given_octets};
+ghost use Rattle.udp_channels.specs.Paths.{IsReception, ReceivesFromAny, SendsToPeer, fault_of, given_octets, sent_whole};
 
-use crate::sockets::{Reception, Socket};
+use crate::sockets::{CallFault, Reception, Socket};
 use mio::net::UdpSocket;
 use std::io;
 use std::io::ErrorKind;
@@ -124,9 +124,9 @@ impl<T: UdpCalls> Socket for UdpPath<T> {
     ghost receives = { ReceivesFromAny T.gives };
 
     /// Sends it to the peer's address. A datagram that the system accepts only in part is lost.
-    fn send(&mut self, datagram: &[u8]) -> bool {
+    fn send(&mut self, datagram: &[u8]) -> Result<(), CallFault> {
         let taken = self.socket.send_to(datagram, self.addresses.peer);
-        matches!(taken, Ok(size) if size == datagram.len())
+        sent(taken, datagram.len())
     }
 
     fn receive(&mut self, buffer: &mut [u8]) -> Reception {
@@ -134,9 +134,32 @@ impl<T: UdpCalls> Socket for UdpPath<T> {
     }
 }
 
+/// Returns whether the system took a whole datagram of this size, by what it gave.
+fn sent(given: io::Result<usize>, whole: usize) -> Result<(), CallFault>
+    // `sent` succeeds if and only if the system took so many bytes; the fault has the number of the system's error.
+    ensures { result ≡ sent_whole given whole }
+{
+    match given {
+        Ok(size) if size == whole => Ok(()),
+        Ok(_) => Err(CallFault { error: None }),
+        Err(fault) => Err(fault_of(&fault)),
+    }
+}
+
+/// Returns the fault of a call with this error.
+fn fault_of(error: &io::Error) -> CallFault
+    // `fault_of` returns the system's number for the error, if it has one.
+    ensures { result ≡ fault_of error.now }
+{
+    CallFault {
+        error: error.raw_os_error(),
+    }
+}
+
 /// Returns what came, by what the system gave.
 fn reception(given: io::Result<(usize, SocketAddr)>) -> Reception
-    // The reception is a datagram of any sender; nothing if the call would have waited; else a refusal.
+    // The reception is a datagram of any sender; nothing if the call would have waited; else a refusal, with the
+    // number of the system's error.
     ensures { IsReception given result }
 {
     match given {
@@ -145,7 +168,7 @@ fn reception(given: io::Result<(usize, SocketAddr)>) -> Reception
             if fault.kind() == ErrorKind::WouldBlock {
                 Reception::Nothing
             } else {
-                Reception::Refused
+                Reception::Refused(fault_of(&fault))
             }
         }
     }

@@ -1,15 +1,23 @@
 //! Channels over one socket each. A socket is a trait of two calls, one call of the system each, so that a
 //! test can replace it. The calls themselves are trusted.
 
-ghost use Rattle.std.specs.Prelude.{◌≡◌, ◌+◌, ◌^◌, ◌<◌, ◌≤◌, ℕ, Bool, false, List, Err, length, is_ok, IfErr, IfOk, IfSome};
+ghost use Rattle.std.specs.Prelude.{◌≡◌, ◌+◌, ◌^◌, ◌<◌, ◌≤◌, ℕ, Result, false, List, Err, length, is_ok, IfErr, IfOk, IfSome};
 ghost use Rattle.channels.specs.Told.{Sends, after_receive, answered};
-ghost use Rattle.udp_channels.specs.Sockets.{Asks, AsksAround, Fits, IsAsked, IsSent, SendsOn, failures_of, fault_on, last_after, new_channel, new_kept, octets_of, received_after, told_of, unless_failed};
+ghost use Rattle.udp_channels.specs.Sockets.{Asks, AsksAround, Fits, IsAsked, IsSent, SendsOn, failures_of, fault_on, last_after, new_channel, new_kept, no_failures, octets_of, one_more, received_after, told_of, unless_failed};
 ghost use Rattle.channels.specs.declared.ChannelFault.TheVariants as channel_fault;
+ghost use Rattle.udp_channels.specs.declared.sockets.CallFault.{CallFault};
 ghost use Rattle.udp_channels.specs.declared.sockets.Reception.{Reception};
 
 use channels::{ChannelFault, Channels};
 use std::alloc::{Allocator, Global};
 use std::marker::Model;
+
+/// Why the system refused a call.
+#[derive(Clone, Copy, Debug, PartialEq, Eq)]
+pub struct CallFault {
+    /// The system's number for the reason (`errno`), if it gave one.
+    pub error: Option<i32>,
+}
 
 /// The result of asking a socket for a datagram.
 #[derive(Clone, Copy, Debug, PartialEq, Eq)]
@@ -19,21 +27,25 @@ pub enum Reception {
     /// None has come.
     Nothing,
     /// The operating system refused the call.
-    Refused,
+    Refused(CallFault),
 }
 
 /// The connection of one channel to its peer. Over UDP, each call is one call of the system and nothing
 /// else.
 pub trait Socket {
-    /// What a send does: the datagram, whether the socket accepted it, and the socket afterwards.
-    ghost sends: { Self → List ℕ → Bool → Self → Type 0 };
+    /// What a send does: the datagram, whether the socket accepted it or why not, and the socket afterwards.
+    ghost sends: { Self → List ℕ → Result (Unit {0}) CallFault → Self → Type 0 };
 
     /// What a reception does: the length of the buffer, the result, the bytes received, and the socket
     /// afterwards.
     ghost receives: { Self → ℕ → Reception → List ℕ → Self → Type 0 };
 
-    /// Sends a datagram, and returns whether the socket accepted it.
-    fn send(&mut self, datagram: &[u8]) -> bool
+    /// Sends a datagram.
+    ///
+    /// # Errors
+    ///
+    /// Why the socket did not accept it.
+    fn send(&mut self, datagram: &[u8]) -> Result<(), CallFault>
         // One call of `send` does to the socket what its `sends` says for this datagram and result.
         ensures { sends self.old datagram.now result self.new };
 
@@ -47,21 +59,60 @@ pub trait Socket {
         ensures fits { Fits result (length buffer.old) };
 }
 
-/// How often the calls of one channel failed, modulo 2^64.
+/// The calls of one kind that failed on one channel.
+#[derive(Clone, Copy, Debug, PartialEq, Eq)]
+pub struct FailedCalls {
+    /// How many there were, modulo 2^64.
+    pub count: u64,
+    /// Why the last one failed, if there was one.
+    pub last: Option<CallFault>,
+}
+
+impl FailedCalls {
+    /// Counts a call that failed, and records why.
+    fn add(&mut self, why: CallFault)
+        // `add` adds 1 to the count, modulo 2^64, and its cause is then the last one.
+        ensures { self.new ≡ one_more why self.old }
+    {
+        *self = FailedCalls {
+            count: self.count.wrapping_add(1),
+            last: Some(why),
+        };
+    }
+}
+
+/// The calls that failed on one channel.
 #[derive(Clone, Copy, Debug, PartialEq, Eq)]
 pub struct Failures {
     /// The sends that its socket did not accept.
-    pub sends: u64,
+    pub sends: FailedCalls,
     /// The receptions that its socket refused.
-    pub receives: u64,
+    pub receives: FailedCalls,
 }
 
-/// One channel: its socket, and how often its calls failed.
+impl Failures {
+    /// Returns the failures of a channel that was not used.
+    pub fn none() -> Self
+        // In `none` no call has failed.
+        ensures { result ≡ no_failures }
+    {
+        let none = FailedCalls {
+            count: 0,
+            last: None,
+        };
+        Failures {
+            sends: none,
+            receives: none,
+        }
+    }
+}
+
+/// One channel: its socket, and the calls that failed.
 #[derive(Drop)]
 pub struct SocketChannel<S> {
     /// The socket.
     pub(crate) socket: S,
-    /// The counts.
+    /// The calls that failed.
     failures: Failures,
 }
 
@@ -76,42 +127,39 @@ impl<S> Model for SocketChannel<S> {
 impl<S> SocketChannel<S> {
     /// Returns a channel over this socket.
     pub fn over(socket: S) -> Self
-        // A new channel has the given socket, and both counts are 0.
+        // A new channel has the given socket, and no call has failed.
         ensures { result ≡ new_channel socket }
     {
         SocketChannel {
             socket,
-            failures: Failures {
-                sends: 0,
-                receives: 0,
-            },
+            failures: Failures::none(),
         }
     }
 }
 
 impl<S: Socket> SocketChannel<S> {
-    /// Sends a datagram once. Returns whether the socket accepted it, and counts a failure.
-    fn send(&mut self, datagram: &[u8]) -> bool
-        // The socket makes one send of the datagram, and this channel counts a failure.
+    /// Sends a datagram once, and counts a failure with its cause.
+    fn send(&mut self, datagram: &[u8]) -> Result<(), CallFault>
+        // The socket makes one send of the datagram, and this channel counts a failure with its cause.
         ensures { IsSent S.sends datagram.now result self.old self.new }
     {
-        let went = self.socket.send(datagram);
-        if !went {
-            self.failures.sends = self.failures.sends.wrapping_add(1);
+        let sent = self.socket.send(datagram);
+        if let Err(why) = sent {
+            self.failures.sends.add(why);
         }
-        went
+        sent
     }
 
-    /// Asks the socket once for a datagram, and counts a refusal.
+    /// Asks the socket once for a datagram, and counts a refusal with its cause.
     fn ask(&mut self, buffer: &mut [u8]) -> Reception
-        // The socket makes one reception, and this channel counts a refusal.
+        // The socket makes one reception, and this channel counts a refusal with its cause.
         ensures asked { IsAsked S.receives (length buffer.old) result (octets_of result buffer.new) self.old self.new }
         // What the socket gives has at most the length of the buffer.
         ensures fits { Fits result (length buffer.old) }
     {
         let reception = self.socket.receive(buffer);
-        if matches!(reception, Reception::Refused) {
-            self.failures.receives = self.failures.receives.wrapping_add(1);
+        if let Reception::Refused(why) = reception {
+            self.failures.receives.add(why);
         }
         reception
     }
@@ -173,10 +221,10 @@ impl<S, A: Allocator> SocketChannels<S, A> {
         self.received
     }
 
-    /// Returns how often the calls of a channel failed, or `None` if there is no channel of this number. A
-    /// channel that fails keeps no other from being asked, so look here for it.
+    /// Returns how often the calls of a channel failed and why they last did, or `None` if there is no channel of
+    /// this number. A channel that fails keeps no other from being asked, so look here for it.
     pub fn failures(&self, channel: usize) -> Option<Failures>
-        // The result is the counts of this very channel; `None` if and only if there is none of this number.
+        // The result is the failures of this very channel; `None` if and only if there is none of this number.
         ensures { result ≡ failures_of channel self.now.channels }
     {
         if channel == 0 {
@@ -201,8 +249,9 @@ impl<S: Socket, A: Allocator> Channels for SocketChannels<S, A> {
     fn send(&mut self, channel: usize, datagram: &[u8]) -> Result<(), ChannelFault>
         // As seen by the contract of `Channels`, `send` counts a failure and changes nothing else.
         ensures told { Sends (is_ok result) (told_of self.old) (channel, datagram.now) (told_of self.new) }
-        // The channel's own socket gets the datagram once, and this channel counts a failure. No other channel
-        // changes. `send` succeeds if and only if the socket accepts it; without such a channel nothing is sent.
+        // The channel's own socket gets the datagram once, and this channel counts a failure with its cause. No
+        // other channel changes. `send` succeeds if and only if the socket accepts it; without such a channel
+        // nothing is sent.
         ensures sent { SendsOn S.sends channel datagram.now (is_ok result) self.old.channels self.new.channels }
         // `send` does not change which channel gave the last datagram.
         ensures last { self.new.last ≡ self.old.last }
@@ -277,10 +326,9 @@ fn tell<S: Socket>(
     if channel == 0 || channel > list.len() {
         return Err(ChannelFault::Room);
     }
-    if list[channel - 1].send(datagram) {
-        Ok(())
-    } else {
-        Err(ChannelFault::System)
+    match list[channel - 1].send(datagram) {
+        Ok(()) => Ok(()),
+        Err(_) => Err(ChannelFault::System),
     }
 }
 
@@ -332,7 +380,7 @@ fn ask<S: Socket>(
     match next.ask(buffer) {
         Reception::Came(size) => Ok(Some((first, size))),
         Reception::Nothing => or_nothing(ask(others, first + 1, buffer)),
-        Reception::Refused => ask(others, first + 1, buffer),
+        Reception::Refused(_) => ask(others, first + 1, buffer),
     }
 }
 
