@@ -177,8 +177,8 @@ class Direction:
 
 
 def is_near(newest, number):
-    """Whether a number is at most a gap ahead of the newest one, or at most 31 behind it."""
-    return newest is not None and ((number - newest) % WRAP <= PASSED_MAX + 1 or (newest - number) % WRAP < KEPT)
+    """Whether a number is not further from the newest one than over the largest gap."""
+    return newest is not None and min((number - newest) % WRAP, (newest - number) % WRAP) <= PASSED_MAX + 1
 
 
 def after(first, stamp):

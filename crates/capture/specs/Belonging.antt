@@ -3,14 +3,14 @@ use Rattle.std.specs.Prelude.{ℕ, ◌+◌, ◌==◌, ◌&&◌, ◌||◌, Bool, 
 use Rattle.capture.specs.declared.direction.Direction.{Direction}
 use Rattle.capture.specs.declared.direction.SessionOpening.{SessionOpening}
 use Rattle.capture.specs.declared.heard.Header.{Header}
-use Rattle.capture.specs.declared.window.TheConstants.{LATE_MAX, PASSED_MAX}
+use Rattle.capture.specs.declared.window.TheConstants.{PASSED_MAX}
 use Rattle.capture.specs.Following.{opening_of}
 use Rattle.capture.specs.Numbers.{ahead}
 
--- A number is near the newest one: as far behind as one may come late, or as far ahead as a gap may be.
+-- A number is near the newest one: not further ahead or behind than over the largest gap.
 abbrev pub is_near : Option ℕ → ℕ → Bool
 is_near None number = false
-is_near (Some newest) number = nat_le (ahead newest number) (PASSED_MAX + 1) || nat_le (ahead number newest) LATE_MAX
+is_near (Some newest) number = nat_le (ahead newest number) (PASSED_MAX + 1) || nat_le (ahead number newest) (PASSED_MAX + 1)
 
 -- The opening has these numbers.
 abbrev pub is_opening_at : Option SessionOpening → ℕ → ℕ → Bool

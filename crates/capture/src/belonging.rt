@@ -8,7 +8,7 @@ ghost use Rattle.capture.specs.Belonging.{goes_on as goes_on_with, is_near, is_o
 
 use crate::direction::{Direction, SessionOpening};
 use crate::heard::Header;
-use crate::window::{LATE_MAX, PASSED_MAX};
+use crate::window::PASSED_MAX;
 use safe_pdu::Kind;
 
 /// Returns `true` if a PDU goes on with what its own end and the other end have sent.
@@ -46,13 +46,14 @@ fn opened_at(opening: Option<SessionOpening>, sn: u32, ts: u32) -> bool
 
 /// Returns `true` if a number is near the newest one.
 fn is_close(newest: Option<u32>, number: u32) -> bool
-    // It may be up to `PASSED_MAX` + 1 ahead of it, and up to `LATE_MAX` behind it (`is_near`).
+    // It may be up to `PASSED_MAX` + 1 ahead of it, or behind it (`is_near`).
     ensures { result ≡ is_near newest number }
 {
     match newest {
         None => false,
         Some(newest) => {
-            number.wrapping_sub(newest) <= PASSED_MAX + 1 || newest.wrapping_sub(number) <= LATE_MAX
+            number.wrapping_sub(newest) <= PASSED_MAX + 1
+                || newest.wrapping_sub(number) <= PASSED_MAX + 1
         }
     }
 }

@@ -4,7 +4,7 @@
 //! the reader under a `Take` holds afterwards. No clause says when a run stops with a fault. `tests/compare_follow`
 //! has a capture of 200,000 lines.
 
-ghost use Rattle.std.specs.Prelude.{◌≡◌, ◌≤◌, ◌<◌, ◌^◌, [], length, is_ok, OnOk, IfOk, IfSome};
+ghost use Rattle.std.specs.Prelude.{◌≡◌, ◌≤◌, ◌<◌, ◌^◌, [], length, is_ok, OnOk, IfOk, IfSome, vec_len};
 ghost use Rattle.std.specs.Io.Buffered.{reader_remaining};
 ghost use Rattle.std.specs.Io.BufRead.{DropsThrough, take_through};
 ghost use Rattle.std.specs.Io.KnownBytes.{Appends};
@@ -398,17 +398,32 @@ fn follow_frames<R: Read + Drop, W: Write, E: Write, A: Allocator + Copy>(
             flush(writer)?;
         }
         let wanted = recording.wants() as usize;
-        block.resize(wanted, 0).map_err(|_| Stop::Memory)?;
-        let size = read_whole(reader, block.as_mut_slice())?;
+        make_room(&mut block, wanted)?;
+        let part = &mut block.as_mut_slice()[..wanted];
+        let size = read_whole(reader, part)?;
         if size < wanted {
             return end(course, recording.part, size, err);
         }
-        let goes_on = take_block(course, recording, asked, block.as_slice(), writer, err)?;
+        let goes_on = take_block(course, recording, asked, part, writer, err)?;
         if !goes_on {
             return Ok(());
         }
     }
     Ok(())
+}
+
+/// Makes room for so many bytes. It never takes room away, since each byte of new room is written.
+fn make_room<A: Allocator>(block: &mut Vec<u8, A>, wanted: usize) -> Result<(), Stop>
+    // On success the block has at least as many bytes as are `wanted`.
+    ensures { OnOk result (wanted ≤ vec_len block.new) }
+{
+    if wanted <= block.len() {
+        return Ok(());
+    }
+    match block.resize(wanted, 0) {
+        Ok(()) => Ok(()),
+        Err(_) => Err(Stop::Memory),
+    }
 }
 
 /// Adds a block of a recording, prints the sums if they are due, and returns whether the recording goes on. A block
