@@ -36,7 +36,7 @@ pub(crate) fn write_advice<W: Write>(
 
 /// Writes the lines of all connections.
 fn write_all<W: Write>(writer: &mut W, connections: &[Entry]) -> io::Result<()>
-    // On success the lines of each of the `connections` are appended, in order.
+    // On success the distributions and settings of each of the `connections` are appended, in order.
     ensures { OnOk result (Appends (W.contents writer.old) (W.contents writer.new)
         (advices_text connections.now)) }
 {

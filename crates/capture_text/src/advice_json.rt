@@ -18,7 +18,7 @@ pub(crate) fn write_end<W: Write>(
     asked: bool,
     connections: &[Entry],
 ) -> io::Result<()>
-    // On success the end of the object is appended, after the member `choosing` if `asked` is true (`end_json`).
+    // On success the end of the object is appended, after the list of what is chosen if `asked` is true (`end_json`).
     ensures { OnOk result (Appends (W.contents writer.old) (W.contents writer.new)
         (end_json asked connections.now)) }
 {
@@ -31,7 +31,7 @@ pub(crate) fn write_end<W: Write>(
 /// Writes the list of what is chosen for each connection, and ends the object of all sums.
 #[tactic(auto, unfolding(crate::specs::AdviceJson::advices_json))]
 fn write_advices<W: Write>(writer: &mut W, connections: &[Entry]) -> io::Result<()>
-    // On success the objects of all `connections` are appended as the member `choosing`, in order.
+    // On success the list of what is chosen for all `connections` is appended as a member, in order.
     ensures { OnOk result (Appends (W.contents writer.old) (W.contents writer.new)
         (advices_json connections.now)) }
 {
@@ -43,7 +43,7 @@ fn write_advices<W: Write>(writer: &mut W, connections: &[Entry]) -> io::Result<
 
 /// Writes what is chosen for each connection, with a comma between two.
 fn write_list<W: Write>(writer: &mut W, connections: &[Entry]) -> io::Result<()>
-    // On success the objects of all `connections` are appended in order, separated by commas.
+    // On success what is chosen for all `connections` is appended in order, separated by commas.
     ensures { OnOk result (Appends (W.contents writer.old) (W.contents writer.new) (list_json connections.now)) }
 {
     match connections {
@@ -58,7 +58,7 @@ fn write_list<W: Write>(writer: &mut W, connections: &[Entry]) -> io::Result<()>
 
 /// Writes what is chosen for each connection, each after a comma.
 fn write_rest<W: Write>(writer: &mut W, connections: &[Entry]) -> io::Result<()>
-    // On success a comma and the object of each of the `connections` are appended.
+    // On success a comma and what is chosen are appended for each of the `connections`.
     ensures { OnOk result (Appends (W.contents writer.old) (W.contents writer.new) (rest_json connections.now)) }
 {
     for entry in connections {
@@ -70,7 +70,7 @@ fn write_rest<W: Write>(writer: &mut W, connections: &[Entry]) -> io::Result<()>
 /// Writes what is chosen for a connection, after a comma.
 #[tactic(auto, unfolding(crate::specs::AdviceJson::listed_json))]
 fn write_listed<W: Write>(writer: &mut W, connection: &Connection) -> io::Result<()>
-    // On success a comma and the object of this `connection` are appended.
+    // On success a comma and what is chosen for this `connection` are appended.
     ensures { OnOk result (Appends (W.contents writer.old) (W.contents writer.new) (listed_json connection.now)) }
 {
     write_text(writer, ",")?;
@@ -133,7 +133,7 @@ fn write_network<W: Write>(writer: &mut W, network: &Network) -> io::Result<()>
 /// Writes the PDUs, the losses and the units.
 #[tactic(auto, unfolding(crate::specs::AdviceJson::units_json))]
 fn write_units<W: Write>(writer: &mut W, network: &Network) -> io::Result<()>
-    // On success the members `PDUs`, `lost` and `units` of the `network` are appended.
+    // On success the three counts of the `network` are appended as members.
     ensures { OnOk result (Appends (W.contents writer.old) (W.contents writer.new) (units_json network.now)) }
 {
     let pdus = network.pdus;
@@ -156,7 +156,7 @@ fn truth(time: Option<u64>) -> &'static str
 /// Writes the times by which settings are chosen.
 #[tactic(auto, unfolding(crate::specs::AdviceJson::delays_json))]
 fn write_delays<W: Write>(writer: &mut W, delays: Delays) -> io::Result<()>
-    // On success the members `difference` and `delay` are appended.
+    // On success both times are appended as members, the difference first.
     ensures { OnOk result (Appends (W.contents writer.old) (W.contents writer.new) (delays_json delays)) }
 {
     let difference = delays.difference;

@@ -174,7 +174,7 @@ fn least(distribution: &Distribution) -> Option<u64>
 fn first_class(counts: &[u32; CLASSES]) -> Option<usize>
     // The class is the first place whose count is not 0.
     ensures value { result ≡ least_class counts.now }
-    // The class is below `CLASSES`.
+    // A class that has values is below `CLASSES`.
     ensures bound { IfSome result (λ class. class < CLASSES) }
 {
     counts.iter().position(|count| 0 < *count)
