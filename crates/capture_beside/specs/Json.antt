@@ -2,6 +2,7 @@
 use Rattle.std.specs.Prelude.{ℕ, ◌-◌, nat_lt, List, [], ◌∷◌, ◌++◌, codes, if◌then◌else◌, Option, Some, None}
 use Rattle.std.specs.Fmt.{decimal}
 use Rattle.std.specs.List.{flat_map}
+use Rattle.capture.specs.declared.line.Address.{Address}
 use Rattle.capture_text.specs.Pieces.{address_text}
 use Rattle.pdu_text.specs.Lines.{joined}
 use Rattle.capture_beside.specs.declared.counts.Counts.{Counts}
@@ -29,9 +30,13 @@ read_json here there = codes "{\"here\":" ++ counts_json here ++ codes ",\"there
 unfoldable pub left_out_json : ℕ → List ℕ
 left_out_json left_out = joined (codes ",\"left_out\":" ∷ decimal left_out ∷ codes ",\"ways\":[" ∷ [])
 
+-- an address with a text before it
+unfoldable pub end_json : List ℕ → Address → List ℕ
+end_json front address = front ++ address_text address
+
 -- the addresses of a way
 unfoldable pub ends_json : Way → List ℕ
-ends_json way = codes "{\"source\":\"" ++ address_text way.source ++ codes "\",\"destination\":\"" ++ address_text way.destination
+ends_json way = end_json (codes "{\"source\":\"") way.source ++ end_json (codes "\",\"destination\":\"") way.destination
 
 -- the site of the sender, or null
 abbrev pub origin_json : Option Site → List ℕ
@@ -72,9 +77,13 @@ spread_json (Some s) = took_json s
 unfoldable pub way_json : Option Site → Way → List ℕ
 way_json origin way = ends_json way ++ origin_json origin ++ (pairs_json way.sums ++ outside_json way.sums) ++ spread_json (spread_in origin way)
 
+-- one of all ways, after a comma
+unfoldable pub listed_json : List Way → Way → List ℕ
+listed_json ways way = codes "," ++ way_json (origin_of ways way) way
+
 -- further ways, each after a comma
 abbrev pub more_json : List Way → List Way → List ℕ
-more_json ways rest = flat_map (λ (way : Way). codes "," ++ way_json (origin_of ways way) way) rest
+more_json ways rest = flat_map (λ (way : Way). listed_json ways way) rest
 
 -- the objects of some of all ways
 abbrev pub some_json : List Way → List Way → List ℕ

@@ -36,11 +36,17 @@ abbrev pub signed_text : ℕ → List ℕ
 signed_text difference =
     if nat_lt difference EVEN then codes "-" ++ duration_text (EVEN - difference) else codes "+" ++ duration_text (difference - EVEN)
 
--- how long the fastest took, and how much longer half, 99 of 100, and the slowest
+-- seconds behind a word
+unfoldable pub later_text : List ℕ → ℕ → List ℕ
+later_text word micros = word ++ duration_text micros
+
+-- how much longer half, 99 of 100, and the slowest took
+unfoldable pub longer_text : Spread → List ℕ
+longer_text s = later_text (codes " median +") s.median ++ later_text (codes " 99% +") s.most ++ later_text (codes " greatest +") s.greatest
+
+-- how long the fastest took, and the others
 unfoldable pub took_text : Spread → List ℕ
-took_text s =
-    (codes " least " ++ signed_text s.least) ++ (codes " median +" ++ duration_text s.median) ++ (codes " 99% +" ++ duration_text s.most)
-    ++ codes " greatest +" ++ duration_text s.greatest
+took_text s = (codes " least " ++ signed_text s.least) ++ longer_text s
 
 -- the same if there is a pair, and the end of the line
 abbrev pub spread_text : Option Spread → List ℕ
@@ -59,9 +65,13 @@ ends_text way = address_text way.source ++ codes "->" ++ address_text way.destin
 unfoldable pub way_text : Option Site → Way → List ℕ
 way_text origin way = ends_text way ++ origin_text origin ++ (pairs_text way.sums ++ outside_text way.sums) ++ spread_text (spread_in origin way)
 
+-- the lines of some of all ways
+abbrev pub some_text : List Way → List Way → List ℕ
+some_text ways some = flat_map (λ (way : Way). way_text (origin_of ways way) way) some
+
 -- the lines of all ways
 abbrev pub ways_text : List Way → List ℕ
-ways_text ways = flat_map (λ (way : Way). way_text (origin_of ways way) way) ways
+ways_text ways = some_text ways ways
 
 -- the line of a recording
 unfoldable pub counts_text : List ℕ → Counts → List ℕ

@@ -2,7 +2,8 @@
 
 ghost use Rattle.std.specs.Prelude.{◌≡◌, ◌++◌, codes, OnOk};
 ghost use Rattle.std.specs.Io.KnownBytes.{Appends};
-ghost use Rattle.capture_beside.specs.Json.{counts_json, ends_json, later_json, left_out_json, more_json, object_json, origin_json, outside_json, pairs_json, read_json, signed_json, spread_json, took_json, way_json, ways_json};
+ghost use Rattle.capture_beside.specs.Pairs.{origin_of};
+ghost use Rattle.capture_beside.specs.Json.{counts_json, end_json, ends_json, later_json, left_out_json, listed_json, more_json, object_json, origin_json, outside_json, pairs_json, read_json, signed_json, spread_json, took_json, way_json, ways_json};
 
 use crate::counts::Counts;
 use crate::delays::Spread;
@@ -10,6 +11,7 @@ use crate::pairing::{Pairing, origin};
 use crate::sites::{EVEN, Site};
 use crate::sums::Sums;
 use crate::way::Way;
+use capture::Address;
 use capture_text::write_address;
 use pdu_text::write_text;
 use std::io;
@@ -79,7 +81,7 @@ fn write_ways<W: Write>(writer: &mut W, ways: &[Way]) -> io::Result<()>
     match ways {
         [] => Ok(()),
         [first, rest @ ..] => {
-            write_way(writer, first, origin(ways, first))?;
+            write_way(writer, ways, first)?;
             write_more(writer, ways, rest)
         }
     }
@@ -91,18 +93,30 @@ fn write_more<W: Write>(writer: &mut W, ways: &[Way], rest: &[Way]) -> io::Resul
     ensures { OnOk result (Appends (W.contents writer.old) (W.contents writer.new) (more_json ways.now rest.now)) }
 {
     for way in rest {
-        write_text(writer, ",")?;
-        write_way(writer, way, origin(ways, way))?;
+        write_listed(writer, ways, way)?;
     }
     Ok(())
 }
 
+/// Writes the object of a way after a comma.
+#[tactic(auto, unfolding(crate::specs::Json::listed_json))]
+fn write_listed<W: Write>(writer: &mut W, ways: &[Way], way: &Way) -> io::Result<()>
+    // On success a comma and the object of this `way` are appended.
+    ensures { OnOk result (Appends (W.contents writer.old) (W.contents writer.new) (listed_json ways.now way.now)) }
+{
+    write_text(writer, ",")?;
+    write_way(writer, ways, way)
+}
+
 /// Writes the object of a way.
 #[tactic(auto, unfolding(crate::specs::Json::way_json))]
-fn write_way<W: Write>(writer: &mut W, way: &Way, origin: Option<Site>) -> io::Result<()>
-    // On success both addresses, the site of the sender, the counts and the times are appended as members.
-    ensures { OnOk result (Appends (W.contents writer.old) (W.contents writer.new) (way_json origin way.now)) }
+fn write_way<W: Write>(writer: &mut W, ways: &[Way], way: &Way) -> io::Result<()>
+    // On success both addresses, the site of the sender among these `ways`, the counts and the times are appended as
+    // members.
+    ensures { OnOk result (Appends (W.contents writer.old) (W.contents writer.new)
+        (way_json (origin_of ways.now way.now) way.now)) }
 {
+    let origin = origin(ways, way);
     write_ends(writer, way)?;
     write_text(writer, name_of_origin(origin))?;
     write_sums(writer, way.sums)?;
@@ -115,10 +129,18 @@ fn write_ends<W: Write>(writer: &mut W, way: &Way) -> io::Result<()>
     // On success the members of source and destination are appended.
     ensures { OnOk result (Appends (W.contents writer.old) (W.contents writer.new) (ends_json way.now)) }
 {
-    write_text(writer, "{\"source\":\"")?;
-    write_address(writer, way.source)?;
-    write_text(writer, "\",\"destination\":\"")?;
-    write_address(writer, way.destination)
+    write_end(writer, "{\"source\":\"", way.source)?;
+    write_end(writer, "\",\"destination\":\"", way.destination)
+}
+
+/// Writes an address, with a text before it.
+#[tactic(auto, unfolding(crate::specs::Json::end_json))]
+fn write_end<W: Write>(writer: &mut W, front: &str, address: Address) -> io::Result<()>
+    // On success the text and the address are appended.
+    ensures { OnOk result (Appends (W.contents writer.old) (W.contents writer.new) (end_json front.now address)) }
+{
+    write_text(writer, front)?;
+    write_address(writer, address)
 }
 
 /// Returns the member of the site of a sender, behind the addresses.

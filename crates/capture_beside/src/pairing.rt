@@ -129,7 +129,7 @@ fn place_for(
     arrival: &Arrival,
 ) -> Result<Option<usize>, AllocError>
     // The place is one of the ways.
-    ensures bound { IfOk result (IfSome (λ place. place < length ways.new.items)) }
+    ensures bound { IfOk result (λ found. IfSome found (λ place. place < length ways.new.items)) }
 {
     let place = place_of(ways.as_slice(), arrival.source, arrival.destination);
     if place.is_some() {

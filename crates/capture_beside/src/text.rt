@@ -2,8 +2,8 @@
 
 ghost use Rattle.std.specs.Prelude.{◌≡◌, ◌++◌, codes, OnOk};
 ghost use Rattle.std.specs.Io.KnownBytes.{Appends};
-ghost use Rattle.capture_text.specs.Pieces.{duration_text};
-ghost use Rattle.capture_beside.specs.Text.{counts_text, ends_text, lines_text, origin_text, outside_text, pairs_text, signed_text, spread_text, took_text, way_text, ways_text};
+ghost use Rattle.capture_beside.specs.Pairs.{origin_of};
+ghost use Rattle.capture_beside.specs.Text.{counts_text, ends_text, later_text, lines_text, longer_text, origin_text, outside_text, pairs_text, signed_text, spread_text, took_text, way_text, ways_text};
 
 use crate::counts::Counts;
 use crate::delays::Spread;
@@ -39,17 +39,20 @@ fn write_ways<W: Write>(writer: &mut W, ways: &[Way]) -> io::Result<()>
     ensures { OnOk result (Appends (W.contents writer.old) (W.contents writer.new) (ways_text ways.now)) }
 {
     for way in ways {
-        write_way(writer, way, origin(ways, way))?;
+        write_way(writer, ways, way)?;
     }
     Ok(())
 }
 
 /// Writes the line of a way.
 #[tactic(auto, unfolding(crate::specs::Text::way_text))]
-fn write_way<W: Write>(writer: &mut W, way: &Way, origin: Option<Site>) -> io::Result<()>
-    // On success both addresses, the site of the sender, the counts and the times are appended (`way_text`).
-    ensures { OnOk result (Appends (W.contents writer.old) (W.contents writer.new) (way_text origin way.now)) }
+fn write_way<W: Write>(writer: &mut W, ways: &[Way], way: &Way) -> io::Result<()>
+    // On success both addresses, the site of the sender among these `ways`, the counts and the times are appended
+    // (`way_text`).
+    ensures { OnOk result (Appends (W.contents writer.old) (W.contents writer.new)
+        (way_text (origin_of ways.now way.now) way.now)) }
 {
+    let origin = origin(ways, way);
     write_ends(writer, way)?;
     write_text(writer, name_of_origin(origin))?;
     write_sums(writer, way.sums)?;
@@ -132,10 +135,19 @@ fn write_spread<W: Write>(writer: &mut W, spread: Option<Spread>) -> io::Result<
 /// Writes how long the datagrams of a way took.
 #[tactic(auto, unfolding(crate::specs::Text::took_text))]
 fn write_times<W: Write>(writer: &mut W, spread: Spread) -> io::Result<()>
-    // On success the least difference is appended, and how much longer half, 99 of 100 and the slowest took.
+    // On success the difference of the fastest one is appended, then how much longer others took.
     ensures { OnOk result (Appends (W.contents writer.old) (W.contents writer.new) (took_text spread)) }
 {
     write_least(writer, spread.least)?;
+    write_longer(writer, spread)
+}
+
+/// Writes how much longer some datagrams took.
+#[tactic(auto, unfolding(crate::specs::Text::longer_text))]
+fn write_longer<W: Write>(writer: &mut W, spread: Spread) -> io::Result<()>
+    // On success the seconds of half, of 99 of 100 and of the slowest are appended.
+    ensures { OnOk result (Appends (W.contents writer.old) (W.contents writer.new) (longer_text spread)) }
+{
     write_later(writer, " median +", spread.median)?;
     write_later(writer, " 99% +", spread.most)?;
     write_later(writer, " greatest +", spread.greatest)
@@ -152,9 +164,10 @@ fn write_least<W: Write>(writer: &mut W, difference: u64) -> io::Result<()>
 }
 
 /// Writes how much longer some took, behind a word.
+#[tactic(auto, unfolding(crate::specs::Text::later_text))]
 fn write_later<W: Write>(writer: &mut W, word: &str, micros: u64) -> io::Result<()>
     // On success the word and the seconds are appended.
-    ensures { OnOk result (Appends (W.contents writer.old) (W.contents writer.new) (word.now ++ duration_text micros)) }
+    ensures { OnOk result (Appends (W.contents writer.old) (W.contents writer.new) (later_text word.now micros)) }
 {
     write_text(writer, word)?;
     write_duration(writer, micros)

@@ -1,6 +1,5 @@
 -- The options of `follow`, and the words that name their values.
 use Rattle.std.specs.Prelude.{◌≡◌, ℕ, ◌≤◌, ◌<◌, ◌^◌, Bool, false, true, List, codes, Option, None, Some}
-use Rattle.std.specs.Option.{option_copied}
 use Rattle.std.specs.Str.{bytes_eq}
 use Rattle.std.specs.Str.Parse.{IsNumeral, digits_value, without_leading_plus}
 use Rattle.clap.specs.Words.{App, Row, Rule, Text, first_of, new_app, new_rule, with_rule}
@@ -11,10 +10,8 @@ use Rattle.capture_text.specs.declared.choice.Remarkable.{Remarkable}
 use Rattle.capture_text.specs.Choice.{word_text}
 use Rattle.safe_pdu.specs.declared.CodeLength.{CodeLength}
 use Rattle.safe_pdu.specs.declared.CodeLength.TheVariants.{Zero, Eight, Sixteen}
-use Rattle.rasta_words.specs.Times.{HasTimes}
-use Rattle.rasta_words.specs.declared.command_line.FollowRequest.{FollowRequest}
 
--- `--code N` of follow [--choose] [--code N] [--events] [--every N] [--from INSTANT] [--iv HEX] [--json] [--messages] [--only WORD] [--ports PORTS] [--time FORM] [--t-max MS]
+-- `--code N` of follow [--beside RECORDING] [--choose] [--code N] [--events] [--every N] [--from INSTANT] [--iv HEX] [--json] [--messages] [--only WORD] [--ports PORTS] [--time FORM] [--t-max MS]
 -- [--to INSTANT] FILE
 abbrev pub chosen_code_rule : Rule
 chosen_code_rule = record (new_rule (codes "code")) { long = Some (codes "code") }
@@ -123,9 +120,17 @@ bounded_app = with_rule beginning_app to_rule
 abbrev pub periodic_app : App
 periodic_app = with_rule bounded_app period_rule
 
+-- `--beside RECORDING`
+abbrev pub beside_rule : Rule
+beside_rule = record (new_rule (codes "beside")) { long = Some (codes "beside") }
+
+-- with `--beside`, too
+abbrev pub paired_app : App
+paired_app = with_rule periodic_app beside_rule
+
 -- the whole command `follow`
 abbrev pub follow_app : App
-follow_app = with_rule periodic_app file_rule
+follow_app = with_rule paired_app file_rule
 
 -- the word for a length of the safety code, in bytes
 abbrev pub code_word : CodeLength → Text
@@ -172,17 +177,3 @@ IsPorts word (Some ports) = ports_of word ≡ Some ports
 abbrev pub ArePortsChosen : Option Text → Option (List (Option PortRange)) → Type 0
 ArePortsChosen None ports = ports ≡ None
 ArePortsChosen (Some word) ports = IsPorts word ports
-
--- the choices of `follow` have the values of the entries that clap found
-abbrev pub HasChoices : List Row → FollowRequest → Type 0
-HasChoices rows f =
-    IsCodeChosen (first_of (codes "code") rows) f.code × (first_of (codes "iv") rows ≡ option_copied f.iv)
-    × (is_flagged (first_of (codes "messages") rows) ≡ f.messages) × IsRemarkChosen (first_of (codes "only") rows) f.only
-    × IsAgeChosen (first_of (codes "t-max") rows) f.t_max × (first_of (codes "file") rows ≡ Some f.file.now)
-    × ArePortsChosen (first_of (codes "ports") rows) f.ports × (is_flagged (first_of (codes "json") rows) ≡ f.json)
-    × (is_flagged (first_of (codes "events") rows) ≡ f.events) × (is_flagged (first_of (codes "choose") rows) ≡ f.choose)
-    × HasTimes rows f.times
-
--- no choices of `follow` have the values of these entries
-abbrev pub HasNoChoices : List Row → Type 0
-HasNoChoices rows = (f : FollowRequest) → ¬ HasChoices rows f

@@ -2,7 +2,8 @@
 use Rattle.std.specs.Prelude.{◌≡◌, ⊤, true, List, codes, Option, Some}
 use Rattle.std.specs.Option.{option_copied}
 use Rattle.clap.specs.Words.{App, HasKind, Row, Rule, Text, fault_of, first_of, new_app, new_rule, subcommand_of, with_rule, with_subcommand}
-use Rattle.rasta_words.specs.Choices.{HasChoices, code_word, file_rule, follow_app, iv_rule}
+use Rattle.rasta_words.specs.Beside.{HasChoices}
+use Rattle.rasta_words.specs.Choices.{code_word, file_rule, follow_app, iv_rule}
 use Rattle.rasta_words.specs.Runs.{IsRun, ends_word, net_app}
 use Rattle.rasta_words.specs.declared.command_line.Request.{Request}
 use Rattle.rasta_words.specs.declared.command_line.Request.TheVariants.{Check, Digest, Show, Sim, Follow, Net}

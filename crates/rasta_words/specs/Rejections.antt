@@ -15,10 +15,12 @@ use Rattle.rasta_words.specs.declared.status.RunLength.{RunLength}
 use Rattle.rasta_words.specs.declared.rejection.Choice.{Choice}
 use Rattle.rasta_words.specs.declared.rejection.Choice.TheVariants.{ShowCode, Turns, Log, LogTime, Expect, Stats, Every, Code, Only, TMax, Ports, Times, From, To, Period}
 use Rattle.rasta_words.specs.declared.rejection.Rejection.{Rejection}
-use Rattle.rasta_words.specs.declared.rejection.Rejection.TheVariants.{Value, NoLength, TwoLengths, EveryAlone, Missing}
+use Rattle.rasta_words.specs.declared.rejection.Rejection.TheVariants.{Value, NoLength, TwoLengths, EveryAlone, Missing, NotBeside, OneInput}
 use Rattle.rasta_words.specs.Choices.{ArePortsChosen, IsAgeChosen, IsCodeChosen, IsMilliseconds, IsPorts, IsRemarkChosen, IsWritten, code_word, is_flagged}
 use Rattle.rasta_words.specs.Seconds.{IsSeconds}
-use Rattle.rasta_words.specs.Times.{HasForm as HasTimeForm, HasFrom, HasTo, IsInstant, times_word}
+use Rattle.rasta_words.specs.Times.{HasForm as HasTimeForm, HasFrom, HasTimes, HasTo, IsInstant, times_word}
+use Rattle.rasta_words.specs.Beside.{IsBesideRejected}
+use Rattle.rasta_words.specs.declared.command_line.FollowTimes.{FollowTimes}
 use Rattle.rasta_words.specs.Runs.{IsEndChosen, IsLengthChosen, IsLogChosen, IsTimeChosen, IsTurns, ends_word, expected_word, form_word, log_word, time_word}
 
 -- the name of an option, under which clap keeps its value
@@ -63,6 +65,8 @@ Names choice word (Value option value) = (option ≡ choice) × (value.now ≡ w
 Names choice word NoLength = ⊥
 Names choice word TwoLengths = ⊥
 Names choice word EveryAlone = ⊥
+Names choice word (NotBeside option) = ⊥
+Names choice word OneInput = ⊥
 Names choice word Missing = ⊥
 
 -- the same, of an option that may be absent
@@ -136,7 +140,16 @@ AreTimesRejected rows r =
     ⊎ (HasTimeForm rows × HasFrom rows × NamesGiven To (first_of (codes "to") rows) r)
     ⊎ (HasTimeForm rows × HasFrom rows × HasTo rows × NamesGiven Period (first_of (codes "every") rows) r)
 
--- why the entries of `follow` are not a request: the first of its options that is not valid, in the order --code, --only, --t-max, --ports, then its times
+-- the times of `follow` are valid
+abbrev pub HasAllTimes : List Row → Type 0
+HasAllTimes rows = (t : FollowTimes) × HasTimes rows t
+
+-- why `--beside` does not go with the other entries
+abbrev pub IsBesideRejectedFor : Option Text → List Row → Rejection → Type 0
+IsBesideRejectedFor None rows r = ⊥
+IsBesideRejectedFor (Some file) rows r = IsBesideRejected rows file r
+
+-- why the entries of `follow` are not a request: the first of its options that is not valid, in the order --code, --only, --t-max, --ports, its times, then --beside
 abbrev pub IsFollowRejected : List Row → Rejection → Type 0
 IsFollowRejected rows r =
     NamesGiven Code (first_of (codes "code") rows) r
@@ -145,6 +158,7 @@ IsFollowRejected rows r =
     ⊎ Lacks (codes "file") rows r
     ⊎ (HasCode rows × HasRemark rows × HasAge rows × NamesGiven Ports (first_of (codes "ports") rows) r)
     ⊎ (HasCode rows × HasRemark rows × HasAge rows × HasPorts rows × AreTimesRejected rows r)
+    ⊎ (HasCode rows × HasRemark rows × HasAge rows × HasPorts rows × HasAllTimes rows × IsBesideRejectedFor (first_of (codes "file") rows) rows r)
 
 -- why the entries of `il`, `fe` and `pair` are not a request: their length, or the first option that is not valid, in the order --log, --time, --expect, --stats, --every
 abbrev pub IsRunRejected : List Row → Rejection → Type 0

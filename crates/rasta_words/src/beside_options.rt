@@ -1,8 +1,9 @@
 //! The option `--beside` of `follow`, and the options that do not go with it.
 
-ghost use Rattle.std.specs.Prelude.{◌≡◌, IfOk, IfErr};
+ghost use Rattle.std.specs.Prelude.{◌≡◌, IfErr, IfOk};
 ghost use Rattle.std.specs.Option.{option_copied};
 ghost use Rattle.clap.specs.Words.{found_of, rows_of};
+ghost use Rattle.rasta_words.specs.Beside.{IsBesideChosen, IsBesideRejected, time_of, unpaired_of, value_of};
 
 use crate::entries::{entry, is_chosen};
 use crate::rejection::Rejection;
@@ -13,6 +14,12 @@ pub fn chosen_recording<'a>(
     entries: &ArgMatches<'a>,
     file: &'a str,
 ) -> Result<Option<&'a str>, Rejection<'a>>
+    // The recording that `chosen_recording` returns is that of `--beside`, with which no other option stands that says
+    // nothing of pairs; only one of both is standard input.
+    ensures found { IfOk result (λ beside. IsBesideChosen (rows_of (found_of entries.now)) file.entry.now (option_copied beside)) }
+    // If `chosen_recording` fails, it names the first option that does not go with `--beside`, or both recordings are
+    // standard input.
+    ensures refused { IfErr result (IsBesideRejected (rows_of (found_of entries.now)) file.entry.now) }
 {
     let Some(beside) = entry(entries, "beside") else {
         return Ok(None);
@@ -28,6 +35,8 @@ pub fn chosen_recording<'a>(
 
 /// Returns the first option that was given though it says nothing of pairs.
 fn unpaired(entries: &ArgMatches<'_>) -> Option<&'static str>
+    // The option is the first in the order of `unpaired_of`.
+    ensures { option_copied result ≡ unpaired_of (rows_of (found_of entries.now)) }
 {
     if is_chosen(entry(entries, "messages")) {
         return Some("messages");
@@ -35,13 +44,44 @@ fn unpaired(entries: &ArgMatches<'_>) -> Option<&'static str>
     if is_chosen(entry(entries, "events")) {
         return Some("events");
     }
-    VALUED
-        .iter()
-        .find(|name| entry(entries, name).is_some())
-        .copied()
+    if is_chosen(entry(entries, "choose")) {
+        return Some("choose");
+    }
+    unpaired_value(entries)
 }
 
-/// The options with a value that say nothing of pairs.
-const VALUED: [&str; 8] = [
-    "code", "iv", "only", "t-max", "time", "from", "to", "every",
-];
+/// Returns the first option with a value that was given though it says nothing of pairs.
+fn unpaired_value(entries: &ArgMatches<'_>) -> Option<&'static str>
+    // The option is the first in the order of `value_of`.
+    ensures { option_copied result ≡ value_of (rows_of (found_of entries.now)) }
+{
+    if entry(entries, "code").is_some() {
+        Some("code")
+    } else if entry(entries, "iv").is_some() {
+        Some("iv")
+    } else if entry(entries, "only").is_some() {
+        Some("only")
+    } else if entry(entries, "t-max").is_some() {
+        Some("t-max")
+    } else {
+        unpaired_time(entries)
+    }
+}
+
+/// Returns the first option of times that was given.
+fn unpaired_time(entries: &ArgMatches<'_>) -> Option<&'static str>
+    // The option is the first in the order of `time_of`.
+    ensures { option_copied result ≡ time_of (rows_of (found_of entries.now)) }
+{
+    if entry(entries, "time").is_some() {
+        Some("time")
+    } else if entry(entries, "from").is_some() {
+        Some("from")
+    } else if entry(entries, "to").is_some() {
+        Some("to")
+    } else if entry(entries, "every").is_some() {
+        Some("every")
+    } else {
+        None
+    }
+}

@@ -6,10 +6,11 @@ ghost use Rattle.clap.specs.Words.{found_of, rows_of};
 ghost use Rattle.rasta_words.specs.Rejections.{IsFollowRejected, NamesGiven};
 ghost use Rattle.rasta_words.specs.declared.rejection.Choice.TheVariants as choice;
 ghost use Rattle.capture.specs.declared.ports.PortRange.{PortRange};
-ghost use Rattle.rasta_words.specs.Choices.{ArePortsChosen, HasChoices, HasNoChoices, IsAgeChosen, IsCodeChosen, IsMilliseconds, IsRemarkChosen};
+ghost use Rattle.rasta_words.specs.Beside.{HasChoices, HasNoChoices};
+ghost use Rattle.rasta_words.specs.Choices.{ArePortsChosen, IsAgeChosen, IsCodeChosen, IsMilliseconds, IsRemarkChosen};
 
-use crate::command_line::FollowRequest;
 use crate::beside_options::chosen_recording;
+use crate::command_line::FollowRequest;
 use crate::entries::{code_length, entry, is_chosen};
 use crate::follow_times::chosen_times;
 use crate::rejection::{Choice, Rejection};
