@@ -41,10 +41,13 @@ abbrev pub error_text : Option ℤ → List ℕ
 error_text None = []
 error_text (Some number) = number_text number
 
--- calls on this channel, from 1, fail for this reason
+-- calls on this channel, from 1, fail
+unfoldable pub refusal_text : Call → (channel : ℕ) → List ℕ
+refusal_text call channel = joined (call_name call ∷ codes " on channel " ∷ decimal channel ∷ codes " fail: the system refuses them" ∷ [])
+
+-- the same, for this reason
 unfoldable pub calls_fail_text : Call → (channel : ℕ) → Option ℤ → List ℕ
-calls_fail_text call channel error =
-    joined (call_name call ∷ codes " on channel " ∷ decimal channel ∷ codes " fail: the system refuses them" ∷ error_text error ∷ [])
+calls_fail_text call channel error = joined (refusal_text call channel ∷ error_text error ∷ [])
 
 -- calls on this channel succeed again, after this many that failed
 unfoldable pub calls_succeed_text : Call → (channel failed : ℕ) → List ℕ

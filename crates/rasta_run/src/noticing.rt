@@ -114,12 +114,21 @@ fn write_calls_fail<W: Write>(
     ensures { OnOk result (Appends (W.contents writer.old) (W.contents writer.new)
         (noticing.calls_fail_text call channel error)) }
 {
+    write_refusal(writer, call, channel)?;
+    write_error(writer, error)
+}
+
+/// Writes that the system refuses calls on a channel.
+#[tactic(auto, unfolding(crate::specs::Noticing::refusal_text))]
+fn write_refusal<W: Write>(writer: &mut W, call: Call, channel: usize) -> io::Result<()>
+    // If `write_refusal` succeeds, it has appended the kind of call and the number of the channel.
+    ensures { OnOk result (Appends (W.contents writer.old) (W.contents writer.new) (noticing.refusal_text call channel)) }
+{
     let calls = call_name(call);
     write!(
         writer,
         "{calls} on channel {channel} fail: the system refuses them"
-    )?;
-    write_error(writer, error)
+    )
 }
 
 /// Writes the system's number for a reason, if it gave one.
