@@ -9,8 +9,8 @@ ghost use Rattle.capture.specs.declared.ports.PortRange.{PortRange};
 ghost use Rattle.rasta_words.specs.Beside.{HasChoices, HasNoChoices};
 ghost use Rattle.rasta_words.specs.Choices.{ArePortsChosen, IsAgeChosen, IsCodeChosen, IsMilliseconds, IsRemarkChosen};
 
-use crate::command_line::FollowRequest;
 use crate::beside_options::chosen_recording;
+use crate::command_line::FollowRequest;
 use crate::entries::{code_length, entry, is_chosen};
 use crate::follow_times::chosen_times;
 use crate::rejection::{Choice, Rejection};
