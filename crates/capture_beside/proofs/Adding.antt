@@ -63,9 +63,11 @@ waits_here : (full : Bool) (own other : List Waiting) (a : Waiting) (shift : ℕ
     (length (cond full (remove own 0) own ++ a ∷ [])) (length other)
 waits_here true own other a shift e s some room sums =
     let less = length-remove own 0 (some refl) in
-    let more = length-append (remove own 0) (a ∷ []) in
-    (leaves (is_outside_of Here (slice_index_or own 0 nobody).time (shift_from s.shift shift) e) (recorded_at Here s).here s.both _ (omega (arith, room.0))
-    (omega (arith, sums.0, room.0, less, more)), sums.1)
+    let more = length-append (remove own 0) (a ∷ []) in (
+      leaves (is_outside_of Here (slice_index_or own 0 nobody).time (shift_from s.shift shift) e) (recorded_at Here s).here s.both _ (omega (arith, room.0))
+          (omega (arith, sums.0, room.0, less, more)),
+      sums.1,
+    )
 waits_here false own other a shift e s some room sums =
     let more = length-append own (a ∷ []) in
     (omega (arith, sums.0, room.0, more), sums.1)
@@ -76,9 +78,11 @@ waits_there : (full : Bool) (own other : List Waiting) (a : Waiting) (shift : �
     (length (cond full (remove own 0) own ++ a ∷ []))
 waits_there true own other a shift e s some room sums =
     let less = length-remove own 0 (some refl) in
-    let more = length-append (remove own 0) (a ∷ []) in
-    (sums.0, leaves (is_outside_of There (slice_index_or own 0 nobody).time (shift_from s.shift shift) e) (recorded_at There s).there s.both _ (omega (arith, room.1))
-    (omega (arith, sums.1, room.1, less, more)))
+    let more = length-append (remove own 0) (a ∷ []) in (
+      sums.0,
+      leaves (is_outside_of There (slice_index_or own 0 nobody).time (shift_from s.shift shift) e) (recorded_at There s).there s.both _ (omega (arith, room.1))
+          (omega (arith, sums.1, room.1, less, more)),
+    )
 waits_there false own other a shift e s some room sums =
     let more = length-append own (a ∷ []) in
     (sums.0, omega (arith, sums.1, room.1, more))

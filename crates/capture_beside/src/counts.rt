@@ -18,7 +18,7 @@ pub struct Counts {
 
 impl Counts {
     /// Returns the counts before the first frame.
-    pub fn new() -> Self
+    pub(crate) fn new() -> Self
         // All counts are 0.
         ensures { result ≡ no_counts }
     {

@@ -48,7 +48,7 @@ impl Delays {
     /// # Errors
     ///
     /// `AllocError` if there is too little memory.
-    pub fn new(alloc: Global) -> Result<Self, AllocError>
+    pub(crate) fn new(alloc: Global) -> Result<Self, AllocError>
         // There is no difference, and all buckets are empty.
         ensures { IfOk result (λ delays. (delays.first ≡ None) × (delays.buckets.items ≡ replicate BUCKETS 0)) }
     {

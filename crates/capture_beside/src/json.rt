@@ -188,10 +188,7 @@ fn write_outside<W: Write>(writer: &mut W, sums: Sums) -> io::Result<()>
 {
     let here = sums.here.outside;
     let there = sums.there.outside;
-    write!(
-        writer,
-        ",\"outside_here\":{here},\"outside_there\":{there}"
-    )
+    write!(writer, ",\"outside_here\":{here},\"outside_there\":{there}")
 }
 
 /// Writes how long the datagrams of a way took, and closes its object.

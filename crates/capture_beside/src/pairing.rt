@@ -39,7 +39,7 @@ pub struct Pairing {
 
 impl Pairing {
     /// Returns a pairing without datagrams.
-    pub fn new(alloc: Global) -> Self
+    pub(crate) fn new(alloc: Global) -> Self
         // There is no way, the clocks count as equal, and nothing is left out.
         ensures { (result.ways.items ≡ []) × (result.shift ≡ EVEN_DIFFERENCE) × (result.left_out ≡ 0) }
     {
@@ -76,7 +76,7 @@ impl Pairing {
     /// # Errors
     ///
     /// `AllocError` if there is too little memory.
-    pub fn arrive(
+    pub(crate) fn arrive(
         &mut self,
         alloc: Global,
         site: Site,
@@ -89,16 +89,20 @@ impl Pairing {
         };
         let shift = self.shift;
         let way = &mut self.ways[place];
-        if let Some(difference) =
-            way.arrive(site, arrival.fingerprint, arrival.time, shift, other)?
-        {
+        if let Some(difference) = way.arrive(
+            site,
+            arrival.fingerprint,
+            arrival.time,
+            shift,
+            other,
+        )? {
             self.shift = difference;
         }
         Ok(())
     }
 
     /// Gives up all datagrams that wait, at the end of both recordings.
-    pub fn close(&mut self, here: Option<Extent>, there: Option<Extent>) {
+    pub(crate) fn close(&mut self, here: Option<Extent>, there: Option<Extent>) {
         let shift = self.shift;
         for way in self.ways.iter_mut() {
             way.close(shift, here, there);

@@ -34,7 +34,7 @@ impl Queue {
     /// # Errors
     ///
     /// `AllocError` if there is too little memory.
-    pub fn new(alloc: Global) -> Result<Self, AllocError>
+    pub(crate) fn new(alloc: Global) -> Result<Self, AllocError>
         // No datagram waits, and partners are sought from the start.
         ensures { IfOk result (λ queue. (queue.waiting.items ≡ []) × (queue.next ≡ 0)) }
     {

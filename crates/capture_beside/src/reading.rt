@@ -6,9 +6,7 @@ use crate::sites::{Extent, extend};
 use capture::{
     BlockContent, Framed, Passed, Ports, Record, Recording, find_datagram, is_followed, spell,
 };
-use capture_text::{
-    FrameFault, Stop, is_whole, name_of_file_fault, read_whole, write_frame_fault,
-};
+use capture_text::{FrameFault, Stop, is_whole, name_of_file_fault, read_whole, write_frame_fault};
 use std::alloc::Global;
 use std::io::{BufReader, Read, Write};
 
@@ -51,10 +49,7 @@ pub(crate) fn read_next<R: Read + Drop, E: Write>(
     reading.next = None;
     for _ in 0..u64::MAX {
         let wanted = reading.recording.wants() as usize;
-        reading
-            .block
-            .resize(wanted, 0)
-            .map_err(|_| Stop::Memory)?;
+        reading.block.resize(wanted, 0).map_err(|_| Stop::Memory)?;
         let size = read_whole(reader, reading.block.as_mut_slice())?;
         if size < wanted {
             return end(reading, size, err);

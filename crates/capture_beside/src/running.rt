@@ -68,20 +68,42 @@ fn pair<H: Read + Drop, T: Read + Drop, O: Write, E: Write>(
         match pairing.turn(from_here.next, from_there.next) {
             None => break,
             Some(Site::Here) => {
-                meet(alloc, &mut pairing, Site::Here, &from_here, from_there.extent)?;
+                meet(
+                    alloc,
+                    &mut pairing,
+                    Site::Here,
+                    &from_here,
+                    from_there.extent,
+                )?;
                 read_next(&mut here, &mut from_here, &asked.ports, err)?;
             }
             Some(Site::There) => {
-                meet(alloc, &mut pairing, Site::There, &from_there, from_here.extent)?;
+                meet(
+                    alloc,
+                    &mut pairing,
+                    Site::There,
+                    &from_there,
+                    from_here.extent,
+                )?;
                 read_next(&mut there, &mut from_there, &asked.ports, err)?;
             }
         }
     }
     pairing.close(from_here.extent, from_there.extent);
-    print(alloc, asked, &pairing, from_here.counts, from_there.counts, out)?;
+    print(
+        alloc,
+        asked,
+        &pairing,
+        from_here.counts,
+        from_there.counts,
+        out,
+    )?;
     let apart = tell_apart(&pairing, err)?;
     let left_out = tell_left_out(&pairing, err)?;
-    let unreadable = from_here.counts.unreadable.saturating_add(from_there.counts.unreadable);
+    let unreadable = from_here
+        .counts
+        .unreadable
+        .saturating_add(from_there.counts.unreadable);
     Ok(unreadable.saturating_add(apart).saturating_add(left_out))
 }
 

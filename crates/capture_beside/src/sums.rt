@@ -88,7 +88,7 @@ impl Tally {
 
 impl Sums {
     /// Returns sums without datagrams.
-    pub fn new() -> Self
+    pub(crate) fn new() -> Self
         // All counts are 0, and there is no last pair.
         ensures { result ≡ no_sums }
     {

@@ -167,13 +167,7 @@ fn in_order(site: Site, arrived: Waiting, partner: Waiting) -> (Waiting, Waiting
 }
 
 /// Counts all datagrams that wait as ones without a partner.
-fn give_up_all(
-    sums: Sums,
-    site: Site,
-    queue: &Queue,
-    shift: u64,
-    other: Option<Extent>,
-) -> Sums
+fn give_up_all(sums: Sums, site: Site, queue: &Queue, shift: u64, other: Option<Extent>) -> Sums
     // Each one is counted in order (`all_given_up`).
     ensures { result ≡ all_given_up site queue.now.waiting.items shift other sums }
 {
