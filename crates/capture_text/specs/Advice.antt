@@ -1,5 +1,5 @@
 -- The settings that fit a recording, with their reasons, as lines. Times are milliseconds.
-use Rattle.std.specs.Prelude.{ℕ, ◌*◌, ◌/◌, ◌^◌, min, nat_lt, Bool, true, false, List, [], ◌∷◌, ◌++◌, codes, if◌then◌else◌, Option, Some, None}
+use Rattle.std.specs.Prelude.{ℕ, ◌-◌, ◌*◌, ◌/◌, ◌^◌, min, nat_lt, Bool, true, false, List, [], ◌∷◌, ◌++◌, codes, if◌then◌else◌, Option, Some, None}
 use Rattle.std.specs.Fmt.{decimal}
 use Rattle.std.specs.List.{flat_map}
 use Rattle.capture.specs.declared.connections.Connection.{Connection}
@@ -56,15 +56,15 @@ within_delay units delay = counted (min (min (delay * 2) (2 ^ 64 - 1) * units) (
 abbrev pub units_word : ℕ → List ℕ
 units_word within = if nat_lt 7 within then codes ": more than the window holds, so telegrams wait" else []
 
+-- The units of a second, how many of them come within two times one way, and a remark.
+unfoldable pub load_text : ℕ → ℕ → List ℕ → List ℕ
+load_text units within remark =
+    joined
+    (codes " busiest second " ∷ decimal units ∷ codes " units one way, " ∷ decimal within ∷ codes " within 2 d" ∷ remark ∷ codes "\n" ∷ [])
+
 -- The units of the busiest second.
 unfoldable pub units_text : ℕ → ℕ → Network → Delays → List ℕ
-units_text low high n x =
-    named_text low high
-    ++ joined
-    (codes " busiest second " ∷ decimal n.units ∷ codes " units one way, " ∷ decimal (within_delay n.units x.delay) ∷ codes " within 2 d"
-    ∷ units_word (within_delay n.units x.delay)
-    ∷ codes "\n"
-    ∷ [])
+units_text low high n x = named_text low high ++ load_text n.units (within_delay n.units x.delay) (units_word (within_delay n.units x.delay))
 
 -- That no settings fit.
 unfoldable pub none_text : ℕ → ℕ → List ℕ
@@ -72,20 +72,20 @@ none_text low high =
     named_text low high
     ++ codes " no settings: D may be 800 ms and d 8000 ms at most, for T_seq and T_max in their ranges\n"
 
--- The window, mwa and q.
-unfoldable pub window_text : ℕ → ℕ → ChosenSettings → List ℕ
-window_text low high s =
-    named_text low high
-    ++ joined
-    (codes " n_sendmax " ∷ decimal s.window ∷ codes " mwa " ∷ decimal s.mwa ∷ codes " q " ∷ decimal s.q ∷ codes ": " ∷ decimal s.window
-    ∷ codes " - 1 + "
-    ∷ decimal s.window
-    ∷ codes "/"
-    ∷ decimal s.mwa
-    ∷ codes " is at most "
-    ∷ decimal s.q
-    ∷ codes "\n"
+-- The values of the window, mwa and q.
+unfoldable pub three_text : ChosenSettings → List ℕ
+three_text s = joined (codes " n_sendmax " ∷ decimal s.window ∷ codes " mwa " ∷ decimal s.mwa ∷ codes " q " ∷ decimal s.q ∷ [])
+
+-- The rule that these three obey.
+unfoldable pub rule_text : ChosenSettings → List ℕ
+rule_text s =
+    joined
+    (codes ": " ∷ decimal s.window ∷ codes " - 1 + " ∷ decimal s.window ∷ codes "/" ∷ decimal s.mwa ∷ codes " is at most " ∷ decimal s.q ∷ codes "\n"
     ∷ [])
+
+-- The line of the window, mwa and q.
+unfoldable pub window_text : ℕ → ℕ → ChosenSettings → List ℕ
+window_text low high s = named_text low high ++ three_text s ++ rule_text s
 
 -- T_seq.
 unfoldable pub t_seq_text : ℕ → ℕ → Delays → ChosenSettings → List ℕ

@@ -31,11 +31,13 @@ abbrev pub truth_word : Option ℕ → List ℕ
 truth_word None = codes "false"
 truth_word (Some time) = codes "true"
 
+-- Which times were seen.
+unfoldable pub seen_json : List ℕ → List ℕ → List ℕ
+seen_json round_trips skews = joined (codes ",\"round_trips_seen\":" ∷ round_trips ∷ codes ",\"skews_seen\":" ∷ skews ∷ [])
+
 -- What was seen of a network.
 unfoldable pub network_json : Network → List ℕ
-network_json n =
-    units_json n
-    ++ joined (codes ",\"round_trips_seen\":" ∷ truth_word n.shortest ∷ codes ",\"skews_seen\":" ∷ truth_word n.skew ∷ [])
+network_json n = units_json n ++ seen_json (truth_word n.shortest) (truth_word n.skew)
 
 -- The times by which settings are chosen.
 unfoldable pub delays_json : Delays → List ℕ

@@ -1,8 +1,9 @@
 -- The distributions of a connection, as lines and as JSON. Values are milliseconds.
-use Rattle.std.specs.Prelude.{ℕ, ◌+◌, List, [], ◌∷◌, ◌++◌, codes, drop, fold, slice_index, take}
+use Rattle.std.specs.Prelude.{ℕ, ◌+◌, ◌-◌, List, [], ◌∷◌, ◌++◌, codes, drop, fold, slice_index, take}
 use Rattle.std.specs.Fmt.{decimal}
 use Rattle.std.specs.List.{flat_map}
 use Rattle.capture.specs.declared.distribution.Distribution.{Distribution}
+use Rattle.capture.specs.declared.distribution.TheConstants.{CLASSES}
 use Rattle.capture.specs.declared.measures.Measured.{Measured}
 use Rattle.capture.specs.Measures.{class_of}
 use Rattle.capture.specs.Numbers.{counted}
@@ -50,7 +51,7 @@ bracket_json greatest first =
 -- A distribution as a member with this name: the greatest value, and the count of each class.
 unfoldable pub distribution_json : List ℕ → Distribution → List ℕ
 distribution_json name d =
-    name ++ bracket_json d.greatest (slice_index d.counts 0) ++ counts_text (codes ",") (drop 1 d.counts) ++ codes "]}"
+    name ++ bracket_json d.greatest (slice_index d.counts 0) ++ counts_text (codes ",") (take (CLASSES - 1) (drop 1 d.counts)) ++ codes "]}"
 
 -- The object of an end.
 unfoldable pub measured_json : Measured → List ℕ

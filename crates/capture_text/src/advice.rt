@@ -2,7 +2,7 @@
 
 ghost use Rattle.std.specs.Prelude.{◌≡◌, OnOk};
 ghost use Rattle.std.specs.Io.KnownBytes.{Appends};
-ghost use Rattle.capture_text.specs.Advice.{advice_lines, advice_text, advices_text, connection_text, delay_reason, delay_text, difference_reason, difference_text, few_word, from_text, named_text, none_text, settings_lines, settings_text, t_h_text, t_max_text, t_seq_text, units_text, units_word, window_text, within_delay};
+ghost use Rattle.capture_text.specs.Advice.{advice_lines, advice_text, advices_text, connection_text, delay_reason, delay_text, difference_reason, difference_text, few_word, from_text, load_text, named_text, none_text, rule_text, settings_lines, settings_text, t_h_text, t_max_text, t_seq_text, three_text, units_text, units_word, window_text, within_delay};
 
 use crate::choosing::{ChosenSettings, Delays, Network, choose, find_delays, observe};
 use crate::distributions::write_measured;
@@ -189,10 +189,19 @@ fn write_units<W: Write>(
     ensures { OnOk result (Appends (W.contents writer.old) (W.contents writer.new)
         (units_text ends.0 ends.1 network.now delays)) }
 {
-    let units = network.units;
     let within = within(network.units, delays.delay);
-    let remark = remark_on_units(within);
     write_named(writer, ends)?;
+    write_load(writer, network.units, within, remark_on_units(within))?;
+    Ok(())
+}
+
+/// Writes the units of a second, and how many of them come within two times one way.
+#[tactic(auto, unfolding(crate::specs::Advice::load_text))]
+fn write_load<W: Write>(writer: &mut W, units: u16, within: u64, remark: &str) -> io::Result<()>
+    // On success both numbers, the `remark` and a line feed are appended.
+    ensures { OnOk result (Appends (W.contents writer.old) (W.contents writer.new)
+        (load_text units within remark.now)) }
+{
     writeln!(
         writer,
         " busiest second {units} units one way, {within} within 2 d{remark}"
@@ -282,14 +291,34 @@ fn write_window<W: Write>(
     ensures { OnOk result (Appends (W.contents writer.old) (W.contents writer.new)
         (window_text ends.0 ends.1 settings)) }
 {
+    write_named(writer, ends)?;
+    write_three(writer, settings)?;
+    write_rule(writer, settings)?;
+    Ok(())
+}
+
+/// Writes the values of the window, mwa and q.
+#[tactic(auto, unfolding(crate::specs::Advice::three_text))]
+fn write_three<W: Write>(writer: &mut W, settings: ChosenSettings) -> io::Result<()>
+    // On success the names and values of the three are appended.
+    ensures { OnOk result (Appends (W.contents writer.old) (W.contents writer.new) (three_text settings)) }
+{
     let window = settings.window;
     let mwa = settings.mwa;
     let q = settings.q;
-    write_named(writer, ends)?;
-    writeln!(
-        writer,
-        " n_sendmax {window} mwa {mwa} q {q}: {window} - 1 + {window}/{mwa} is at most {q}"
-    )
+    write!(writer, " n_sendmax {window} mwa {mwa} q {q}")
+}
+
+/// Writes the rule that the window, mwa and q obey, and ends the line.
+#[tactic(auto, unfolding(crate::specs::Advice::rule_text))]
+fn write_rule<W: Write>(writer: &mut W, settings: ChosenSettings) -> io::Result<()>
+    // On success the rule is appended with the values of these `settings`.
+    ensures { OnOk result (Appends (W.contents writer.old) (W.contents writer.new) (rule_text settings)) }
+{
+    let window = settings.window;
+    let mwa = settings.mwa;
+    let q = settings.q;
+    writeln!(writer, ": {window} - 1 + {window}/{mwa} is at most {q}")
 }
 
 /// Writes T_seq.

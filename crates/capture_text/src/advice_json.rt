@@ -2,7 +2,7 @@
 
 ghost use Rattle.std.specs.Prelude.{◌≡◌, OnOk};
 ghost use Rattle.std.specs.Io.KnownBytes.{Appends};
-ghost use Rattle.capture_text.specs.AdviceJson.{advice_json, advices_json, chosen_json, delays_json, end_json, list_json, listed_json, name_json, network_json, rest_json, settings_json, sides_json, truth_word, units_json, window_json};
+ghost use Rattle.capture_text.specs.AdviceJson.{advice_json, advices_json, chosen_json, delays_json, end_json, list_json, listed_json, name_json, network_json, rest_json, seen_json, settings_json, sides_json, truth_word, units_json, window_json};
 
 use crate::choosing::{ChosenSettings, Delays, Network, choose, find_delays, observe};
 use crate::distributions::write_measured_json;
@@ -121,9 +121,18 @@ fn write_network<W: Write>(writer: &mut W, network: &Network) -> io::Result<()>
     // On success PDUs, losses and units are appended, and which of both times were seen.
     ensures { OnOk result (Appends (W.contents writer.old) (W.contents writer.new) (network_json network.now)) }
 {
-    let round_trips = truth(network.shortest);
-    let skews = truth(network.skew);
     write_units(writer, network)?;
+    write_seen(writer, truth(network.shortest), truth(network.skew))?;
+    Ok(())
+}
+
+/// Writes which times were seen.
+#[tactic(auto, unfolding(crate::specs::AdviceJson::seen_json))]
+fn write_seen<W: Write>(writer: &mut W, round_trips: &str, skews: &str) -> io::Result<()>
+    // On success both words are appended as members, that of `round_trips` first.
+    ensures { OnOk result (Appends (W.contents writer.old) (W.contents writer.new)
+        (seen_json round_trips.now skews.now)) }
+{
     write!(
         writer,
         ",\"round_trips_seen\":{round_trips},\"skews_seen\":{skews}"
