@@ -13,6 +13,7 @@ _rasta() {
     follow--from) words='' ;;
     follow--to) words='' ;;
     follow--every) words='' ;;
+    follow--beside) words='' ;;
     il--turns) words='' ;;
     il--log) words='off state all' ;;
     il--time) words='' ;;
@@ -37,7 +38,11 @@ _rasta() {
         *,md4) words='-h --help' ;;
         *,show) words='--code --iv -h --help' ;;
         *,sim) words='-h --help' ;;
+<<<<<<< HEAD
         *,follow) words='--code --iv --only --t-max --messages --ports --json --choose --events --time --from --to --every -h --help' ;;
+=======
+        *,follow) words='--code --iv --only --t-max --messages --ports --json --events --time --from --to --every --beside -h --help' ;;
+>>>>>>> hc
         *,il) words='--turns --until-end --log --time --expect --keep --stats --every -h --help' ;;
         *,fe) words='--turns --until-end --log --time --expect --keep --stats --every -h --help' ;;
         *,pair) words='--turns --until-end --log --time --expect --keep --stats --every -h --help' ;;

@@ -1,7 +1,23 @@
 //! What was read of a recording.
 
 ghost use Rattle.std.specs.Prelude.{◌≡◌};
-ghost use Rattle.capture_beside.specs.Counts.{no_counts};
+ghost use Rattle.capture_beside.specs.Counts.{frame_counted, no_counts};
+
+use crate::pairing::Arrival;
+use capture_text::FrameFault;
+
+/// What a frame has.
+#[derive(Clone, Copy, Debug, PartialEq, Eq)]
+pub(crate) enum Content {
+    /// A datagram that is paired.
+    Datagram(Arrival),
+    /// A datagram of a chosen port that is no redundancy PDU.
+    Strange,
+    /// Something else.
+    Other,
+    /// A datagram that cannot be read.
+    Unread(FrameFault),
+}
 
 /// What was read of a recording.
 #[derive(Clone, Copy, Debug, PartialEq, Eq)]
@@ -27,6 +43,20 @@ impl Counts {
             datagrams: 0,
             strange: 0,
             unreadable: 0,
+        }
+    }
+
+    /// Counts a frame.
+    pub(crate) fn add(&mut self, content: &Content)
+        // The frame is counted, and once more by what it has; of something else only the frame is (`frame_counted`).
+        ensures { self.new ≡ frame_counted content.now self.old }
+    {
+        self.frames = self.frames.saturating_add(1);
+        match content {
+            Content::Datagram(_) => self.datagrams = self.datagrams.saturating_add(1),
+            Content::Strange => self.strange = self.strange.saturating_add(1),
+            Content::Other => {}
+            Content::Unread(_) => self.unreadable = self.unreadable.saturating_add(1),
         }
     }
 }

@@ -1,6 +1,8 @@
 //! A recording that is read datagram by datagram.
 
-use crate::counts::Counts;
+ghost use Rattle.std.specs.Prelude.{◌<◌, ◌≤◌, ◌^◌, length};
+
+use crate::counts::{Content, Counts};
 use crate::pairing::Arrival;
 use crate::sites::{Extent, extend};
 use capture::{
@@ -17,59 +19,91 @@ pub(crate) struct Reading<'a> {
     pub name: &'a str,
     /// What is known of its blocks.
     pub recording: Recording,
-    /// The next block.
-    pub block: Vec<u8>,
     /// What was read.
     pub counts: Counts,
     /// When the frames so far were recorded.
     pub extent: Option<Extent>,
     /// The next datagram; `None` after the last one.
     pub next: Option<Arrival>,
+    /// It has ended, or cannot go on.
+    pub is_over: bool,
 }
 
-/// What a frame has.
-pub(crate) enum Content {
-    /// A datagram that is paired.
-    Datagram(Arrival),
-    /// A datagram of a chosen port that is no redundancy PDU.
-    Strange,
-    /// Something else.
-    Other,
-    /// A datagram that cannot be read.
-    Unread(FrameFault),
+/// A recording with its reader.
+#[derive(Drop)]
+pub(crate) struct Source<'a, R: Read + Drop> {
+    /// The reader of its bytes.
+    pub reader: BufReader<R, Global>,
+    /// What was read.
+    pub reading: Reading<'a>,
 }
 
-/// Reads a recording up to its next datagram that is paired.
+impl<'a> Reading<'a> {
+    /// Returns a recording of which nothing was read.
+    pub fn new(name: &'a str) -> Self {
+        Reading {
+            name,
+            recording: Recording::new(),
+            counts: Counts::new(),
+            extent: None,
+            next: None,
+            is_over: false,
+        }
+    }
+}
+
+/// Reads a recording up to its next datagram that is paired. `block` is the room for its blocks.
 pub(crate) fn read_next<R: Read + Drop, E: Write>(
-    reader: &mut BufReader<R, Global>,
-    reading: &mut Reading<'_>,
+    source: &mut Source<'_, R>,
+    block: &mut Vec<u8>,
     ports: &Option<Ports>,
     err: &mut E,
 ) -> Result<(), Stop> {
+    let reading = &mut source.reading;
     reading.next = None;
     for _ in 0..u64::MAX {
+        if reading.is_over {
+            return Ok(());
+        }
         let wanted = reading.recording.wants() as usize;
-        reading.block.resize(wanted, 0).map_err(|_| Stop::Memory)?;
-        let size = read_whole(reader, reading.block.as_mut_slice())?;
+        block.resize(wanted, 0).map_err(|_| Stop::Memory)?;
+        let size = read_whole(&mut source.reader, block.as_mut_slice())?;
         if size < wanted {
             return end(reading, size, err);
         }
-        match reading.recording.take(reading.block.as_slice()) {
-            Ok(BlockContent::Frame(framed)) => {
-                take_frame(reading, &framed, ports, err)?;
-                if reading.next.is_some() {
-                    return Ok(());
-                }
-            }
-            Ok(BlockContent::Nothing | BlockContent::Text) => {}
-            Err(fault) => return break_off(reading, name_of_file_fault(fault), err),
+        let goes_on = take_block(reading, block.as_slice(), ports, err)?;
+        if !goes_on {
+            return Ok(());
         }
     }
     Ok(())
 }
 
+/// Takes a block, and returns whether the reading goes on: there is no fault, and no datagram is next.
+fn take_block<E: Write>(
+    reading: &mut Reading<'_>,
+    block: &[u8],
+    ports: &Option<Ports>,
+    err: &mut E,
+) -> Result<bool, Stop>
+    requires { length block.now < 2 ^ 32 }
+{
+    match reading.recording.take(block) {
+        Ok(BlockContent::Frame(framed)) => {
+            take_frame(reading, &framed, block, ports, err)?;
+            Ok(reading.next.is_none())
+        }
+        Ok(BlockContent::Nothing | BlockContent::Text) => Ok(true),
+        Err(fault) => {
+            break_off(reading, name_of_file_fault(fault), err)?;
+            Ok(false)
+        }
+    }
+}
+
 /// Ends a recording when too few bytes came for the next block. Within a block that is reported.
 fn end<E: Write>(reading: &mut Reading<'_>, size: usize, err: &mut E) -> Result<(), Stop> {
+    reading.is_over = true;
     if is_whole(reading.recording.part, size) {
         return Ok(());
     }
@@ -82,6 +116,7 @@ pub(crate) fn break_off<E: Write>(
     why: &str,
     err: &mut E,
 ) -> Result<(), Stop> {
+    reading.is_over = true;
     reading.counts.unreadable = reading.counts.unreadable.saturating_add(1);
     let name = reading.name.escape_debug();
     let frames = reading.counts.frames;
@@ -98,32 +133,48 @@ pub(crate) fn break_off<E: Write>(
 fn take_frame<E: Write>(
     reading: &mut Reading<'_>,
     framed: &Framed,
+    block: &[u8],
     ports: &Option<Ports>,
     err: &mut E,
-) -> Result<(), Stop> {
-    let counts = &mut reading.counts;
-    counts.frames = counts.frames.saturating_add(1);
+) -> Result<(), Stop>
+    requires order { framed.now.start ≤ framed.now.end }
+    requires within { framed.now.end ≤ length block.now }
+    requires size { length block.now < 2 ^ 32 }
+{
     reading.extent = Some(extend(reading.extent, framed.time));
-    let octets = &reading.block[framed.start..framed.end];
-    match look(framed, octets, ports) {
-        Content::Datagram(arrival) => {
-            counts.datagrams = counts.datagrams.saturating_add(1);
-            reading.next = Some(arrival);
-        }
-        Content::Strange => counts.strange = counts.strange.saturating_add(1),
-        Content::Other => {}
-        Content::Unread(fault) => {
-            counts.unreadable = counts.unreadable.saturating_add(1);
-            let name = reading.name.escape_debug();
-            write!(err, "{name}: ").map_err(|_| Stop::Output)?;
-            write_frame_fault(err, counts.frames, fault).map_err(|_| Stop::Output)?;
-        }
+    let content = look(framed, &block[framed.start..framed.end], ports);
+    reading.next = datagram_in(content);
+    reading.counts.add(&content);
+    match content {
+        Content::Unread(fault) => tell(reading.name, reading.counts.frames, fault, err),
+        Content::Datagram(_) | Content::Strange | Content::Other => Ok(()),
     }
-    Ok(())
+}
+
+/// Returns the datagram of a frame that is paired.
+fn datagram_in(content: Content) -> Option<Arrival> {
+    match content {
+        Content::Datagram(arrival) => Some(arrival),
+        Content::Strange | Content::Other | Content::Unread(_) => None,
+    }
+}
+
+/// Writes the fault of a frame, with the name of its file.
+fn tell<E: Write>(name: &str, number: u64, fault: FrameFault, err: &mut E) -> Result<(), Stop> {
+    let name = name.escape_debug();
+    if write!(err, "{name}: ").is_err() {
+        return Err(Stop::Output);
+    }
+    match write_frame_fault(err, number, fault) {
+        Ok(()) => Ok(()),
+        Err(_) => Err(Stop::Output),
+    }
 }
 
 /// Finds the datagram of a frame.
-fn look(framed: &Framed, octets: &[u8], ports: &Option<Ports>) -> Content {
+fn look(framed: &Framed, octets: &[u8], ports: &Option<Ports>) -> Content
+    requires { length octets.now < 2 ^ 32 }
+{
     let Some(link) = framed.link else {
         return Content::Unread(FrameFault::Link);
     };

@@ -3,10 +3,10 @@
 use crate::counts::Counts;
 use crate::json::write_json;
 use crate::pairing::Pairing;
-use crate::reading::{Reading, break_off, read_next};
+use crate::reading::{Reading, Source, break_off, read_next};
 use crate::sites::{Extent, Site};
 use crate::text::write_lines;
-use capture::{BlockContent, Ports, Recording};
+use capture::{BlockContent, Ports};
 use capture_text::{
     FollowStatus, Stop, foreign, name_of_foreign, read_whole, status_after, stop_at_output,
 };
@@ -51,84 +51,86 @@ fn pair<H: Read + Drop, T: Read + Drop, O: Write, E: Write>(
     out: &mut O,
     err: &mut E,
 ) -> Result<u64, Stop> {
-    let mut here = here;
-    let mut there = there;
-    let mut from_here = open(alloc, asked.here, &mut here, err)?;
-    let mut from_there = open(alloc, asked.there, &mut there, err)?;
-    let mut here = BufReader::new(alloc, here).map_err(|_| Stop::Memory)?;
-    let mut there = BufReader::new(alloc, there).map_err(|_| Stop::Memory)?;
+    let mut here = open(alloc, asked.here, here, err)?;
+    let mut there = open(alloc, asked.there, there, err)?;
     let mut pairing = Pairing::new(alloc);
-    if from_here.counts.unreadable == 0 {
-        read_next(&mut here, &mut from_here, &asked.ports, err)?;
-    }
-    if from_there.counts.unreadable == 0 {
-        read_next(&mut there, &mut from_there, &asked.ports, err)?;
-    }
+    pair_all(
+        alloc,
+        &mut here,
+        &mut there,
+        &asked.ports,
+        &mut pairing,
+        err,
+    )?;
+    let (here, there) = (here.reading, there.reading);
+    pairing.close(here.extent, there.extent);
+    print(alloc, asked, &pairing, here.counts, there.counts, out)?;
+    let apart = tell_apart(&pairing, err)?;
+    let left_out = tell_left_out(&pairing, err)?;
+    let unreadable = here
+        .counts
+        .unreadable
+        .saturating_add(there.counts.unreadable);
+    Ok(unreadable.saturating_add(apart).saturating_add(left_out))
+}
+
+/// Reads both recordings in step to their ends.
+fn pair_all<H: Read + Drop, T: Read + Drop, E: Write>(
+    alloc: Global,
+    here: &mut Source<'_, H>,
+    there: &mut Source<'_, T>,
+    ports: &Option<Ports>,
+    pairing: &mut Pairing,
+    err: &mut E,
+) -> Result<(), Stop> {
+    let mut block = Vec::new(alloc);
+    read_next(here, &mut block, ports, err)?;
+    read_next(there, &mut block, ports, err)?;
     for _ in 0..u64::MAX {
-        match pairing.turn(from_here.next, from_there.next) {
-            None => break,
+        match pairing.turn(here.reading.next, there.reading.next) {
+            None => return Ok(()),
             Some(Site::Here) => {
                 meet(
                     alloc,
-                    &mut pairing,
+                    pairing,
                     Site::Here,
-                    &from_here,
-                    from_there.extent,
+                    &here.reading,
+                    there.reading.extent,
                 )?;
-                read_next(&mut here, &mut from_here, &asked.ports, err)?;
+                read_next(here, &mut block, ports, err)?;
             }
             Some(Site::There) => {
                 meet(
                     alloc,
-                    &mut pairing,
+                    pairing,
                     Site::There,
-                    &from_there,
-                    from_here.extent,
+                    &there.reading,
+                    here.reading.extent,
                 )?;
-                read_next(&mut there, &mut from_there, &asked.ports, err)?;
+                read_next(there, &mut block, ports, err)?;
             }
         }
     }
-    pairing.close(from_here.extent, from_there.extent);
-    print(
-        alloc,
-        asked,
-        &pairing,
-        from_here.counts,
-        from_there.counts,
-        out,
-    )?;
-    let apart = tell_apart(&pairing, err)?;
-    let left_out = tell_left_out(&pairing, err)?;
-    let unreadable = from_here
-        .counts
-        .unreadable
-        .saturating_add(from_there.counts.unreadable);
-    Ok(unreadable.saturating_add(apart).saturating_add(left_out))
+    Ok(())
 }
 
 /// Reads the first bytes of a recording.
-fn open<'a, R: Read, E: Write>(
+fn open<'a, R: Read + Drop, E: Write>(
     alloc: Global,
     name: &'a str,
-    reader: &mut R,
+    reader: R,
     err: &mut E,
-) -> Result<Reading<'a>, Stop> {
+) -> Result<Source<'a, R>, Stop> {
+    let mut reader = reader;
     let mut front = [0u8; 4];
-    let size = read_whole(reader, &mut front)?;
-    let mut reading = Reading {
-        name,
-        recording: Recording::new(),
-        block: Vec::new(alloc),
-        counts: Counts::new(),
-        extent: None,
-        next: None,
-    };
+    let size = read_whole(&mut reader, &mut front)?;
+    let mut reading = Reading::new(name);
     match reading.recording.take(&front[..size]) {
         Ok(BlockContent::Nothing) => {}
         _ => break_off(&mut reading, why_not(front), err)?,
     }
-    Ok(reading)
+    let reader = BufReader::new(alloc, reader).map_err(|_| Stop::Memory)?;
+    Ok(Source { reader, reading })
 }
 
 /// Returns why a file is not a recording.
