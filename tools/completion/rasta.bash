@@ -38,11 +38,7 @@ _rasta() {
         *,md4) words='-h --help' ;;
         *,show) words='--code --iv -h --help' ;;
         *,sim) words='-h --help' ;;
-<<<<<<< HEAD
-        *,follow) words='--code --iv --only --t-max --messages --ports --json --choose --events --time --from --to --every -h --help' ;;
-=======
-        *,follow) words='--code --iv --only --t-max --messages --ports --json --events --time --from --to --every --beside -h --help' ;;
->>>>>>> hc
+        *,follow) words='--code --iv --only --t-max --messages --ports --json --choose --events --time --from --to --every --beside -h --help' ;;
         *,il) words='--turns --until-end --log --time --expect --keep --stats --every -h --help' ;;
         *,fe) words='--turns --until-end --log --time --expect --keep --stats --every -h --help' ;;
         *,pair) words='--turns --until-end --log --time --expect --keep --stats --every -h --help' ;;
