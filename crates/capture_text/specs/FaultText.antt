@@ -1,5 +1,5 @@
 -- The line that is printed for a line or frame that is not a datagram.
-use Rattle.std.specs.Prelude.{ℕ, ◌==◌, ◌&&◌, ◌||◌, Bool, true, false, not, nat_eq, List, [], ◌∷◌, codes, slice_index, if◌then◌else◌, Option, Some, None}
+use Rattle.std.specs.Prelude.{ℕ, ◌==◌, ◌&&◌, ◌||◌, Bool, nat_eq, List, [], ◌∷◌, codes, slice_index, if◌then◌else◌, Option, Some, None}
 use Rattle.std.specs.Fmt.{decimal}
 use Rattle.capture.specs.declared.file.FileFault.{FileFault}
 use Rattle.capture.specs.declared.file.FileFault.TheVariants as file
