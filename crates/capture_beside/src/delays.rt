@@ -208,7 +208,7 @@ fn place_of_rank(buckets: &[u64], rank: u64) -> usize
 
 /// Returns a difference with the other sign.
 fn reversed(difference: u64) -> u64
-    // The result is as far from `EVEN` on the other side, limited to 2^64 - 1.
+    // The result is as far from the difference of equal times on the other side, limited to 2^64 - 1.
     ensures { result ≡ reversed_of difference }
 {
     (u64::MAX - difference).saturating_add(1)

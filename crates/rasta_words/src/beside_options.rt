@@ -14,10 +14,10 @@ pub fn chosen_recording<'a>(
     entries: &ArgMatches<'a>,
     file: &'a str,
 ) -> Result<Option<&'a str>, Rejection<'a>>
-    // The recording that `chosen_recording` returns is that of `--beside`, with which no other option stands that says
-    // nothing of pairs; only one of both is standard input.
+    // The recording that `chosen_recording` returns is that of the option, and none without it. No other option says
+    // nothing of pairs, and not both recordings are standard input.
     ensures found { IfOk result (λ beside. IsBesideChosen (rows_of (found_of entries.now)) file.entry.now (option_copied beside)) }
-    // If `chosen_recording` fails, it names the first option that does not go with `--beside`, or both recordings are
+    // If `chosen_recording` fails, it names the first option that says nothing of pairs, or both recordings are
     // standard input.
     ensures refused { IfErr result (IsBesideRejected (rows_of (found_of entries.now)) file.entry.now) }
 {

@@ -27,7 +27,7 @@ pub fn follow_command<'a>(alloc: Global) -> Result<Command<'a>, AllocError>
 /// Declares `follow` without its file.
 #[inline(never)]
 fn paired_command<'a>(alloc: Global) -> Result<Command<'a>, AllocError>
-    // `paired_command` declares the subcommand `follow` with the options of `periodic_app` and `--beside`.
+    // `paired_command` declares the subcommand follow with the options of `periodic_app` and `--beside`.
     ensures app { IfOk result (λ command. app_of command ≡ paired_app) }
     // No argument that `paired_command` declares is global.
     ensures local { IfOk result (λ command. (out-Command command).has_globals ≡ false) }
