@@ -79,7 +79,7 @@ impl Delays {
         count(self.buckets.as_mut_slice(), bucket(first, difference));
     }
 
-    /// Returns how long so many pairs took, sent from a site, or from here if it is unknown. `None` without a pair.
+    /// Returns how long this number of pairs took, sent from a site, or from here if it is unknown. `None` without a pair.
     ///
     /// `median` and `most` are less than 100 microseconds too small, for differences of less than a second to the
     /// first one.

@@ -10,6 +10,6 @@ pub fn counting_law()
     // If all that wait are given up, each recorded datagram is counted once.
     ensures closing { ClosingAddsUp }
 
-    // The limits of this crate have the values in `LimitsAre`.
+    // The constants of pairing have the values in `LimitsAre`.
     ensures limits { LimitsAre }
 {}

@@ -66,11 +66,11 @@ impl Queue {
     ///
     /// `AllocError` if there is too little memory; the datagram is then lost.
     pub fn wait(&mut self, arrived: Waiting) -> Result<Option<Waiting>, AllocError>
-        // The result is the oldest datagram if `WAITING` wait, else `None`.
+        // `wait` returns the oldest datagram of a full queue, and `None` if there is room (`oldest`).
         ensures gone { IfOk result (λ gone. gone ≡ oldest self.old.waiting.items) }
         // The new datagram is the last one; only the oldest leaves if there was no room (`with_room`).
         ensures waits { OnOk result (self.new.waiting.items ≡ with_room self.old.waiting.items ++ arrived ∷ []) }
-        // The place of the last partner moves with the datagrams.
+        // The place from which the next partner is sought moves with the datagrams (`shifted`).
         ensures next { self.new.next ≡ shifted self.old.waiting.items self.old.next }
     {
         let gone = self.make_room();

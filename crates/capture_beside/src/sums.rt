@@ -38,7 +38,7 @@ pub struct Sums {
 impl Tally {
     /// Returns a tally without datagrams.
     fn new() -> Self
-        // All counts are 0.
+        // A new tally has counted nothing.
         ensures { result ≡ no_tally }
     {
         Tally {
