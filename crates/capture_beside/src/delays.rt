@@ -106,7 +106,7 @@ impl Delays {
         }
     }
 
-    /// Returns the median of so many differences, or `None` without a pair.
+    /// Returns the median of this number of differences, or `None` without a pair.
     pub fn median(&self, pairs: u64) -> Option<u64>
         // The median is the start of the bucket of half of the `pairs`, rounded up (`median_of`).
         ensures { result ≡ median_of pairs self.now.first self.now.buckets.items }
