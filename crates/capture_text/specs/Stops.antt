@@ -1,5 +1,5 @@
 -- How a run ends, and why it stops at an output.
-use Rattle.std.specs.Prelude.{ℕ, Result, Ok, Err}
+use Rattle.std.specs.Prelude.{ℕ, zero, suc, Result, Ok, Err}
 use Rattle.std.specs.declared.io.ErrorKind.{ErrorKind}
 use Rattle.std.specs.declared.io.ErrorKind.TheVariants.{BrokenPipe}
 use Rattle.capture_text.specs.declared.running.FollowStatus.{FollowStatus}
@@ -14,7 +14,7 @@ output_stop _ = Output
 
 -- A run that comes to its end is done if there was no fault; one that stops has the status of its stop.
 abbrev pub status_of : Result ℕ Stop → FollowStatus
-status_of (Ok 0) = status.Done
+status_of (Ok zero) = status.Done
 status_of (Ok (suc n)) = status.Unreadable
 status_of (Err Memory) = status.Memory
 status_of (Err File) = status.File

@@ -18,7 +18,7 @@ const CONFIRM_AFTER: u32 = 3;
 /// The shortest time one way that is assumed without round trips, in milliseconds.
 const SHORTEST_ASSUMED: u64 = 5;
 
-/// The least margin of T_seq above the difference, in milliseconds: so much hosts may add.
+/// The least margin of T_seq above the difference, in milliseconds: what hosts may add.
 const MARGIN: u64 = 5;
 
 /// The least T_seq that an end accepts, in milliseconds.

@@ -87,7 +87,7 @@ pub fn run<R: Read + Drop, O: Write, E: Write>(
     status_after(follow_input(alloc, reader, asked, out, err))
 }
 
-/// Returns how a run ended that had so many faults, or stopped early.
+/// Returns how a run ended that had this number of faults, or stopped early.
 pub fn status_after(ended: Result<u64, Stop>) -> FollowStatus
     // A run without a fault is `Done`, one with faults `Unreadable`; one that stopped has the status of its stop
     // (`status_of`).
@@ -412,7 +412,7 @@ fn follow_frames<R: Read + Drop, W: Write, E: Write, A: Allocator + Copy>(
     Ok(())
 }
 
-/// Makes room for so many bytes. It never takes room away, since each byte of new room is written.
+/// Makes room for this number of bytes. It never takes room away, since each byte of new room is written.
 fn make_room<A: Allocator>(block: &mut Vec<u8, A>, wanted: usize) -> Result<(), Stop>
     // On success the block has at least as many bytes as are `wanted`.
     ensures { OnOk result (wanted ≤ vec_len block.new) }
