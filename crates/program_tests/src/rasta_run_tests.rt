@@ -92,6 +92,7 @@ fn plain_following() -> FollowRequest<'static> {
             },
             every: None,
         },
+        beside: None,
     }
 }
 

@@ -87,6 +87,7 @@ fn accepts_the_words_of_follow(rt: HostRuntime) -> Result<(), Fail> {
             },
             every: None,
         },
+        beside: None,
     };
     let words = ["rasta", "follow", "night.tsv"];
     let Ok(found) = command(rt.alloc(), &words) else {
@@ -145,6 +146,7 @@ fn accepts_the_words_of_follow(rt: HostRuntime) -> Result<(), Fail> {
                 },
                 every: Some(60),
             },
+            beside: None,
         }),
     );
     for (choice, option, text) in [
