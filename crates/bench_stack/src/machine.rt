@@ -8,7 +8,7 @@ use crate::{append, rule_of};
 use arrayvec::ArrayVec;
 use linked_list_allocator::LocalHeap;
 use octets::copy_of;
-use octets::limits::SAFE_PDU_MAX;
+use octets::limits::{RED_HEADER, SAFE_PDU_MAX};
 use safe_machine::{ConnectionState, Machine, MachineConfig, PduOut, Role, Unit, UnitIn};
 use std::alloc::Global;
 
@@ -53,9 +53,9 @@ impl Counted {
 impl PduOut for Counted {
     ghost makes = { λ _ _ _. Unit {0} };
 
-    fn made(&mut self, pdu: &[u8]) {
+    fn made(&mut self, framed: &mut [u8]) {
         self.pdus = self.pdus.wrapping_add(1);
-        let last = pdu.last().copied().unwrap_or(0);
+        let last = framed.last().copied().unwrap_or(0);
         self.last_octets = self.last_octets.wrapping_add(u32::from(last));
     }
 }
@@ -77,7 +77,8 @@ impl Latest {
 impl PduOut for Latest {
     ghost makes = { λ _ _ _. Unit {0} };
 
-    fn made(&mut self, pdu: &[u8]) {
+    fn made(&mut self, framed: &mut [u8]) {
+        let (_, pdu) = framed.split_at(RED_HEADER);
         self.pdu.clear();
         let _ = self.pdu.try_extend_from_slice(pdu);
     }

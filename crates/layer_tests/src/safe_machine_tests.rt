@@ -6,6 +6,7 @@ use crate::assertions::{assert_equal, assert_true};
 use Happens::{FeSends, FeTicks, IlSends, ToFe, ToIl};
 use arrayvec::ArrayVec;
 use linked_list_allocator::LocalHeap;
+use octets::limits::RED_HEADER;
 use safe_machine::{
     ConnectionState, Detail, DropCause, Machine, MachineConfig, MachineFault, PduOut, Reason, Role,
     SendFault, Step, Unit, UnitIn,
@@ -60,7 +61,8 @@ struct Wire {
 impl PduOut for Wire {
     ghost makes = { λ _ _ _. Unit {0} };
 
-    fn made(&mut self, pdu: &[u8]) {
+    fn made(&mut self, framed: &mut [u8]) {
+        let (_, pdu) = framed.split_at(RED_HEADER);
         let mut kept = ArrayVec::new();
         let _ = kept.try_extend_from_slice(pdu);
         let _ = self.octets.try_push(kept);

@@ -7,7 +7,7 @@
 
 ghost use Rattle.std.specs.Prelude.{◌≡◌, ℕ, ◌+◌, ◌≤◌, List, length, take, drop, IfOk, IfErr, IsOkAnd};
 ghost use Rattle.red_layer.specs.pdu.FaultNames.{red_name, red_number};
-ghost use Rattle.red_layer.specs.pdu.RedText.{RedText, FirstFault, red_seen, seen_of};
+ghost use Rattle.red_layer.specs.pdu.RedText.{RedText, FirstFault, red_seen, red_text, seen_of};
 
 use octets::limits::{RED_HEADER, RED_PDU_MAX, SAFE_PDU_MAX};
 use octets::places::{put_octets, put_u16, put_u32, u16_at, u32_at};
@@ -112,11 +112,23 @@ pub fn encode(seq: u32, upper: &[u8], buffer: &mut [u8]) -> usize
     ensures rest { drop result buffer.new ≡ drop result buffer.old }
 {
     let size = RED_HEADER + upper.len();
-    put_u16(buffer, 0, size as u16);
-    put_u16(buffer, 2, 0);
-    put_u32(buffer, 4, seq);
     put_octets(buffer, RED_HEADER, upper);
+    put_header(seq, &mut buffer[..size]);
     size
+}
+
+/// Writes the header of a redundancy PDU whose payload stands behind it already.
+///
+/// The caller must provide the whole PDU: 8 bytes for the header, and a payload of at most 1,250 bytes.
+pub fn put_header(seq: u32, framed: &mut [u8])
+    requires room { RED_HEADER ≤ length framed.old }
+    requires fits { length framed.old ≤ RED_PDU_MAX }
+    // The bytes are the encoding of the sequence number and of the payload that stood behind the header.
+    ensures { framed.new ≡ red_text seq (drop RED_HEADER framed.old) }
+{
+    put_u16(framed, 0, framed.len() as u16);
+    put_u16(framed, 2, 0);
+    put_u32(framed, 4, seq);
 }
 
 /// Encodes a redundancy PDU and decodes the result.

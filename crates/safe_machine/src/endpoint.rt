@@ -1,8 +1,9 @@
 //! What a machine keeps, and single changes of it.
 
-ghost use Rattle.std.specs.Prelude.{◌≡◌, ◌+◌, ◌<◌, ◌≤◌, ◌^◌, List, [], length, true, ◌%◌};
-ghost use Rattle.safe_pdu.specs.SafeText.{code_octets};
+ghost use Rattle.std.specs.Prelude.{◌≡◌, ◌+◌, ◌<◌, ◌≤◌, ◌^◌, List, [], length, take, drop, true, ◌%◌};
+ghost use Rattle.safe_pdu.specs.SafeText.{SafeText, code_octets};
 ghost use Rattle.safe_pdu.specs.Bodies.{IsBody};
+ghost use Rattle.safe_pdu.specs.Pdu.{pdu_of};
 ghost use Rattle.safe_machine.specs.Made.{opening_body, leaving_body};
 ghost use Rattle.safe_machine.specs.Turns.{Out, counted, leaves, next_made};
 ghost use Rattle.safe_machine.specs.View.{settings_of, text_of};
@@ -12,9 +13,9 @@ ghost use Rattle.safe_machine.specs.Connections.{is_live, in_turn, is_connected}
 use super::{ConnectionState, Detail, MachineConfig, PduOut, Reason, Role};
 use crate::retrans::Unconfirmed;
 use octets::Milliseconds;
-use octets::limits::{SAFE_HEADER, SAFE_PDU_MAX};
+use octets::limits::{RED_HEADER, RED_PDU_MAX, SAFE_HEADER};
 use octets::places::put_u16;
-use safe_pdu::{Kind, SafePdu, encode};
+use safe_pdu::{CodeRule, Kind, SafePdu, encode};
 use std::alloc::{Allocator, Global};
 use std::marker::Model;
 
@@ -187,15 +188,15 @@ impl<A: Allocator> Endpoint<A> {
         ensures { O.makes out.old (text_of self.now.settings.rule (next_made self.now kind body.now now)) out.new }
     {
         if SAFE_HEADER + body.len() + self.config.rule.length.octets() <= SHORT_PDU {
-            let mut buffer = [0; SHORT_PDU];
+            let mut buffer = [0; RED_HEADER + SHORT_PDU];
             self.write_out(kind, body, now, &mut buffer, out);
         } else {
-            let mut buffer = [0; SAFE_PDU_MAX];
+            let mut buffer = [0; RED_PDU_MAX];
             self.write_out(kind, body, now, &mut buffer, out);
         }
     }
 
-    /// Writes a PDU into a buffer, and hands it out.
+    /// Writes a PDU into a buffer, behind room for a redundancy header, and hands it out.
     #[tactic(auto, unfolding(crate::specs::View::text_of))]
     fn write_out<O: PduOut>(
         &self,
@@ -206,7 +207,7 @@ impl<A: Allocator> Endpoint<A> {
         out: &mut O,
     )
         requires body { IsBody kind body.now }
-        requires room { SAFE_HEADER + length body.now + code_octets self.now.settings.rule.length ≤ length buffer.old }
+        requires room { RED_HEADER + SAFE_HEADER + length body.now + code_octets self.now.settings.rule.length ≤ length buffer.old }
         // `write_out` hands out the encoding of the next PDU for any earlier content of the buffer (`next_made`).
         ensures { O.makes out.old (text_of self.now.settings.rule (next_made self.now kind body.now now)) out.new }
     {
@@ -220,8 +221,8 @@ impl<A: Allocator> Endpoint<A> {
             cts: self.last_ts,
             body,
         };
-        let size = encode(&pdu, &self.config.rule, buffer);
-        out.made(&buffer[..size]);
+        let size = encode_framed(&pdu, &self.config.rule, buffer);
+        out.made(&mut buffer[..size]);
     }
 
     /// Returns the sequence number of the next PDU.
@@ -252,6 +253,21 @@ impl<A: Allocator> Endpoint<A> {
     {
         self.connection = connection;
     }
+}
+
+/// Encodes a PDU behind 8 bytes for a redundancy header, and returns the size of both.
+fn encode_framed(pdu: &SafePdu<'_>, rule: &CodeRule, buffer: &mut [u8]) -> usize
+    requires body { IsBody pdu.now.kind pdu.now.body.now }
+    requires room { RED_HEADER + SAFE_HEADER + length pdu.now.body.now + code_octets rule.now.length ≤ length buffer.old }
+    // The size is that of the room in front, the header, the body and the safety code.
+    ensures size { result ≡ RED_HEADER + (SAFE_HEADER + length pdu.now.body.now + code_octets rule.now.length) }
+    // What is behind the room, up to that size, is exactly the encoding of the PDU.
+    ensures written { SafeText (pdu_of pdu.now) rule.now (drop RED_HEADER (take result buffer.new)) }
+    // The buffer keeps its length.
+    ensures kept { length buffer.new ≡ length buffer.old }
+{
+    let (_, behind) = buffer.split_at_mut(RED_HEADER);
+    RED_HEADER + encode(pdu, rule, behind)
 }
 
 impl ConnectionState {

@@ -1,8 +1,8 @@
 //! One end of a connection.
 
-ghost use Rattle.std.specs.Prelude.{◌≡◌, ◌≢◌, ◌+◌, ◌<◌, ◌≤◌, ◌^◌, ◌↔◌, ℕ, List, [], true, false, length, Err, ◌++◌, ◌∷◌, IfOk, IsOk, OnOk, OnErr, if◌then◌else◌, option_map, slice_get};
+ghost use Rattle.std.specs.Prelude.{◌≡◌, ◌≢◌, ◌+◌, ◌<◌, ◌≤◌, ◌^◌, ◌↔◌, ℕ, List, [], true, false, length, drop, Err, ◌++◌, ◌∷◌, IfOk, IsOk, OnOk, OnErr, if◌then◌else◌, option_map, slice_get};
 ghost use Rattle.std.specs.List.{FoldsTo};
-ghost use Rattle.octets.specs.declared.limits.TheConstants.{WINDOW_MAX};
+ghost use Rattle.octets.specs.declared.limits.TheConstants.{RED_HEADER, RED_PDU_MAX, WINDOW_MAX};
 ghost use Rattle.safe_machine.specs.Settings.{is_legal};
 ghost use Rattle.safe_machine.specs.Turns.{guards, has_room, leaves, opens, sends, still, ticks};
 ghost use Rattle.safe_machine.specs.Octets.{heard_answer, hears, hears_units};
@@ -25,7 +25,7 @@ use super::{
 };
 use crate::retrans::Unconfirmed;
 use octets::Milliseconds;
-use octets::limits::{SAFE_PDU_MAX, WINDOW_MAX};
+use octets::limits::{RED_HEADER, RED_PDU_MAX, WINDOW_MAX};
 use std::alloc::{Allocator, Global};
 use std::marker::Model;
 
@@ -34,11 +34,12 @@ pub trait PduOut {
     /// What one call of `made` does to the value.
     ghost makes: { Self → List ℕ → Self → Type 0 };
 
-    /// Takes the bytes of a PDU, at most 1,250.
-    fn made(&mut self, pdu: &[u8])
-        requires sized { length pdu.now ≤ SAFE_PDU_MAX }
+    /// Takes a PDU of at most 1,250 bytes behind 8 bytes, in which the receiver can write a redundancy header.
+    fn made(&mut self, framed: &mut [u8])
+        requires room { RED_HEADER ≤ length framed.old }
+        requires sized { length framed.old ≤ RED_PDU_MAX }
         // Each PDU made changes the value by `makes`.
-        ensures { makes self.old pdu.now self.new };
+        ensures { makes self.old (drop RED_HEADER framed.old) self.new };
 }
 
 /// The receiver of the units that a machine delivers.

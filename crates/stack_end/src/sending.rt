@@ -10,12 +10,9 @@ ghost use Rattle.stack_end.specs.Statistics.{with_pdu};
 
 use crate::statistics::MadeCounts;
 use channels::Channels;
-use octets::limits::{RED_HEADER, RED_PDU_MAX};
+use octets::limits::RED_HEADER;
 use red_layer::Numbers;
 use safe_machine::PduOut;
-
-/// The size of the short buffer. A buffer is cleared before each use, and most datagrams fit this one.
-const SHORT_DATAGRAM: usize = 136;
 
 /// Receives the PDUs that a machine makes, numbers them, and sends each on every channel.
 #[derive(Drop)]
@@ -40,29 +37,13 @@ impl<'a, 'b, 'c, C: Channels> PduOut for ToChannels<'a, 'b, 'c, C> {
         × FoldsTo SendsOne (C.told s.channels.now) (on_channels s.count (red_text s.numbers.now pdu))
         (C.told t.channels.now) };
 
-    fn made(&mut self, pdu: &[u8]) {
+    fn made(&mut self, framed: &mut [u8]) {
         let number = self.numbers.next();
+        let (_, pdu) = framed.split_at(RED_HEADER);
         *self.made = self.made.with_pdu(pdu);
-        if RED_HEADER + pdu.len() <= SHORT_DATAGRAM {
-            let mut buffer = [0; SHORT_DATAGRAM];
-            send_by(self.channels, self.count, number, pdu, &mut buffer);
-        } else {
-            let mut buffer = [0; RED_PDU_MAX];
-            send_by(self.channels, self.count, number, pdu, &mut buffer);
-        }
+        red_layer::pdu::put_header(number, framed);
+        send_on_all(self.channels, self.count, framed);
     }
-}
-
-/// Encodes a redundancy PDU in a buffer and sends it on every channel.
-fn send_by<C: Channels>(channels: &mut C, count: usize, number: u32, pdu: &[u8], buffer: &mut [u8])
-    requires fits { length pdu.now ≤ SAFE_PDU_MAX }
-    requires room { RED_HEADER + length pdu.now ≤ length buffer.old }
-    // The PDU goes out under its redundancy number on channels 1 to `count`, in this order; a send that fails is
-    // counted.
-    ensures { FoldsTo SendsOne (C.told channels.old) (on_channels count (red_text number pdu.now)) (C.told channels.new) }
-{
-    let size = red_layer::pdu::encode(number, pdu, buffer);
-    send_on_all(channels, count, &buffer[..size]);
 }
 
 /// Sends a datagram on every channel in order. A failed send is a lost copy, and sending goes on.
