@@ -3,7 +3,7 @@
 ghost use Rattle.std.specs.Prelude.{◌≡◌, ◌≢◌, true, false};
 ghost use Rattle.end_for_callers.specs.Calls.{or_else};
 ghost use Rattle.bekwidas.specs.Codes.{code_to_open};
-ghost use Rattle.bekwidas.specs.Faults.{ample_room, are_channels, code_of_warning, deferred, first_fault, have_versions, in_front, in_lists, in_numbers, in_rooms, most_versions, outside, unless, warned, written_for};
+ghost use Rattle.bekwidas.specs.Faults.{ample_room, are_channels, code_of_warning, most_deferred, first_fault, have_versions, in_front, in_lists, in_numbers, in_rooms, most_versions, outside, unless, first_warning, written_for};
 ghost use Rattle.bekwidas.specs.declared.codes.TheConstants.{BAD_SETTINGS, OK};
 ghost use Rattle.end_for_callers.specs.declared.TheConstants.{CALL_TELEGRAMS};
 
@@ -35,10 +35,10 @@ pub struct SettingFault {
 pub extern "C" fn bekr_settings_fault(settings: &PlainSettings, fault: &mut SettingFault) -> i32
     // Settings with which no end opens at time 0 have the code of that refusal.
     ensures refused { code_to_open settings.now 0 ≢ OK → result ≡ code_to_open settings.now 0 }
-    // Settings that can be opened have the code OK, or `UNWISE` if an end works badly with them (`warned`).
-    ensures opened { code_to_open settings.now 0 ≡ OK → result ≡ code_of_warning (warned settings.now) }
+    // Settings that can be opened have the code OK, or `UNWISE` if an end works badly with them (`first_warning`).
+    ensures opened { code_to_open settings.now 0 ≡ OK → result ≡ code_of_warning (first_warning settings.now) }
     // The first member that is wrong is written; if none is, the first with which an end works badly, or zeros.
-    ensures named { fault.new ≡ written_for (or_else (first_fault settings.now) (warned settings.now)) }
+    ensures named { fault.new ≡ written_for (or_else (first_fault settings.now) (first_warning settings.now)) }
 {
     let warning = warned(settings);
     *fault = written_for(first(first_fault(settings), warning));
@@ -254,7 +254,7 @@ fn in_rooms(s: &PlainSettings) -> Option<SettingFault>
 fn warned(s: &PlainSettings) -> Option<SettingFault>
     // `mwa` is to be below `n_sendmax`, `t_seq` below `t_max`, and `q` enough for what is deferred after one lost
     // datagram.
-    ensures { result ≡ warned s.now }
+    ensures { result ≡ first_warning s.now }
 {
     let deferred = outside(11, s.q, deferred(s.n_sendmax, s.mwa), 8);
     let t_seq = unless(
@@ -277,7 +277,7 @@ fn warned(s: &PlainSettings) -> Option<SettingFault>
 /// Returns how many parts can be deferred after one lost datagram.
 fn deferred(window: u32, mwa: u32) -> u32
     // The other units of a window, and the heartbeats that confirm its units.
-    ensures { result ≡ deferred window mwa }
+    ensures { result ≡ most_deferred window mwa }
 {
     if mwa == 0 {
         return 0;

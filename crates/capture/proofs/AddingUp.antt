@@ -13,8 +13,8 @@ use Rattle.capture.specs.declared.direction.Peer.{Peer}
 use Rattle.capture.specs.declared.direction.Place.{Place}
 use Rattle.capture.specs.declared.following.Totals.{Totals}
 use Rattle.capture.specs.declared.heard.Header.{Header}
-use Rattle.capture.specs.declared.heard.Heard.{Heard}
-use Rattle.capture.specs.declared.heard.Heard.TheVariants.{Pdu, NoSafe, NoRed}
+use Rattle.capture.specs.declared.heard.DecodedDatagram.{DecodedDatagram}
+use Rattle.capture.specs.declared.heard.DecodedDatagram.TheVariants.{Pdu, NoSafe, NoRed}
 use Rattle.capture.specs.declared.line.Record.{Record}
 use Rattle.capture.specs.declared.window.Window.{Window}
 use Rattle.capture.specs.Numbers.{judged}
@@ -187,7 +187,7 @@ totals_sum (c ∷ cs) gone room =
 abbrev all_of : Kept → ℕ
 all_of k = datagrams_of k.gone + weights k.connections + k.damaged
 
-one_heard : (k : Kept) (line : ℕ) (r : Record) (x : Heard) → all_of k < 2 ^ 64 - 1
+one_heard : (k : Kept) (line : ℕ) (r : Record) (x : DecodedDatagram) → all_of k < 2 ^ 64 - 1
     → all_of (kept_after k (record { line = line; from = r; heard = x })) ≡ all_of k + 1
 one_heard k line r (Pdu seq h) room =
     let one = one_stepped k.connections line r seq h k.gone (omega arith) in

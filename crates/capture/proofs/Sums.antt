@@ -2,13 +2,13 @@
 use Rattle.std.proofs.Common.{◌≡◌, ℕ, ◌+◌, ◌-◌, ◌^◌, ◌<◌, List, [], ◌∷◌, length, refl, arith, Option, Some, None}
 use Rattle.capture.specs.declared.window.Seen.{Seen}
 use Rattle.capture.specs.declared.window.Window.{Window}
-use Rattle.capture.specs.declared.window.Judged.{Judged}
-use Rattle.capture.specs.declared.window.Judged.TheVariants.{First, Next, Ahead, Late, Repeat, Differs, Stale, Anew}
+use Rattle.capture.specs.declared.window.NumberOrder.{NumberOrder}
+use Rattle.capture.specs.declared.window.NumberOrder.TheVariants.{First, Next, Ahead, Late, Repeat, Differs, Stale, Anew}
 use Rattle.capture.specs.Numbers.{ahead, judged, judged_ahead, judged_by, judged_from, noted, noted_as, open_window, seen_of}
 use Rattle.capture.specs.Laws.{EachCounted, EachOnce, all_noted, datagrams_in, reached, reached_by}
 
 -- A number is counted once, however it followed.
-pub one_noted : (j : Judged) (w : Window) (s : Seen) → datagrams_in w < 2 ^ 64 - 1 → datagrams_in (noted_as j w s) ≡ datagrams_in w + 1
+pub one_noted : (j : NumberOrder) (w : Window) (s : Seen) → datagrams_in w < 2 ^ 64 - 1 → datagrams_in (noted_as j w s) ≡ datagrams_in w + 1
 one_noted First w s h = omega arith
 one_noted Next w s h = omega arith
 one_noted (Ahead passed) w s h = omega arith
@@ -48,7 +48,7 @@ late_was_missing w n f h = late_by (seen_of w n) w n f h
 abbrev reached_in : Window → ℕ
 reached_in w = w.heard + w.late + w.missing
 
-pub one_reached : (j : Judged) (w : Window) (s : Seen) → (j ≡ Late → 0 < w.missing) → reached_in w + reached_by j < 2 ^ 64
+pub one_reached : (j : NumberOrder) (w : Window) (s : Seen) → (j ≡ Late → 0 < w.missing) → reached_in w + reached_by j < 2 ^ 64
     → reached_in (noted_as j w s) ≡ reached_in w + reached_by j
 one_reached First w s late h = omega arith
 one_reached Next w s late h = omega arith

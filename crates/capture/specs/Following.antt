@@ -5,8 +5,8 @@ use Rattle.safe_pdu.specs.declared.Kind.TheVariants.{ConnReq, ConnResp, DiscReq,
 use Rattle.safe_pdu.specs.declared.Leaving.{Leaving}
 use Rattle.capture.specs.declared.heard.Header.{Header}
 use Rattle.capture.specs.declared.window.Window.{Window}
-use Rattle.capture.specs.declared.window.Judged.{Judged}
-use Rattle.capture.specs.declared.window.Judged.TheVariants.{Differs, Late, Repeat, Stale}
+use Rattle.capture.specs.declared.window.NumberOrder.{NumberOrder}
+use Rattle.capture.specs.declared.window.NumberOrder.TheVariants.{Differs, Late, Repeat, Stale}
 use Rattle.capture.specs.declared.direction.TheConstants.{CHANNELS, DAMAGES}
 use Rattle.capture.specs.declared.direction.Confirmation.{Confirmation}
 use Rattle.capture.specs.declared.direction.Damage.{Damage}
@@ -62,7 +62,7 @@ open_direction =
     }
 
 -- How a number follows on its channel; nothing on a further channel.
-abbrev pub channel_judged : List Window → ℕ → ℕ → ℕ → Option Judged
+abbrev pub channel_judged : List Window → ℕ → ℕ → ℕ → Option NumberOrder
 channel_judged ws channel seq octets =
     if nat_lt channel CHANNELS then Some (judged (slice_index_or ws channel open_window) seq octets) else None
 
@@ -74,14 +74,14 @@ channel_noted ws place seq octets =
     else ws
 
 -- A PDU is new: its redundancy number came before on no channel, as far as that is known.
-abbrev pub is_new : Judged → Bool
+abbrev pub is_new : NumberOrder → Bool
 is_new (Repeat _) = false
 is_new (Differs _) = false
 is_new Stale = false
 is_new _ = true
 
 -- A PDU is the newest: it is new and not late.
-abbrev pub is_furthest : Judged → Bool
+abbrev pub is_furthest : NumberOrder → Bool
 is_furthest (Repeat _) = false
 is_furthest (Differs _) = false
 is_furthest Stale = false
@@ -89,7 +89,7 @@ is_furthest Late = false
 is_furthest _ = true
 
 -- How the sequence number of a new PDU follows.
-abbrev pub sequence_judged : Bool → Window → Header → Option Judged
+abbrev pub sequence_judged : Bool → Window → Header → Option NumberOrder
 sequence_judged true w h = Some (judged w h.sn h.fingerprint)
 sequence_judged false w h = None
 
@@ -234,7 +234,7 @@ abbrev pub opening_of : Header → Option SessionOpening
 opening_of h = opening_as h.kind (record { kind = h.kind; sn = h.sn; ts = h.ts })
 
 -- The number came before, with the same bytes.
-abbrev pub is_repeat : Judged → Bool
+abbrev pub is_repeat : NumberOrder → Bool
 is_repeat (Repeat _) = true
 is_repeat _ = false
 

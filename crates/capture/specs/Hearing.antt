@@ -12,8 +12,8 @@ use Rattle.safe_pdu.specs.Bodies.{detail_of, reason_of}
 use Rattle.safe_pdu.specs.Places.{safe_seen}
 use Rattle.capture.specs.declared.heard.Header.{Header}
 use Rattle.capture.specs.declared.heard.TheConstants.{FINGERPRINT_BASE}
-use Rattle.capture.specs.declared.heard.Heard.{Heard}
-use Rattle.capture.specs.declared.heard.Heard.TheVariants as heard
+use Rattle.capture.specs.declared.heard.DecodedDatagram.{DecodedDatagram}
+use Rattle.capture.specs.declared.heard.DecodedDatagram.TheVariants as heard
 
 -- Reason and detail of a DiscReq; nothing for other types.
 abbrev pub leaving_of : Kind → List ℕ → Option Leaving
@@ -44,15 +44,15 @@ header_of p fingerprint =
     }
 
 -- A redundancy PDU with this number around this part.
-abbrev pub heard_above : ℕ → List ℕ → Result Pdu SafeFault → Heard
+abbrev pub heard_above : ℕ → List ℕ → Result Pdu SafeFault → DecodedDatagram
 heard_above seq upper (Ok p) = heard.Pdu seq (header_of p (fingerprint_of upper))
 heard_above seq upper (Err fault) = heard.NoSafe seq fault
 
 -- The datagram in a redundancy PDU that was decoded, or its fault.
-abbrev pub heard_with : CodeRule → Result (ℕ × List ℕ) RedFault → Heard
+abbrev pub heard_with : CodeRule → Result (ℕ × List ℕ) RedFault → DecodedDatagram
 heard_with rule (Ok p) = heard_above p.0 p.1 (safe_seen rule p.1)
 heard_with rule (Err fault) = heard.NoRed fault
 
 -- A datagram, decoded with this rule of the safety code.
-abbrev pub heard_of : CodeRule → List ℕ → Heard
+abbrev pub heard_of : CodeRule → List ℕ → DecodedDatagram
 heard_of rule octets = heard_with rule (red_seen octets)

@@ -8,12 +8,12 @@ use Rattle.capture.specs.declared.window.TheConstants.{KEPT, LATE_MAX, PASSED_MA
 use Rattle.capture.specs.declared.words.TheConstants.{SECONDS_MAX}
 use Rattle.capture.specs.declared.connections.Connection.{Connection}
 use Rattle.capture.specs.declared.following.Totals.{Totals}
-use Rattle.capture.specs.declared.heard.Heard.{Heard}
+use Rattle.capture.specs.declared.heard.DecodedDatagram.{DecodedDatagram}
 use Rattle.capture.specs.declared.line.Record.{Record}
 use Rattle.capture.specs.declared.window.Seen.{Seen}
 use Rattle.capture.specs.declared.window.Window.{Window}
-use Rattle.capture.specs.declared.window.Judged.{Judged}
-use Rattle.capture.specs.declared.window.Judged.TheVariants.{First, Next, Ahead, Anew}
+use Rattle.capture.specs.declared.window.NumberOrder.{NumberOrder}
+use Rattle.capture.specs.declared.window.NumberOrder.TheVariants.{First, Next, Ahead, Anew}
 use Rattle.capture.specs.Numbers.{counted, judged, noted, open_window}
 use Rattle.capture.specs.Whole.{connections_after, damaged_after, gone_after, no_totals, totals_of}
 
@@ -26,7 +26,7 @@ LimitsAre =
     × (SECONDS_MAX ≡ 999999999999)
 
 -- How many new numbers a number reaches: the skipped ones and itself.
-abbrev pub reached_by : Judged → ℕ
+abbrev pub reached_by : NumberOrder → ℕ
 reached_by First = 1
 reached_by Next = 1
 reached_by (Ahead passed) = passed + 1
@@ -60,7 +60,7 @@ EachCounted = (ss : List Seen) → length ss < 2 ^ 64 → datagrams_in (all_note
 pub record Came : Type 0 where
   pub line : ℕ  -- the number of its line
   pub from : Record  -- its time and addresses
-  pub heard : Heard  -- decoded
+  pub heard : DecodedDatagram  -- decoded
 
 -- The state of a capture.
 pub record Kept : Type 0 where

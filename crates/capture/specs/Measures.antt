@@ -7,11 +7,11 @@ use Rattle.capture.specs.declared.heard.Header.{Header}
 use Rattle.capture.specs.declared.direction.Remarks.{Remarks}
 use Rattle.capture.specs.declared.distribution.Distribution.{Distribution}
 use Rattle.capture.specs.declared.distribution.TheConstants.{CLASSES}
-use Rattle.capture.specs.declared.measures.Measured.{Measured}
+use Rattle.capture.specs.declared.measures.Measurements.{Measurements}
 use Rattle.capture.specs.declared.measures.Measures.{Measures}
 use Rattle.capture.specs.declared.measures.TheConstants.{MOMENTS}
-use Rattle.capture.specs.declared.window.Judged.{Judged}
-use Rattle.capture.specs.declared.window.Judged.TheVariants.{Late, Repeat}
+use Rattle.capture.specs.declared.window.NumberOrder.{NumberOrder}
+use Rattle.capture.specs.declared.window.NumberOrder.TheVariants.{Late, Repeat}
 use Rattle.capture.specs.Following.{is_new}
 
 -- The class of a value: the number of its binary digits; the last class has all longer ones.
@@ -46,7 +46,7 @@ with_span d None to = d
 with_span d (Some from) to = with_value d (millis_between from to)
 
 -- An end of which nothing is measured.
-abbrev pub no_measured : Measured
+abbrev pub no_measured : Measurements
 no_measured =
     record {
       round_trips = no_values;
@@ -70,15 +70,15 @@ abbrev pub moment_if : ℕ → ℕ → ℕ → Option ℕ
 moment_if time stamp ts = if nat_lt 0 time && (stamp == ts) then Some time else None
 
 -- When the PDU with this sequence number and timestamp was recorded first, if it is kept.
-abbrev pub moment_of : Measured → ℕ → ℕ → Option ℕ
+abbrev pub moment_of : Measurements → ℕ → ℕ → Option ℕ
 moment_of m sn ts = moment_if (slice_index m.times (sn % MOMENTS)) (slice_index m.stamps (sn % MOMENTS)) ts
 
 -- The end at its opening: the PDUs before it are forgotten, the distributions stay.
-abbrev pub begun_anew : Measured → Measured
+abbrev pub begun_anew : Measurements → Measurements
 begun_anew m = record m { times = replicate MOMENTS 0; last = 0; confirmed = 0 }
 
 -- The PDU came on another channel before, and not on this one.
-abbrev pub is_copy_elsewhere : Judged → Option Judged → Bool
+abbrev pub is_copy_elsewhere : NumberOrder → Option NumberOrder → Bool
 is_copy_elsewhere (Repeat _) (Some (Repeat _)) = false
 is_copy_elsewhere (Repeat _) (Some _) = true
 is_copy_elsewhere _ _ = false
@@ -91,7 +91,7 @@ is_answer RetrData = false
 is_answer _ = true
 
 -- The number came late.
-abbrev pub is_late : Judged → Bool
+abbrev pub is_late : NumberOrder → Bool
 is_late Late = true
 is_late _ = false
 
@@ -100,12 +100,12 @@ abbrev pub answers_now : ℕ → Header → Remarks → Bool
 answers_now confirmed h r = is_answer h.kind && (is_some r.age && (not (is_late r.together) && not (h.cts == confirmed)))
 
 -- The round trips after a PDU, by when the PDU that it confirms was sent.
-abbrev pub round_trip_measured : Bool → Measured → Option ℕ → ℕ → Header → Measured
+abbrev pub round_trip_measured : Bool → Measurements → Option ℕ → ℕ → Header → Measurements
 round_trip_measured true m sent time h = record m { round_trips = with_span m.round_trips sent time; confirmed = h.cts }
 round_trip_measured false m sent time h = m
 
 -- The silence before a PDU; before the first one of a session there is none.
-abbrev pub silence_measured : Measured → ℕ → Measured
+abbrev pub silence_measured : Measurements → ℕ → Measurements
 silence_measured m time =
     if nat_lt 0 m.last then record m { silences = with_value m.silences (millis_between m.last time) } else m
 
@@ -115,25 +115,25 @@ with_unit units Data = min (units + 1) (2 ^ 16 - 1)
 with_unit units _ = units
 
 -- The units in the second of a PDU, with this one.
-abbrev pub units_in_second : Measured → ℕ → Kind → ℕ
+abbrev pub units_in_second : Measurements → ℕ → Kind → ℕ
 units_in_second m time kind = with_unit (if time / 1000000 == m.last / 1000000 then m.units else 0) kind
 
 -- The units after a PDU.
-abbrev pub unit_counted : Measured → ℕ → Kind → Measured
+abbrev pub unit_counted : Measurements → ℕ → Kind → Measurements
 unit_counted m time kind =
     record m { units = units_in_second m time kind; busiest = max m.busiest (units_in_second m time kind) }
 
 -- The end with a new PDU kept in the slot of its sequence number.
-abbrev pub moment_kept : Measured → Header → ℕ → Measured
+abbrev pub moment_kept : Measurements → Header → ℕ → Measurements
 moment_kept m h time =
     record m { stamps = slice_set m.stamps (h.sn % MOMENTS) h.ts; times = slice_set m.times (h.sn % MOMENTS) time; last = time }
 
 -- The end with the wait of a PDU.
-abbrev pub wait_measured : Measured → Option ℕ → Measured
+abbrev pub wait_measured : Measurements → Option ℕ → Measurements
 wait_measured m waits = record m { waits = with_some m.waits waits }
 
 -- The end after a new PDU.
-abbrev pub first_measured : Measured → Option ℕ → ℕ → Header → Remarks → Measured
+abbrev pub first_measured : Measurements → Option ℕ → ℕ → Header → Remarks → Measurements
 first_measured m sent time h r =
     moment_kept
     (unit_counted
@@ -141,23 +141,23 @@ first_measured m sent time h r =
     h time
 
 -- The end after a copy on another channel: the skew is the time since the first copy, if that is kept.
-abbrev pub copy_measured : Measured → ℕ → Header → Measured
+abbrev pub copy_measured : Measurements → ℕ → Header → Measurements
 copy_measured m time h = record m { skews = with_span m.skews (moment_of m h.sn h.ts) time }
 
 -- The end with the PDUs before its opening forgotten, if this is one.
-abbrev pub opened_anew : Bool → Measured → Measured
+abbrev pub opened_anew : Bool → Measurements → Measurements
 opened_anew true m = begun_anew m
 opened_anew false m = m
 
 -- The end after one more of its PDUs.
-abbrev pub pdu_measured : Measured → Option ℕ → ℕ → Header → Remarks → Measured
+abbrev pub pdu_measured : Measurements → Option ℕ → ℕ → Header → Remarks → Measurements
 pdu_measured m sent time h r =
     if is_new r.together then first_measured m sent time h r
     else if is_copy_elsewhere r.together r.channel then copy_measured m time h
     else m
 
 -- The end after one more of its PDUs, which may open a session.
-abbrev pub measured_after : Measured → Option ℕ → ℕ → Header → Remarks → Measured
+abbrev pub measured_after : Measurements → Option ℕ → ℕ → Header → Remarks → Measurements
 measured_after m sent time h r = pdu_measured (opened_anew r.opens m) sent time h r
 
 -- The measures after a PDU of the end with the lower identifier (`true`), or of the other end.

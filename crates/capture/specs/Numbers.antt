@@ -3,8 +3,8 @@ use Rattle.std.specs.Prelude.{ℕ, ◌+◌, ◌-◌, ◌%◌, ◌^◌, ◌==◌,
 use Rattle.capture.specs.declared.window.TheConstants.{KEPT, LATE_MAX, PASSED_MAX}
 use Rattle.capture.specs.declared.window.Seen.{Seen}
 use Rattle.capture.specs.declared.window.Window.{Window}
-use Rattle.capture.specs.declared.window.Judged.{Judged}
-use Rattle.capture.specs.declared.window.Judged.TheVariants.{First, Next, Ahead, Late, Repeat, Differs, Stale, Anew}
+use Rattle.capture.specs.declared.window.NumberOrder.{NumberOrder}
+use Rattle.capture.specs.declared.window.NumberOrder.TheVariants.{First, Next, Ahead, Late, Repeat, Differs, Stale, Anew}
 
 -- A sum of counts, limited to 2^64 - 1.
 abbrev pub counted : ℕ → ℕ → ℕ
@@ -57,7 +57,7 @@ ahead from to = (to + (2 ^ 32 - from)) % 2 ^ 32
 
 -- How a number that is not kept follows, by its distance from the newest. At most `PASSED_MAX` numbers may be skipped. A skipped number close before the
 -- newest is late, one further back is stale, and any other starts again.
-abbrev pub judged_ahead : Window → ℕ → Judged
+abbrev pub judged_ahead : Window → ℕ → NumberOrder
 judged_ahead w steps =
     if nat_le steps 1 then Next
     else if nat_le steps (PASSED_MAX + 1) then Ahead (steps - 1)
@@ -66,21 +66,21 @@ judged_ahead w steps =
     else Anew
 
 -- How a number that is not kept follows; the first one if there is no newest.
-abbrev pub judged_from : Window → Option ℕ → ℕ → Judged
+abbrev pub judged_from : Window → Option ℕ → ℕ → NumberOrder
 judged_from w None number = First
 judged_from w (Some newest) number = judged_ahead w (ahead newest number)
 
 -- A number that is kept: a repeat if the fingerprint is the same, otherwise it differs.
-abbrev pub judged_again : Seen → ℕ → Judged
+abbrev pub judged_again : Seen → ℕ → NumberOrder
 judged_again seen fingerprint = if seen.fingerprint == fingerprint then Repeat seen.line else Differs seen.line
 
 -- How a number follows, by the entry that is kept of it, if any.
-abbrev pub judged_by : Option Seen → Window → ℕ → ℕ → Judged
+abbrev pub judged_by : Option Seen → Window → ℕ → ℕ → NumberOrder
 judged_by (Some seen) w number fingerprint = judged_again seen fingerprint
 judged_by None w number fingerprint = judged_from w w.newest number
 
 -- How a number follows, by the fingerprint of its bytes.
-abbrev pub judged : Window → ℕ → ℕ → Judged
+abbrev pub judged : Window → ℕ → ℕ → NumberOrder
 judged w number fingerprint = judged_by (seen_of w number) w number fingerprint
 
 -- The window that starts again with the next number; its counts stay.
@@ -97,7 +97,7 @@ moved w steps seen =
     kept (record w { newest = Some seen.number; behind = min (w.behind + steps) LATE_MAX; heard = counted w.heard 1 }) seen
 
 -- The window after a number that followed in this way.
-abbrev pub noted_as : Judged → Window → Seen → Window
+abbrev pub noted_as : NumberOrder → Window → Seen → Window
 noted_as First w seen = moved (reopened w) 0 seen
 noted_as Next w seen = moved w 1 seen
 noted_as (Ahead passed) w seen = moved (record w { missing = counted w.missing passed }) (passed + 1) seen

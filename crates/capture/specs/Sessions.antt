@@ -11,8 +11,8 @@ use Rattle.capture.specs.declared.sessions.Session.{Session}
 use Rattle.capture.specs.declared.sessions.SessionTotals.{SessionTotals}
 use Rattle.capture.specs.declared.sessions.Sessions.{Sessions}
 use Rattle.capture.specs.declared.sessions.Side.{Side}
-use Rattle.capture.specs.declared.window.Judged.{Judged}
-use Rattle.capture.specs.declared.window.Judged.TheVariants.{Ahead, Late, Repeat}
+use Rattle.capture.specs.declared.window.NumberOrder.{NumberOrder}
+use Rattle.capture.specs.declared.window.NumberOrder.TheVariants.{Ahead, Late, Repeat}
 use Rattle.capture.specs.Following.{greatest_of, is_new, is_request}
 use Rattle.capture.specs.Numbers.{counted}
 
@@ -38,19 +38,19 @@ one_if true = 1
 one_if false = 0
 
 -- The numbers that are missing, after a number that followed in this way: a gap adds those it skips, and a late number takes itself away.
-abbrev pub missing_after : ℕ → Judged → ℕ
+abbrev pub missing_after : ℕ → NumberOrder → ℕ
 missing_after missing (Ahead passed) = counted missing passed
 missing_after missing Late = missing - 1
 missing_after missing _ = missing
 
 -- The numbers that are missing on the channel of a PDU, after it; a further channel has none.
-abbrev pub missing_on : List ℕ → ℕ → Option Judged → List ℕ
+abbrev pub missing_on : List ℕ → ℕ → Option NumberOrder → List ℕ
 missing_on counts route None = counts
 missing_on counts route (Some judged) =
     if nat_lt route CHANNELS then slice_set counts route (missing_after (slice_index counts route) judged) else counts
 
 -- The channel had this number before, with the same bytes.
-abbrev pub is_doubled : Option Judged → Bool
+abbrev pub is_doubled : Option NumberOrder → Bool
 is_doubled (Some (Repeat line)) = true
 is_doubled _ = false
 

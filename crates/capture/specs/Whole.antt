@@ -2,8 +2,8 @@
 use Rattle.std.specs.Prelude.{ℕ, ◌==◌, ◌&&◌, Bool, List, fold, length, slice_index_or, Option, Some, None, is_none, if◌then◌else◌}
 use Rattle.safe_pdu.specs.declared.SafeFault.{SafeFault}
 use Rattle.safe_pdu.specs.declared.SafeFault.TheVariants as fault
-use Rattle.capture.specs.declared.heard.Heard.{Heard}
-use Rattle.capture.specs.declared.heard.Heard.TheVariants as heard
+use Rattle.capture.specs.declared.heard.DecodedDatagram.{DecodedDatagram}
+use Rattle.capture.specs.declared.heard.DecodedDatagram.TheVariants as heard
 use Rattle.capture.specs.declared.line.Record.{Record}
 use Rattle.capture.specs.declared.connections.Connection.{Connection}
 use Rattle.capture.specs.declared.connections.TheConstants.{CONNECTIONS}
@@ -16,19 +16,19 @@ use Rattle.capture.specs.Numbers.{counted}
 use Rattle.capture.specs.Connecting.{damage_noted, forgotten_place, found, opened, step, step_remarks}
 
 -- What is remarkable in a datagram.
-abbrev pub remark_of : List Connection → ℕ → Record → Heard → Remark
+abbrev pub remark_of : List Connection → ℕ → Record → DecodedDatagram → Remark
 remark_of cs line r (heard.Pdu seq h) = remark.Pdu seq h (step_remarks cs line r seq h)
 remark_of cs line r (heard.NoSafe seq fault) = remark.NoSafe seq fault
 remark_of cs line r (heard.NoRed fault) = remark.NoRed fault
 
 -- The connections after a datagram; one that is not a PDU is counted on its channel.
-abbrev pub connections_after : List Connection → ℕ → Record → Heard → List Connection
+abbrev pub connections_after : List Connection → ℕ → Record → DecodedDatagram → List Connection
 connections_after cs line r (heard.Pdu seq h) = step cs line r seq h
 connections_after cs line r (heard.NoSafe seq fault) = damage_noted cs r (Some (record { number = seq; line = line }))
 connections_after cs line r (heard.NoRed fault) = damage_noted cs r None
 
 -- How many datagrams were damaged, after this one.
-abbrev pub damaged_after : ℕ → Heard → ℕ
+abbrev pub damaged_after : ℕ → DecodedDatagram → ℕ
 damaged_after damaged (heard.Pdu seq h) = damaged
 damaged_after damaged (heard.NoSafe seq fault) = counted damaged 1
 damaged_after damaged (heard.NoRed fault) = counted damaged 1
@@ -44,7 +44,7 @@ miscoded_with (Some miscoded) fault.BadType = None
 miscoded_with (Some miscoded) fault.Body = None
 
 -- How many datagrams have another safety code, after this one. One without redundancy PDU is not RaSTA's.
-abbrev pub miscoded_after : Option ℕ → Heard → Option ℕ
+abbrev pub miscoded_after : Option ℕ → DecodedDatagram → Option ℕ
 miscoded_after miscoded (heard.Pdu seq h) = None
 miscoded_after miscoded (heard.NoSafe seq why) = miscoded_with miscoded why
 miscoded_after miscoded (heard.NoRed why) = miscoded
@@ -58,7 +58,7 @@ abbrev pub forgotten_with : ℕ → List Connection → Record → Header → �
 forgotten_with forgotten cs r h = if forgets cs r h then counted forgotten 1 else forgotten
 
 -- How many connections were forgotten, after a datagram.
-abbrev pub forgotten_after : ℕ → List Connection → Record → Heard → ℕ
+abbrev pub forgotten_after : ℕ → List Connection → Record → DecodedDatagram → ℕ
 forgotten_after forgotten cs r (heard.Pdu seq h) = forgotten_with forgotten cs r h
 forgotten_after forgotten cs r (heard.NoSafe seq fault) = forgotten
 forgotten_after forgotten cs r (heard.NoRed fault) = forgotten
@@ -88,7 +88,7 @@ abbrev pub gone_with : Totals → List Connection → Record → Header → Tota
 gone_with gone cs r h = if forgets cs r h then counted_in gone (slice_index_or cs (forgotten_place cs) (opened 0 0)) else gone
 
 -- The sums over the forgotten connections, after a datagram.
-abbrev pub gone_after : Totals → List Connection → Record → Heard → Totals
+abbrev pub gone_after : Totals → List Connection → Record → DecodedDatagram → Totals
 gone_after gone cs r (heard.Pdu seq h) = gone_with gone cs r h
 gone_after gone cs r (heard.NoSafe seq fault) = gone
 gone_after gone cs r (heard.NoRed fault) = gone

@@ -15,7 +15,7 @@ ghost use Rattle.capture.specs.Following.{asked_by, damage_with, damages_after, 
 ghost use Rattle.capture.specs.Numbers.{ahead, reopened, slot};
 
 use crate::heard::Header;
-use crate::window::{Judged, KEPT, Window, judge, line_of, note, reopen};
+use crate::window::{KEPT, NumberOrder, Window, judge, line_of, note, reopen};
 use safe_pdu::{Kind, Leaving};
 
 /// How many channels of a connection are distinguished. RaSTA has two; four leave room.
@@ -130,11 +130,11 @@ pub struct Remarks {
     /// The number of its channel, from 0; `CHANNELS` for any further channel.
     pub route: usize,
     /// How its redundancy number follows on its channel; `None` on a further channel.
-    pub channel: Option<Judged>,
+    pub channel: Option<NumberOrder>,
     /// How its redundancy number follows on all channels together.
-    pub together: Judged,
+    pub together: NumberOrder,
     /// How its sequence number follows; `None` if the PDU came before, or that is unknown.
-    pub sequence: Option<Judged>,
+    pub sequence: Option<NumberOrder>,
     /// It carries a unit that was sent before (RetrData).
     pub resent: bool,
     /// The line of a damaged datagram with its redundancy number, if it is new. The receiver took that number as
@@ -485,11 +485,11 @@ fn copies(direction: &Direction, channel: usize, seq: u32, octets: u64) -> bool
 }
 
 /// Returns `true` for a repeat.
-fn repeats(judged: Judged) -> bool
+fn repeats(judged: NumberOrder) -> bool
     // Only `Repeat` counts; other bytes under the number do not (`is_repeat`).
     ensures { result ≡ is_repeat judged }
 {
-    matches!(judged, Judged::Repeat(_))
+    matches!(judged, NumberOrder::Repeat(_))
 }
 
 /// Returns `true` if another number is the newest of this channel.
@@ -550,7 +550,7 @@ fn note_channel(
     place: Place,
     seq: u32,
     octets: u64,
-) -> Option<Judged>
+) -> Option<NumberOrder>
     // The result is how the number follows on its channel; `None` on a further channel (`channel_judged`).
     ensures judged { result ≡ channel_judged channels.old place.channel seq octets }
     // Only the window of this channel changes; on a further channel none does.
@@ -564,29 +564,39 @@ fn note_channel(
 
 /// Returns `true` if a PDU has not come before on any channel. For a stale one that is unknown, and the result is
 /// `false`.
-pub fn is_first_copy(together: Judged) -> bool
+pub fn is_first_copy(together: NumberOrder) -> bool
     // The result is false exactly for a repeat, a differing and a stale number (`is_new`).
     ensures { result ≡ is_new together }
 {
     match together {
-        Judged::Repeat(_) | Judged::Differs(_) | Judged::Stale => false,
-        Judged::First | Judged::Next | Judged::Ahead(_) | Judged::Late | Judged::Anew => true,
+        NumberOrder::Repeat(_) | NumberOrder::Differs(_) | NumberOrder::Stale => false,
+        NumberOrder::First
+        | NumberOrder::Next
+        | NumberOrder::Ahead(_)
+        | NumberOrder::Late
+        | NumberOrder::Anew => true,
     }
 }
 
 /// Returns `true` if a PDU is the newest: new, and not late.
-fn is_newest(together: Judged) -> bool
+fn is_newest(together: NumberOrder) -> bool
     // The result is true exactly for the first, the next, one ahead, and one that starts again (`is_furthest`).
     ensures { result ≡ is_furthest together }
 {
     match together {
-        Judged::Repeat(_) | Judged::Differs(_) | Judged::Late | Judged::Stale => false,
-        Judged::First | Judged::Next | Judged::Ahead(_) | Judged::Anew => true,
+        NumberOrder::Repeat(_) | NumberOrder::Differs(_) | NumberOrder::Late | NumberOrder::Stale =>
+            false,
+        NumberOrder::First | NumberOrder::Next | NumberOrder::Ahead(_) | NumberOrder::Anew => true,
     }
 }
 
 /// Adds the sequence number of a new PDU to its window.
-fn note_sequence(window: &mut Window, is_new: bool, line: u64, header: &Header) -> Option<Judged>
+fn note_sequence(
+    window: &mut Window,
+    is_new: bool,
+    line: u64,
+    header: &Header,
+) -> Option<NumberOrder>
     // A new PDU is judged by its sequence number and fingerprint; for any other the result is `None`.
     ensures judged { result ≡ sequence_judged is_new window.old header.now }
     // Only a new PDU changes the `window`.

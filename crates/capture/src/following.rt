@@ -11,7 +11,7 @@ use crate::connections::{
     Connection, Connections, Entry, follow, has_no_room, note_damage, place_to_forget,
 };
 use crate::direction::{Damage, Remarks};
-use crate::heard::{Header, Heard};
+use crate::heard::{DecodedDatagram, Header};
 use crate::line::Record;
 use crate::window::Window;
 use red_layer::pdu::RedFault;
@@ -20,7 +20,7 @@ use std::alloc::{AllocError, Global};
 
 /// The state of a capture, in memory of a fixed size that is there from the beginning.
 #[derive(Drop)]
-pub struct Following {
+pub struct Follower {
     /// The connections; the last one is the one with the latest PDU.
     pub connections: Connections,
     /// How many datagrams came.
@@ -63,27 +63,27 @@ pub struct Totals {
     pub stale: u64,
 }
 
-impl Following {
+impl Follower {
     /// Returns the state before the first datagram, with the memory for all connections.
     ///
     /// # Errors
     ///
     /// `AllocError` if there is too little memory.
     pub fn new(alloc: Global) -> Result<Self, AllocError>
-        // A new `Following` has no connection.
+        // A new `Follower` has no connection.
         ensures connections { IfOk result (λ following. following.connections ≡ []) }
-        // No datagram is counted in a new `Following`.
+        // No datagram is counted in a new `Follower`.
         ensures datagrams { IfOk result (λ following. following.datagrams ≡ 0) }
-        // No damaged datagram is counted in a new `Following`.
+        // No damaged datagram is counted in a new `Follower`.
         ensures damaged { IfOk result (λ following. following.damaged ≡ 0) }
-        // No datagram has another safety code in a new `Following`, and none has the right one.
+        // No datagram has another safety code in a new `Follower`, and none has the right one.
         ensures miscoded { IfOk result (λ following. following.miscoded ≡ Some 0) }
-        // A new `Following` has no sums of forgotten connections.
+        // A new `Follower` has no sums of forgotten connections.
         ensures gone { IfOk result (λ following. following.gone ≡ no_totals) }
-        // A new `Following` has forgotten no connection.
+        // A new `Follower` has forgotten no connection.
         ensures forgotten { IfOk result (λ following. following.forgotten ≡ 0) }
     {
-        Ok(Following {
+        Ok(Follower {
             connections: Connections::new(alloc)?,
             datagrams: 0,
             damaged: 0,
@@ -94,7 +94,7 @@ impl Following {
     }
 
     /// Adds a datagram on this line to the capture and returns what is remarkable in it.
-    pub fn hear(&mut self, line: u64, record: &Record, heard: &Heard) -> Remark
+    pub fn hear(&mut self, line: u64, record: &Record, heard: &DecodedDatagram) -> Remark
         // For a PDU the remark has its number, its header and its remarks; for any other datagram, the fault of the
         // layer that rejects it.
         ensures remark { result ≡ remark_of self.old.connections line record.now heard.now }
@@ -117,7 +117,7 @@ impl Following {
     {
         self.datagrams = self.datagrams.saturating_add(1);
         match *heard {
-            Heard::Pdu(seq, header) => {
+            DecodedDatagram::Pdu(seq, header) => {
                 self.forgotten = count_forgotten(
                     self.forgotten,
                     &self.connections,
@@ -129,14 +129,14 @@ impl Following {
                 let remarks = follow(&mut self.connections, line, record, seq, &header);
                 Remark::Pdu(seq, header, remarks)
             }
-            Heard::NoSafe(seq, fault) => {
+            DecodedDatagram::NoSafe(seq, fault) => {
                 self.damaged = self.damaged.saturating_add(1);
                 self.miscoded = count_miscoded(self.miscoded, fault);
                 let damage = Damage { number: seq, line };
                 note_damage(&mut self.connections, record, Some(damage));
                 Remark::NoSafe(seq, fault)
             }
-            Heard::NoRed(fault) => {
+            DecodedDatagram::NoRed(fault) => {
                 self.damaged = self.damaged.saturating_add(1);
                 note_damage(&mut self.connections, record, None);
                 Remark::NoRed(fault)

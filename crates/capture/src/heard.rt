@@ -14,7 +14,7 @@ const FINGERPRINT_BASE: u64 = 11_400_714_819_323_198_485;
 
 /// A decoded datagram, or the fault of the layer that rejects it.
 #[derive(Clone, Copy, Debug, PartialEq, Eq)]
-pub enum Heard {
+pub enum DecodedDatagram {
     /// It is not a redundancy PDU.
     NoRed(RedFault),
     /// It is a redundancy PDU with this number, whose part is not a safety PDU.
@@ -47,25 +47,25 @@ pub struct Header {
 }
 
 /// Decodes a datagram of any bytes, with this rule of the safety code.
-pub fn hear(octets: &[u8], rule: &CodeRule) -> Heard
+pub fn hear(octets: &[u8], rule: &CodeRule) -> DecodedDatagram
     // The result is that of both decoders: the redundancy number and the header fields, with reason and detail of a
     // DiscReq. Otherwise it is the first fault of the layer that rejects it (`heard_of`).
     ensures { result ≡ heard_of rule.now octets.now }
 {
     match red_layer::pdu::decode(octets) {
         Ok(pdu) => hear_upper(pdu.seq, pdu.upper, rule),
-        Err(fault) => Heard::NoRed(fault),
+        Err(fault) => DecodedDatagram::NoRed(fault),
     }
 }
 
 /// Decodes the part of a redundancy PDU.
-fn hear_upper(seq: u32, upper: &[u8], rule: &CodeRule) -> Heard
+fn hear_upper(seq: u32, upper: &[u8], rule: &CodeRule) -> DecodedDatagram
     // The result is the header of the safety PDU in `upper`, or its fault, each with the redundancy number `seq`.
     ensures { result ≡ heard_above seq upper.now (safe_seen rule.now upper.now) }
 {
     match safe_pdu::decode(upper, rule) {
-        Ok(pdu) => Heard::Pdu(seq, read_header(&pdu, upper)),
-        Err(fault) => Heard::NoSafe(seq, fault),
+        Ok(pdu) => DecodedDatagram::Pdu(seq, read_header(&pdu, upper)),
+        Err(fault) => DecodedDatagram::NoSafe(seq, fault),
     }
 }
 

@@ -38,17 +38,17 @@ pub use file::{
     BLOCK_MAX, BlockContent, FileFault, FileForm, FilePart, Framed, INTERFACES, Recording,
     SKIPPED_AT_ONCE,
 };
-pub use following::{Following, Remark, Totals, sum_up};
+pub use following::{Follower, Remark, Totals, sum_up};
 pub use frame::{Found, Link, Passed, find_datagram};
-pub use heard::{Header, Heard, hear, spell};
+pub use heard::{DecodedDatagram, Header, hear, spell};
 pub use instants::{Instant, Span, is_between, read_instant};
 pub use interfaces::{Interface, TimeOffset};
 pub use law::sums_law;
 pub use line::{Address, Buffer, Host, LineFault, PAYLOAD_ROOM, Record, read_line};
-pub use measures::{MOMENTS, Measured, Measures};
+pub use measures::{MOMENTS, Measurements, Measures};
 pub use ports::{PortRange, Ports, RANGES, is_followed, read_ports};
 pub use sessions::{
     Asking, Parting, SESSIONS, Session, SessionTotals, Sessions, Side, add_up_sessions, alone,
     is_unanswered, lost_alone, lost_everywhere,
 };
-pub use window::{Judged, KEPT, LATE_MAX, PASSED_MAX, Seen, Window, judge, note};
+pub use window::{KEPT, LATE_MAX, NumberOrder, PASSED_MAX, Seen, Window, judge, note};

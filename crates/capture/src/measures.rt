@@ -8,7 +8,7 @@ ghost use Rattle.capture.specs.Measures.{answers_now, begun_anew, copy_measured,
 use crate::direction::{Remarks, is_first_copy};
 use crate::distribution::Distribution;
 use crate::heard::Header;
-use crate::window::Judged;
+use crate::window::NumberOrder;
 use safe_pdu::Kind;
 
 /// How many PDUs of an end are kept with their times, by the remainders of their sequence numbers.
@@ -18,14 +18,14 @@ pub const MOMENTS: usize = 8;
 #[derive(Clone, Copy, Debug, PartialEq, Eq)]
 pub struct Measures {
     /// What is measured of the end with the lower identifier.
-    pub low: Measured,
+    pub low: Measurements,
     /// What is measured of the other end.
-    pub high: Measured,
+    pub high: Measurements,
 }
 
 /// What is measured of one end, in 512 bytes.
 #[derive(Clone, Copy, Debug, PartialEq, Eq)]
-pub struct Measured {
+pub struct Measurements {
     /// The times from a PDU of the other end to the first PDU of this end that confirms its timestamp.
     pub round_trips: Distribution,
     /// The times from the first copy of a PDU to its copy on another channel.
@@ -62,11 +62,11 @@ impl Measures {
 }
 
 /// Returns the measures of an end without PDUs.
-fn new_measured() -> Measured
+fn new_measured() -> Measurements
     // The distributions have no values, and no PDU is kept.
     ensures { result ≡ no_measured }
 {
-    Measured {
+    Measurements {
         round_trips: Distribution::new(),
         skews: Distribution::new(),
         silences: Distribution::new(),
@@ -101,7 +101,7 @@ pub(crate) fn note_measures(
 }
 
 /// Returns when a PDU was recorded first, if it is kept.
-fn moment(measured: &Measured, sn: u32, ts: u32) -> Option<u64>
+fn moment(measured: &Measurements, sn: u32, ts: u32) -> Option<u64>
     // The slot of the sequence number must have this timestamp and a time (`moment_of`).
     ensures { result ≡ moment_of measured.now sn ts }
 {
@@ -115,7 +115,7 @@ fn moment(measured: &Measured, sn: u32, ts: u32) -> Option<u64>
 
 /// Adds a PDU to the measures of its end.
 fn measure(
-    measured: &mut Measured,
+    measured: &mut Measurements,
     sent: Option<u64>,
     time: u64,
     header: &Header,
@@ -136,7 +136,7 @@ fn measure(
 }
 
 /// Forgets the PDUs of the session before.
-fn begin(measured: &mut Measured)
+fn begin(measured: &mut Measurements)
     // No PDU is kept with a time, and none is the last or confirmed; the distributions stay (`begun_anew`).
     ensures { measured.new ≡ begun_anew measured.old }
 {
@@ -146,20 +146,20 @@ fn begin(measured: &mut Measured)
 }
 
 /// Returns `true` for a copy that is the first one on its channel.
-fn copies_elsewhere(together: Judged, channel: Option<Judged>) -> bool
+fn copies_elsewhere(together: NumberOrder, channel: Option<NumberOrder>) -> bool
     // The PDU repeats one of all channels, and not one of its own channel; a further channel has none
     // (`is_copy_elsewhere`).
     ensures { result ≡ is_copy_elsewhere together channel }
 {
     match (together, channel) {
-        (Judged::Repeat(_), Some(Judged::Repeat(_))) => false,
-        (Judged::Repeat(_), Some(_)) => true,
+        (NumberOrder::Repeat(_), Some(NumberOrder::Repeat(_))) => false,
+        (NumberOrder::Repeat(_), Some(_)) => true,
         _ => false,
     }
 }
 
 /// Measures the skew of a copy.
-fn measure_copy(measured: &mut Measured, time: u64, header: &Header)
+fn measure_copy(measured: &mut Measurements, time: u64, header: &Header)
     // The time since the first copy is a skew, if that copy is kept (`copy_measured`).
     ensures { measured.new ≡ copy_measured measured.old time header.now }
 {
@@ -169,7 +169,7 @@ fn measure_copy(measured: &mut Measured, time: u64, header: &Header)
 
 /// Measures a PDU that is new.
 fn measure_first(
-    measured: &mut Measured,
+    measured: &mut Measurements,
     sent: Option<u64>,
     time: u64,
     header: &Header,
@@ -200,7 +200,7 @@ fn answers(confirmed: u32, header: &Header, remarks: &Remarks) -> bool
 {
     is_answer_kind(header.kind)
         && remarks.age.is_some()
-        && !matches!(remarks.together, Judged::Late)
+        && !matches!(remarks.together, NumberOrder::Late)
         && header.cts != confirmed
 }
 
@@ -245,7 +245,7 @@ fn milliseconds(from: u64, to: u64) -> u32
 }
 
 /// Counts a PDU in the units of its second.
-fn count_unit(measured: &mut Measured, time: u64, kind: Kind)
+fn count_unit(measured: &mut Measurements, time: u64, kind: Kind)
     // In another second than that of the last PDU the units begin at 0. Only Data counts, and the most of a second
     // is kept (`unit_counted`).
     ensures { measured.new ≡ unit_counted measured.old time kind }
@@ -255,7 +255,7 @@ fn count_unit(measured: &mut Measured, time: u64, kind: Kind)
 }
 
 /// Returns the units in the second of a PDU, with this one.
-fn units(measured: &Measured, time: u64, kind: Kind) -> u16
+fn units(measured: &Measurements, time: u64, kind: Kind) -> u16
     // The units before count only if the last PDU was in the same second (`units_in_second`).
     ensures { result ≡ units_in_second measured.now time kind }
 {
@@ -271,7 +271,7 @@ fn units(measured: &Measured, time: u64, kind: Kind) -> u16
 }
 
 /// Keeps a new PDU with its time.
-fn keep_moment(measured: &mut Measured, header: &Header, time: u64)
+fn keep_moment(measured: &mut Measurements, header: &Header, time: u64)
     // The slot of the sequence number has the timestamp and the `time`, which is also that of the last PDU
     // (`moment_kept`).
     ensures { measured.new ≡ moment_kept measured.old header.now time }

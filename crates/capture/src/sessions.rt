@@ -7,7 +7,7 @@ ghost use Rattle.std.specs.Prelude.{◌≡◌, ◌<◌};
 ghost use Rattle.capture.specs.Sessions.{alone_in, alone_of, begun, ended_in, is_asked_by_other, is_awaited_in, is_doubled, is_other_silent, is_timeout, is_unanswered_by, is_unanswered_in, lost_in_session, missing_after, missing_on, no_session_totals, one_if, open_session, open_sessions, open_side, parted, parting_if, parting_in, session_after, session_counted, session_sums, sessions_after, sessions_begun, sessions_opened, side_after, with_alone};
 
 use crate::direction::{CHANNELS, Remarks, greatest, is_first_copy};
-use crate::window::Judged;
+use crate::window::NumberOrder;
 use safe_pdu::{Kind, Leaving};
 
 /// How many sessions that have ended are kept of a connection. The current one is kept beside them.
@@ -332,7 +332,7 @@ fn part_in(time: u64, follows: bool, leaving: Option<Leaving>) -> Option<Parting
 }
 
 /// Counts missing numbers on the channel of a PDU.
-fn miss_on(counts: &mut [u64; CHANNELS], route: usize, channel: Option<Judged>)
+fn miss_on(counts: &mut [u64; CHANNELS], route: usize, channel: Option<NumberOrder>)
     // Only the count of this channel changes; that of a further channel is not kept (`missing_on`).
     ensures { counts.new ≡ missing_on counts.old route channel }
 {
@@ -344,28 +344,28 @@ fn miss_on(counts: &mut [u64; CHANNELS], route: usize, channel: Option<Judged>)
 }
 
 /// Returns how many numbers are missing after a number.
-fn miss(missing: u64, judged: Judged) -> u64
+fn miss(missing: u64, judged: NumberOrder) -> u64
     // A gap adds the numbers that it skips, a late number takes one away, any other changes nothing.
     ensures { result ≡ missing_after missing judged }
 {
     match judged {
-        Judged::Ahead(passed) => missing.saturating_add(passed as u64),
-        Judged::Late => missing.saturating_sub(1),
-        Judged::First
-        | Judged::Next
-        | Judged::Repeat(_)
-        | Judged::Differs(_)
-        | Judged::Stale
-        | Judged::Anew => missing,
+        NumberOrder::Ahead(passed) => missing.saturating_add(passed as u64),
+        NumberOrder::Late => missing.saturating_sub(1),
+        NumberOrder::First
+        | NumberOrder::Next
+        | NumberOrder::Repeat(_)
+        | NumberOrder::Differs(_)
+        | NumberOrder::Stale
+        | NumberOrder::Anew => missing,
     }
 }
 
 /// Returns `true` if a PDU came on its channel before.
-fn doubles(channel: Option<Judged>) -> bool
+fn doubles(channel: Option<NumberOrder>) -> bool
     // Only a repeat on the channel counts, not a copy on another one.
     ensures { result ≡ is_doubled channel }
 {
-    matches!(channel, Some(Judged::Repeat(_)))
+    matches!(channel, Some(NumberOrder::Repeat(_)))
 }
 
 /// Returns how many datagrams one channel lost in a session whose PDU came on another channel.

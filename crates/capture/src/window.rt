@@ -49,7 +49,7 @@ pub struct Window {
 
 /// How a number follows the ones seen before it.
 #[derive(Clone, Copy, Debug, PartialEq, Eq)]
-pub enum Judged {
+pub enum NumberOrder {
     /// It is the first one.
     First,
     /// It is the next one.
@@ -89,7 +89,7 @@ impl Window {
 }
 
 /// Returns how a number follows the ones seen, by the number and the fingerprint of its bytes.
-pub fn judge(window: &Window, number: u32, fingerprint: u64) -> Judged
+pub fn judge(window: &Window, number: u32, fingerprint: u64) -> NumberOrder
     // A kept number is a repeat if its fingerprint is the same, otherwise it differs. Any other is judged by its
     // distance from the newest. Up to 2^31 steps back it is stale, unless it is one of the 31 before the newest that
     // was skipped.
@@ -136,49 +136,49 @@ fn keep_number(seen: Option<Seen>, number: u32) -> Option<Seen>
 }
 
 /// Compares a number that came again with its first arrival.
-fn judge_again(seen: Seen, fingerprint: u64) -> Judged
+fn judge_again(seen: Seen, fingerprint: u64) -> NumberOrder
     // The same fingerprint is a repeat of that line; another one differs from that line.
     ensures { result ≡ judged_again seen fingerprint }
 {
     if seen.fingerprint == fingerprint {
-        Judged::Repeat(seen.line)
+        NumberOrder::Repeat(seen.line)
     } else {
-        Judged::Differs(seen.line)
+        NumberOrder::Differs(seen.line)
     }
 }
 
 /// Judges a number that is not kept.
-fn judge_new(window: &Window, number: u32) -> Judged
+fn judge_new(window: &Window, number: u32) -> NumberOrder
     // Without a newest number it is the first; otherwise its distance from the newest counts.
     ensures { result ≡ judged_from window.now window.now.newest number }
 {
     match window.newest {
-        None => Judged::First,
+        None => NumberOrder::First,
         Some(newest) => judge_ahead(window, number.wrapping_sub(newest)),
     }
 }
 
 /// Judges a number that is not kept by its distance ahead of the newest on the ring of 2^32.
-fn judge_ahead(window: &Window, steps: u32) -> Judged
+fn judge_ahead(window: &Window, steps: u32) -> NumberOrder
     // At most 1 is next, at most `PASSED_MAX` + 1 a gap; close before the newest it is late, if any number is
     // missing. At 2^31 and beyond it is stale; otherwise the window starts again.
     ensures { result ≡ judged_ahead window.now steps }
 {
     if steps <= 1 {
-        Judged::Next
+        NumberOrder::Next
     } else if steps <= PASSED_MAX + 1 {
-        Judged::Ahead(steps - 1)
+        NumberOrder::Ahead(steps - 1)
     } else if 0xffff_ffff - steps < window.behind && window.missing > 0 {
-        Judged::Late
+        NumberOrder::Late
     } else if steps >= 0x8000_0000 {
-        Judged::Stale
+        NumberOrder::Stale
     } else {
-        Judged::Anew
+        NumberOrder::Anew
     }
 }
 
 /// Adds a number to the window and returns how it followed.
-pub fn note(window: &mut Window, number: u32, line: u64, fingerprint: u64) -> Judged
+pub fn note(window: &mut Window, number: u32, line: u64, fingerprint: u64) -> NumberOrder
     // The result is how the number followed the window before the call.
     ensures judged { result ≡ judged window.old number fingerprint }
     // The window is changed by that: a gap adds missing numbers, a late one takes one of them away. A repeat, a
@@ -192,20 +192,20 @@ pub fn note(window: &mut Window, number: u32, line: u64, fingerprint: u64) -> Ju
         fingerprint,
     };
     match judged {
-        Judged::Repeat(_) => window.repeats = window.repeats.saturating_add(1),
-        Judged::Differs(_) => window.differing = window.differing.saturating_add(1),
-        Judged::Stale => window.stale = window.stale.saturating_add(1),
-        Judged::Late => {
+        NumberOrder::Repeat(_) => window.repeats = window.repeats.saturating_add(1),
+        NumberOrder::Differs(_) => window.differing = window.differing.saturating_add(1),
+        NumberOrder::Stale => window.stale = window.stale.saturating_add(1),
+        NumberOrder::Late => {
             window.missing = window.missing.saturating_sub(1);
             window.late = window.late.saturating_add(1);
             keep(window, seen);
         }
-        Judged::Ahead(passed) => {
+        NumberOrder::Ahead(passed) => {
             window.missing = window.missing.saturating_add(passed as u64);
             move_on(window, passed.saturating_add(1), seen);
         }
-        Judged::Next => move_on(window, 1, seen),
-        Judged::First | Judged::Anew => {
+        NumberOrder::Next => move_on(window, 1, seen),
+        NumberOrder::First | NumberOrder::Anew => {
             reopen(window);
             move_on(window, 0, seen);
         }

@@ -4,7 +4,7 @@ use Rattle.std.specs.Fmt.{decimal}
 use Rattle.std.specs.List.{flat_map}
 use Rattle.capture.specs.declared.line.Address.{Address}
 use Rattle.capture_text.specs.Pieces.{address_text}
-use Rattle.pdu_text.specs.Lines.{joined}
+use Rattle.pdu_text.specs.Lines.{join_pieces}
 use Rattle.capture_beside.specs.declared.counts.Counts.{Counts}
 use Rattle.capture_beside.specs.declared.delays.Spread.{Spread}
 use Rattle.capture_beside.specs.declared.sites.TheConstants.{EVEN}
@@ -18,7 +18,7 @@ use Rattle.capture_beside.specs.Text.{spread_in}
 -- what was read of a recording
 unfoldable pub counts_json : Counts → List ℕ
 counts_json c =
-    joined
+    join_pieces
     (codes "{\"datagrams\":" ∷ decimal c.datagrams ∷ codes ",\"not_rasta\":" ∷ decimal c.strange ∷ codes ",\"unreadable\":" ∷ decimal c.unreadable
     ∷ codes ",\"frames\":" ∷ decimal c.frames ∷ codes "}" ∷ [])
 
@@ -28,7 +28,7 @@ read_json here there = codes "{\"here\":" ++ counts_json here ++ codes ",\"there
 
 -- how many datagrams were left out
 unfoldable pub left_out_json : ℕ → List ℕ
-left_out_json left_out = joined (codes ",\"left_out\":" ∷ decimal left_out ∷ codes ",\"ways\":[" ∷ [])
+left_out_json left_out = join_pieces (codes ",\"left_out\":" ∷ decimal left_out ∷ codes ",\"ways\":[" ∷ [])
 
 -- an address with a text before it
 unfoldable pub end_json : List ℕ → Address → List ℕ
@@ -47,13 +47,13 @@ origin_json (Some There) = codes "\",\"from\":\"there\""
 -- the pairs, the datagrams of one recording alone, and the reordered pairs
 unfoldable pub pairs_json : Sums → List ℕ
 pairs_json s =
-    joined
+    join_pieces
     (codes ",\"both\":" ∷ decimal s.both ∷ codes ",\"only_here\":" ∷ decimal s.here.alone ∷ codes ",\"only_there\":" ∷ decimal s.there.alone
     ∷ codes ",\"reordered\":" ∷ decimal s.reordered ∷ [])
 
 -- the datagrams before the other recording begins and after it ends
 unfoldable pub outside_json : Sums → List ℕ
-outside_json s = joined (codes ",\"outside_here\":" ∷ decimal s.here.outside ∷ codes ",\"outside_there\":" ∷ decimal s.there.outside ∷ [])
+outside_json s = join_pieces (codes ",\"outside_here\":" ∷ decimal s.here.outside ∷ codes ",\"outside_there\":" ∷ decimal s.there.outside ∷ [])
 
 -- a difference of times with its sign
 abbrev pub signed_json : ℕ → List ℕ
@@ -62,7 +62,7 @@ signed_json difference = if nat_lt difference EVEN then codes "-" ++ decimal (EV
 -- how much longer half, 99 of 100, and the slowest took
 unfoldable pub later_json : Spread → List ℕ
 later_json s =
-    joined
+    join_pieces
     (codes ",\"median\":" ∷ decimal s.median ∷ codes ",\"most\":" ∷ decimal s.most ∷ codes ",\"greatest\":" ∷ decimal s.greatest ∷ codes "}" ∷ [])
 
 -- how long the datagrams took

@@ -3,7 +3,7 @@ use Rattle.std.specs.Prelude.{ℕ, ◌-◌, nat_lt, List, [], ◌∷◌, ◌++�
 use Rattle.std.specs.Fmt.{decimal}
 use Rattle.std.specs.List.{flat_map}
 use Rattle.capture_text.specs.Pieces.{address_text, duration_text}
-use Rattle.pdu_text.specs.Lines.{joined}
+use Rattle.pdu_text.specs.Lines.{join_pieces}
 use Rattle.capture_beside.specs.declared.counts.Counts.{Counts}
 use Rattle.capture_beside.specs.declared.delays.Spread.{Spread}
 use Rattle.capture_beside.specs.declared.sites.TheConstants.{EVEN}
@@ -23,13 +23,13 @@ origin_text (Some There) = codes " from there"
 -- the pairs, the datagrams of one recording alone, and the reordered pairs
 unfoldable pub pairs_text : Sums → List ℕ
 pairs_text s =
-    joined
+    join_pieces
     (codes " both " ∷ decimal s.both ∷ codes " only here " ∷ decimal s.here.alone ∷ codes " only there " ∷ decimal s.there.alone ∷ codes " reordered "
     ∷ decimal s.reordered ∷ [])
 
 -- the datagrams before the other recording begins and after it ends
 unfoldable pub outside_text : Sums → List ℕ
-outside_text s = joined (codes " outside here " ∷ decimal s.here.outside ∷ codes " there " ∷ decimal s.there.outside ∷ [])
+outside_text s = join_pieces (codes " outside here " ∷ decimal s.here.outside ∷ codes " there " ∷ decimal s.there.outside ∷ [])
 
 -- a difference of times with its sign
 abbrev pub signed_text : ℕ → List ℕ
@@ -76,7 +76,7 @@ ways_text ways = some_text ways ways
 -- the line of a recording
 unfoldable pub counts_text : List ℕ → Counts → List ℕ
 counts_text name c =
-    joined
+    join_pieces
     (codes "sum " ∷ name ∷ codes ": datagrams " ∷ decimal c.datagrams ∷ codes " not RaSTA " ∷ decimal c.strange ∷ codes " unreadable "
     ∷ decimal c.unreadable ∷ codes " frames " ∷ decimal c.frames ∷ codes "\n" ∷ [])
 

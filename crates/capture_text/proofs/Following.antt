@@ -6,7 +6,7 @@ use Rattle.std.specs.Io.BufRead.{DropsThrough, drop_through, take_through}
 use Rattle.std.specs.Io.KnownBytes.{Appends}
 use Rattle.std.proofs.BufReadLemmas.{take_through-nil}
 use Rattle.std.proofs.KnownBytes.{Appends-trans, Appends-nil}
-use Rattle.capture_text.specs.declared.course.Asked.{Asked}
+use Rattle.capture_text.specs.declared.course.FollowOptions.{FollowOptions}
 use Rattle.capture_text.specs.Lines.{cut, is_long, lines_from, lines_of}
 use Rattle.capture.specs.declared.line.LineFault.TheVariants.{Long}
 use Rattle.capture.specs.Numbers.{counted}
@@ -53,22 +53,22 @@ by_length f x line = ⊎_elim
     (λ short. ap (λ l. cond (is_long l) x (f l)) (short_front line short))
     (cases_Bool (is_long line))
 
-after_alike : (a : Asked) (r : Read) (line : List ℕ) → with_read a r (cut line) ≡ with_read a r line
+after_alike : (a : FollowOptions) (r : Read) (line : List ℕ) → with_read a r (cut line) ≡ with_read a r line
 after_alike a r line = by_length (λ l. with_text a r (without_end l)) (with_long r) line
 
-printed_alike : (a : Asked) (r : Read) (line : List ℕ) → line_printed a r (cut line) ≡ line_printed a r line
+printed_alike : (a : FollowOptions) (r : Read) (line : List ℕ) → line_printed a r (cut line) ≡ line_printed a r line
 printed_alike a r line =
     ap (λ l. l ++ sums_printed a (with_read a r (cut line))) (by_length (λ l. text_printed a r (without_end l)) [] line)
     ∙ ap (λ s. read_printed a r line ++ sums_printed a s) (after_alike a r line)
 
-told_alike : (a : Asked) (r : Read) (line : List ℕ) → line_told a r (cut line) ≡ line_told a r line
+told_alike : (a : FollowOptions) (r : Read) (line : List ℕ) → line_told a r (cut line) ≡ line_told a r line
 told_alike a r line = by_length (λ l. text_told a r (without_end l)) (fault_text (counted r.lines 1) Long) line
 
-read_alike : (a : Asked) (r : Read) (line : List ℕ) → with_line a r (cut line) ≡ with_line a r line
+read_alike : (a : FollowOptions) (r : Read) (line : List ℕ) → with_line a r (cut line) ≡ with_line a r line
 read_alike a r line = ap (with_sums a) (after_alike a r line)
 
 -- If the bytes are known: the remaining lines lead from the state, text and faults so far to those of all lines.
-abbrev pub Leads : Asked → Option (List ℕ) → Option (List ℕ) → Read → Read → Option (List ℕ) → Option (List ℕ) → Option (List ℕ)
+abbrev pub Leads : FollowOptions → Option (List ℕ) → Option (List ℕ) → Read → Read → Option (List ℕ) → Option (List ℕ) → Option (List ℕ)
     → Option (List ℕ) → Type 0
 Leads a None known r0 r w0 w e0 e = Unit {0}
 Leads a (Some all) known r0 r w0 w e0 e =
@@ -76,12 +76,12 @@ Leads a (Some all) known r0 r w0 w e0 e =
     × ((end : Option (List ℕ)) → Appends w end (lines_printed a r (lines_of rest)) → Appends w0 end (lines_printed a r0 (lines_of all)))
     × ((end : Option (List ℕ)) → Appends e end (lines_told a r (lines_of rest)) → Appends e0 end (lines_told a r0 (lines_of all)))
 
-pub leads_start : (a : Asked) (known : Option (List ℕ)) (r : Read) (w e : Option (List ℕ)) → Leads a known known r r w w e e
+pub leads_start : (a : FollowOptions) (known : Option (List ℕ)) (r : Read) (w e : Option (List ℕ)) → Leads a known known r r w w e e
 leads_start a None r w e = tt
 leads_start a (Some all) r w e = (all, refl, refl, (λ end h. h), (λ end h. h))
 
 -- A flush does not change this.
-pub leads_flush : (a : Asked) (known0 known : Option (List ℕ)) (r0 r : Read) (w0 w w' e0 e : Option (List ℕ))
+pub leads_flush : (a : FollowOptions) (known0 known : Option (List ℕ)) (r0 r : Read) (w0 w w' e0 e : Option (List ℕ))
     → Leads a known0 known r0 r w0 w e0 e → Appends w w' [] → Leads a known0 known r0 r w0 w' e0 e
 leads_flush a None known r0 r w0 w w' e0 e h flushed = tt
 leads_flush a (Some all) known r0 r w0 w w' e0 e (rest, left, read, printed, told) flushed =
@@ -92,7 +92,7 @@ some_left [] line kept some = absurd (omega (arith, ap length kept, some))
 some_left (x ∷ xs) line kept some = (x, xs, refl)
 
 -- One more line.
-line_more : (a : Asked) (x : ℕ) (xs line : List ℕ) (r : Read) → line ≡ cut (take_through 10 (x ∷ xs))
+line_more : (a : FollowOptions) (x : ℕ) (xs line : List ℕ) (r : Read) → line ≡ cut (take_through 10 (x ∷ xs))
     → (with_lines a r (lines_of (x ∷ xs)) ≡ with_lines a (with_line a r line) (lines_of (drop_through 10 (x ∷ xs))))
     × (lines_printed a r (lines_of (x ∷ xs)) ≡ line_printed a r line ++ lines_printed a (with_line a r line) (lines_of (drop_through 10 (x ∷ xs))))
     × (lines_told a r (lines_of (x ∷ xs)) ≡ line_told a r line ++ lines_told a (with_line a r line) (lines_of (drop_through 10 (x ∷ xs))))
@@ -109,7 +109,7 @@ line_more a x xs line r kept =
           ∙ ap (λ l. l ++ lines_told a (with_line a r line) lines) told,
     )
 
-pub leads_line : (a : Asked) (known0 known known' : Option (List ℕ)) (r0 r r' : Read) (w0 w w' e0 e e' : Option (List ℕ)) (line : List ℕ)
+pub leads_line : (a : FollowOptions) (known0 known known' : Option (List ℕ)) (r0 r r' : Read) (w0 w w' e0 e e' : Option (List ℕ)) (line : List ℕ)
     → Leads a known0 known r0 r w0 w e0 e → IfSome known (λ octets. line ≡ cut (take_through 10 octets)) → DropsThrough known known' 10
     → 0 < length line → r' ≡ with_line a r line → Appends w w' (line_printed a r line) → Appends e e' (line_told a r line)
     → Leads a known0 known' r0 r' w0 w' e0 e'
@@ -142,7 +142,7 @@ none_left rest line kept none =
     let same = ap length kept in
     take_through-nil 10 rest (omega (arith, size, same, none))
 
-pub leads_end : (a : Asked) (known0 known : Option (List ℕ)) (r0 r : Read) (w0 w e0 e : Option (List ℕ)) (line : List ℕ)
+pub leads_end : (a : FollowOptions) (known0 known : Option (List ℕ)) (r0 r : Read) (w0 w e0 e : Option (List ℕ)) (line : List ℕ)
     → Leads a known0 known r0 r w0 w e0 e → IfSome known (λ octets. line ≡ cut (take_through 10 octets)) → length line ≡ 0
     → IfSome known0 (λ all. (r ≡ with_lines a r0 (lines_of all)) × Appends w0 w (lines_printed a r0 (lines_of all))
     × Appends e0 e (lines_told a r0 (lines_of all)))

@@ -4,7 +4,7 @@ use Rattle.std.specs.Fmt.{decimal}
 use Rattle.std.specs.List.{flat_map}
 use Rattle.capture.specs.declared.connections.Connection.{Connection}
 use Rattle.capture.specs.Numbers.{counted}
-use Rattle.pdu_text.specs.Lines.{joined}
+use Rattle.pdu_text.specs.Lines.{join_pieces}
 use Rattle.capture_text.specs.Choosing.{chosen_by, delays_of, network_of}
 use Rattle.capture_text.specs.Distributions.{measured_text}
 use Rattle.capture_text.specs.declared.advice.TheConstants.{ENOUGH}
@@ -14,7 +14,7 @@ use Rattle.capture_text.specs.declared.choosing.Network.{Network}
 
 -- The begin of a line about a connection.
 unfoldable pub named_text : ℕ → ℕ → List ℕ
-named_text low high = joined (codes "choose " ∷ decimal low ∷ codes "-" ∷ decimal high ∷ [])
+named_text low high = join_pieces (codes "choose " ∷ decimal low ∷ codes "-" ∷ decimal high ∷ [])
 
 -- A remark on too few PDUs.
 abbrev pub few_word : ℕ → List ℕ
@@ -24,7 +24,7 @@ few_word pdus = if nat_lt pdus ENOUGH then codes ", too few to rely on: record s
 unfoldable pub from_text : ℕ → ℕ → Network → List ℕ
 from_text low high n =
     named_text low high
-    ++ joined
+    ++ join_pieces
     (codes " from " ∷ decimal n.pdus ∷ codes " PDUs" ∷ few_word n.pdus ∷ codes "; p " ∷ decimal n.lost
     ∷ codes " of 1000000: the most that a channel lost\n" ∷ [])
 
@@ -36,7 +36,7 @@ difference_reason (Some skew) = codes "the greatest skew"
 -- The difference.
 unfoldable pub difference_text : ℕ → ℕ → Network → Delays → List ℕ
 difference_text low high n x =
-    named_text low high ++ joined (codes " D " ∷ decimal x.difference ∷ codes " ms: " ∷ difference_reason n.skew ∷ codes "\n" ∷ [])
+    named_text low high ++ join_pieces (codes " D " ∷ decimal x.difference ∷ codes " ms: " ∷ difference_reason n.skew ∷ codes "\n" ∷ [])
 
 -- Where the shortest time one way comes from.
 abbrev pub delay_reason : Option ℕ → List ℕ
@@ -46,7 +46,7 @@ delay_reason (Some shortest) = codes "half of the shortest round trips of both e
 -- The longest time one way.
 unfoldable pub delay_text : ℕ → ℕ → Network → Delays → List ℕ
 delay_text low high n x =
-    named_text low high ++ joined (codes " d " ∷ decimal x.delay ∷ codes " ms: D and " ∷ delay_reason n.shortest ∷ codes "\n" ∷ [])
+    named_text low high ++ join_pieces (codes " d " ∷ decimal x.delay ∷ codes " ms: D and " ∷ delay_reason n.shortest ∷ codes "\n" ∷ [])
 
 -- The units that come within two times one way, rounded up.
 abbrev pub within_delay : ℕ → ℕ → ℕ
@@ -59,7 +59,7 @@ units_word within = if nat_lt 7 within then codes ": more than the window holds,
 -- The units of a second, how many of them come within two times one way, and a remark.
 unfoldable pub load_text : ℕ → ℕ → List ℕ → List ℕ
 load_text units within remark =
-    joined
+    join_pieces
     (codes " busiest second " ∷ decimal units ∷ codes " units one way, " ∷ decimal within ∷ codes " within 2 d" ∷ remark ∷ codes "\n" ∷ [])
 
 -- The units of the busiest second.
@@ -74,12 +74,12 @@ none_text low high =
 
 -- The values of the window, mwa and q.
 unfoldable pub three_text : ChosenSettings → List ℕ
-three_text s = joined (codes " n_sendmax " ∷ decimal s.window ∷ codes " mwa " ∷ decimal s.mwa ∷ codes " q " ∷ decimal s.q ∷ [])
+three_text s = join_pieces (codes " n_sendmax " ∷ decimal s.window ∷ codes " mwa " ∷ decimal s.mwa ∷ codes " q " ∷ decimal s.q ∷ [])
 
 -- The rule that these three obey.
 unfoldable pub rule_text : ChosenSettings → List ℕ
 rule_text s =
-    joined
+    join_pieces
     (codes ": " ∷ decimal s.window ∷ codes " - 1 + " ∷ decimal s.window ∷ codes "/" ∷ decimal s.mwa ∷ codes " is at most " ∷ decimal s.q ∷ codes "\n"
     ∷ [])
 
@@ -91,17 +91,17 @@ window_text low high s = named_text low high ++ three_text s ++ rule_text s
 unfoldable pub t_seq_text : ℕ → ℕ → Delays → ChosenSettings → List ℕ
 t_seq_text low high x s =
     named_text low high
-    ++ joined
+    ++ join_pieces
     (codes " T_seq " ∷ decimal s.t_seq ∷ codes " ms: above D, " ∷ decimal x.difference ∷ codes " ms, by a quarter and at least 5 ms\n" ∷ [])
 
 -- T_h.
 unfoldable pub t_h_text : ℕ → ℕ → ChosenSettings → List ℕ
-t_h_text low high s = named_text low high ++ joined (codes " T_h " ∷ decimal s.t_h ∷ codes " ms: twice T_seq, and at least 100 ms\n" ∷ [])
+t_h_text low high s = named_text low high ++ join_pieces (codes " T_h " ∷ decimal s.t_h ∷ codes " ms: twice T_seq, and at least 100 ms\n" ∷ [])
 
 -- T_max.
 unfoldable pub t_max_text : ℕ → ℕ → ChosenSettings → List ℕ
 t_max_text low high s =
-    named_text low high ++ joined (codes " T_max " ∷ decimal s.t_max ∷ codes " ms: 4 T_h + 2 T_seq + 6 d, for two repairs in a row\n" ∷ [])
+    named_text low high ++ join_pieces (codes " T_max " ∷ decimal s.t_max ∷ codes " ms: 4 T_h + 2 T_seq + 6 d, for two repairs in a row\n" ∷ [])
 
 -- All settings.
 unfoldable pub settings_text : ℕ → ℕ → Delays → ChosenSettings → List ℕ

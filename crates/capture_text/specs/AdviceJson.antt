@@ -4,7 +4,7 @@ use Rattle.std.specs.Fmt.{decimal}
 use Rattle.std.specs.List.{flat_map}
 use Rattle.capture.specs.declared.connections.Connection.{Connection}
 use Rattle.capture.specs.declared.measures.Measures.{Measures}
-use Rattle.pdu_text.specs.Lines.{joined}
+use Rattle.pdu_text.specs.Lines.{join_pieces}
 use Rattle.capture_text.specs.Choosing.{chosen_by, delays_of, network_of}
 use Rattle.capture_text.specs.Distributions.{measured_json}
 use Rattle.capture_text.specs.declared.choosing.ChosenSettings.{ChosenSettings}
@@ -14,7 +14,7 @@ use Rattle.capture_text.specs.declared.choosing.Network.{Network}
 -- The identifiers of a connection, and the begin of its distributions.
 unfoldable pub name_json : ℕ → ℕ → List ℕ
 name_json low high =
-    joined (codes "{\"low\":" ∷ decimal low ∷ codes ",\"high\":" ∷ decimal high ∷ codes ",\"times\":[" ∷ [])
+    join_pieces (codes "{\"low\":" ∷ decimal low ∷ codes ",\"high\":" ∷ decimal high ∷ codes ",\"times\":[" ∷ [])
 
 -- The distributions of both ends.
 unfoldable pub sides_json : Measures → List ℕ
@@ -23,7 +23,7 @@ sides_json m = measured_json m.low ++ codes "," ++ measured_json m.high ++ codes
 -- The PDUs, the losses in millionths and the units.
 unfoldable pub units_json : Network → List ℕ
 units_json n =
-    joined
+    join_pieces
     (codes ",\"PDUs\":" ∷ decimal n.pdus ∷ codes ",\"lost\":" ∷ decimal n.lost ∷ codes ",\"units\":" ∷ decimal n.units ∷ [])
 
 -- Whether a time was seen.
@@ -33,7 +33,7 @@ truth_word (Some time) = codes "true"
 
 -- Which times were seen.
 unfoldable pub seen_json : List ℕ → List ℕ → List ℕ
-seen_json round_trips skews = joined (codes ",\"round_trips_seen\":" ∷ round_trips ∷ codes ",\"skews_seen\":" ∷ skews ∷ [])
+seen_json round_trips skews = join_pieces (codes ",\"round_trips_seen\":" ∷ round_trips ∷ codes ",\"skews_seen\":" ∷ skews ∷ [])
 
 -- What was seen of a network.
 unfoldable pub network_json : Network → List ℕ
@@ -41,19 +41,19 @@ network_json n = units_json n ++ seen_json (truth_word n.shortest) (truth_word n
 
 -- The times by which settings are chosen.
 unfoldable pub delays_json : Delays → List ℕ
-delays_json x = joined (codes ",\"difference\":" ∷ decimal x.difference ∷ codes ",\"delay\":" ∷ decimal x.delay ∷ [])
+delays_json x = join_pieces (codes ",\"difference\":" ∷ decimal x.difference ∷ codes ",\"delay\":" ∷ decimal x.delay ∷ [])
 
 -- The window, mwa and q.
 unfoldable pub window_json : ChosenSettings → List ℕ
 window_json s =
-    joined
+    join_pieces
     (codes ",\"settings\":{\"n_sendmax\":" ∷ decimal s.window ∷ codes ",\"mwa\":" ∷ decimal s.mwa ∷ codes ",\"q\":" ∷ decimal s.q ∷ [])
 
 -- The settings, and the end of their object and of that of the connection.
 unfoldable pub settings_json : ChosenSettings → List ℕ
 settings_json s =
     window_json s
-    ++ joined
+    ++ join_pieces
     (codes ",\"t_seq\":" ∷ decimal s.t_seq ∷ codes ",\"t_h\":" ∷ decimal s.t_h ∷ codes ",\"t_max\":" ∷ decimal s.t_max ∷ codes "}}" ∷ [])
 
 -- The settings, or null, at the end of a connection's object.

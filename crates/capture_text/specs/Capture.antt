@@ -14,9 +14,9 @@ use Rattle.capture.specs.declared.line.LineFault.TheVariants.{Long}
 use Rattle.capture.specs.declared.line.Record.{Record}
 use Rattle.capture.specs.Lines.{line_of}
 use Rattle.capture.specs.Numbers.{counted}
-use Rattle.capture_text.specs.declared.course.Asked.{Asked}
-use Rattle.capture_text.specs.declared.course.Course.{Course}
-use Rattle.capture_text.specs.declared.course.Unfollowed.{Unfollowed}
+use Rattle.capture_text.specs.declared.course.FollowOptions.{FollowOptions}
+use Rattle.capture_text.specs.declared.course.CaptureReading.{CaptureReading}
+use Rattle.capture_text.specs.declared.course.SkipCause.{SkipCause}
 use Rattle.capture_text.specs.declared.frames.FrameFault.{FrameFault}
 use Rattle.capture_text.specs.declared.frames.Seen.{Seen}
 use Rattle.capture_text.specs.declared.passed.PassedOver.{PassedOver}
@@ -42,7 +42,7 @@ pub record Read : Type 0 where
   pub due : Option ℕ  -- when sums are due
 
 -- The state that a course has.
-abbrev pub read_by : Course → Read
+abbrev pub read_by : CaptureReading → Read
 read_by c =
     record {
       lines = c.lines;
@@ -60,11 +60,11 @@ read_by c =
     }
 
 -- The remark on the text of the next line.
-abbrev pub seen_in : Asked → Read → List ℕ → Result (Record × Remark) Unfollowed
+abbrev pub seen_in : FollowOptions → Read → List ℕ → Result (Record × Remark) SkipCause
 seen_in a r text = found_in r.connections (counted r.lines 1) (heard_line a r.first (line_of text))
 
 -- The state after the text of a line.
-abbrev pub with_text : Asked → Read → List ℕ → Read
+abbrev pub with_text : FollowOptions → Read → List ℕ → Read
 with_text a r text =
     record {
       lines = counted r.lines 1;
@@ -86,60 +86,60 @@ abbrev pub with_long : Read → Read
 with_long r = record r { lines = counted r.lines 1; unreadable = counted r.unreadable 1 }
 
 -- The state after a line that was read.
-abbrev pub with_read : Asked → Read → List ℕ → Read
+abbrev pub with_read : FollowOptions → Read → List ℕ → Read
 with_read a r line = if is_long line then with_long r else with_text a r (without_end line)
 
 -- The state after the sums, if they were due.
-abbrev pub with_sums : Asked → Read → Read
+abbrev pub with_sums : FollowOptions → Read → Read
 with_sums a r = record r { due = due_next a.every r.due r.first r.latest }
 
 -- The sums, if they are due.
-abbrev pub sums_printed : Asked → Read → List ℕ
+abbrev pub sums_printed : FollowOptions → Read → List ℕ
 sums_printed a r =
     due_text (is_due r.due r.latest)
     (course_text a r.first r.gone r.connections (counts_of r.datagrams r.damaged r.forgotten r.unreadable r.lines r.passed))
 
 -- The state after a line and the sums.
-abbrev pub with_line : Asked → Read → List ℕ → Read
+abbrev pub with_line : FollowOptions → Read → List ℕ → Read
 with_line a r line = with_sums a (with_read a r line)
 
 -- What is printed of the text of a line.
-abbrev pub text_printed : Asked → Read → List ℕ → List ℕ
+abbrev pub text_printed : FollowOptions → Read → List ℕ → List ℕ
 text_printed a r text = found_text a r.first (counted r.lines 1) (payload_in (line_of text)) (seen_in a r text)
 
 -- The fault that is reported of the text of a line.
-abbrev pub text_told : Asked → Read → List ℕ → List ℕ
+abbrev pub text_told : FollowOptions → Read → List ℕ → List ℕ
 text_told a r text = fault_lines (counted r.lines 1) (fault_in (seen_in a r text))
 
 -- What is printed of a line that was read.
-abbrev pub read_printed : Asked → Read → List ℕ → List ℕ
+abbrev pub read_printed : FollowOptions → Read → List ℕ → List ℕ
 read_printed a r line = if is_long line then [] else text_printed a r (without_end line)
 
 -- What is printed of a line, and the sums after it.
-abbrev pub line_printed : Asked → Read → List ℕ → List ℕ
+abbrev pub line_printed : FollowOptions → Read → List ℕ → List ℕ
 line_printed a r line = read_printed a r line ++ sums_printed a (with_read a r line)
 
 -- The fault that is reported of a line.
-abbrev pub line_told : Asked → Read → List ℕ → List ℕ
+abbrev pub line_told : FollowOptions → Read → List ℕ → List ℕ
 line_told a r line = if is_long line then fault_text (counted r.lines 1) Long else text_told a r (without_end line)
 
 -- The state after all lines.
-abbrev pub with_lines : Asked → Read → List (List ℕ) → Read
+abbrev pub with_lines : FollowOptions → Read → List (List ℕ) → Read
 with_lines a r [] = r
 with_lines a r (line ∷ lines) = with_lines a (with_line a r line) lines
 
 -- What is printed of all lines.
-abbrev pub lines_printed : Asked → Read → List (List ℕ) → List ℕ
+abbrev pub lines_printed : FollowOptions → Read → List (List ℕ) → List ℕ
 lines_printed a r [] = []
 lines_printed a r (line ∷ lines) = line_printed a r line ++ lines_printed a (with_line a r line) lines
 
 -- The faults that are reported of all lines.
-abbrev pub lines_told : Asked → Read → List (List ℕ) → List ℕ
+abbrev pub lines_told : FollowOptions → Read → List (List ℕ) → List ℕ
 lines_told a r [] = []
 lines_told a r (line ∷ lines) = line_told a r line ++ lines_told a (with_line a r line) lines
 
 -- The state after a frame with this datagram.
-abbrev pub with_seen : Asked → Read → List ℕ → Seen → Read
+abbrev pub with_seen : FollowOptions → Read → List ℕ → Seen → Read
 with_seen a r octets seen =
     record {
       lines = counted r.lines 1;
@@ -157,11 +157,11 @@ with_seen a r octets seen =
     }
 
 -- The state after a frame.
-abbrev pub with_frame : Asked → Read → Option Link → ℕ → List ℕ → Read
+abbrev pub with_frame : FollowOptions → Read → Option Link → ℕ → List ℕ → Read
 with_frame a r link time octets = with_seen a r octets (frame_seen a r.first link time octets)
 
 -- What is printed of a frame.
-abbrev pub frame_printed : Asked → Read → Option Link → ℕ → List ℕ → List ℕ
+abbrev pub frame_printed : FollowOptions → Read → Option Link → ℕ → List ℕ → List ℕ
 frame_printed a r link time octets =
     seen_text a r.first r.connections (counted r.lines 1) octets (frame_seen a r.first link time octets)
 
@@ -171,7 +171,7 @@ frame_fault_text number None = []
 frame_fault_text number (Some fault) = frame_text number fault
 
 -- The fault that is reported of a frame.
-abbrev pub frame_told : Asked → Read → Option Link → ℕ → List ℕ → List ℕ
+abbrev pub frame_told : FollowOptions → Read → Option Link → ℕ → List ℕ → List ℕ
 frame_told a r link time octets = frame_fault_text (counted r.lines 1) (fault_seen (frame_seen a r.first link time octets))
 
 -- The state after a recording that cannot go on: what was read stays, and one more is unreadable.
@@ -200,25 +200,25 @@ abbrev pub end_told : FilePart → ℕ → Read → List ℕ
 end_told p size r = if is_whole_at p size then [] else recording_text r.lines (codes "it ends within a block")
 
 -- What is printed of a frame, and the sums after it.
-abbrev pub shown_printed : Asked → Read → Option Link → ℕ → List ℕ → List ℕ
+abbrev pub shown_printed : FollowOptions → Read → Option Link → ℕ → List ℕ → List ℕ
 shown_printed a r link time octets = frame_printed a r link time octets ++ sums_printed a (with_frame a r link time octets)
 
 -- The state after a block: after its frame and the sums, or after its fault.
-abbrev pub with_block : Asked → Read → List ℕ → Result BlockContent FileFault → Read
+abbrev pub with_block : FollowOptions → Read → List ℕ → Result BlockContent FileFault → Read
 with_block a r octets (Ok (content.Frame f)) = with_sums a (with_frame a r f.link f.time (payload_at f.start f.end octets))
 with_block a r octets (Ok content.Nothing) = r
 with_block a r octets (Ok content.Text) = r
 with_block a r octets (Err fault) = broken_off r
 
 -- What is printed of a block: of its frame, and the sums if they are due.
-abbrev pub block_printed : Asked → Read → List ℕ → Result BlockContent FileFault → List ℕ
+abbrev pub block_printed : FollowOptions → Read → List ℕ → Result BlockContent FileFault → List ℕ
 block_printed a r octets (Ok (content.Frame f)) = shown_printed a r f.link f.time (payload_at f.start f.end octets)
 block_printed a r octets (Ok content.Nothing) = []
 block_printed a r octets (Ok content.Text) = []
 block_printed a r octets (Err fault) = []
 
 -- The fault that is reported of a block: that of its frame, or its own.
-abbrev pub block_told : Asked → Read → List ℕ → Result BlockContent FileFault → List ℕ
+abbrev pub block_told : FollowOptions → Read → List ℕ → Result BlockContent FileFault → List ℕ
 block_told a r octets (Ok (content.Frame f)) = frame_told a r f.link f.time (payload_at f.start f.end octets)
 block_told a r octets (Ok content.Nothing) = []
 block_told a r octets (Ok content.Text) = []

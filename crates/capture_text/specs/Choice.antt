@@ -3,8 +3,8 @@ use Rattle.std.specs.Prelude.{ℕ, ◌*◌, ◌||◌, Bool, true, false, List, c
 use Rattle.capture.specs.declared.direction.Remarks.{Remarks}
 use Rattle.capture.specs.declared.following.Remark.{Remark}
 use Rattle.capture.specs.declared.following.Remark.TheVariants.{Pdu, NoRed, NoSafe}
-use Rattle.capture.specs.declared.window.Judged.{Judged}
-use Rattle.capture.specs.declared.window.Judged.TheVariants as judged
+use Rattle.capture.specs.declared.window.NumberOrder.{NumberOrder}
+use Rattle.capture.specs.declared.window.NumberOrder.TheVariants as judged
 use Rattle.capture_text.specs.declared.choice.Remarkable.{Remarkable}
 use Rattle.capture_text.specs.declared.choice.Remarkable.TheVariants.{Opens, Repeat, Differs, Ahead, Late, Stale, Anew, Resent, Age, Waits, Leaving, Fault}
 
@@ -24,7 +24,7 @@ word_text Leaving = codes "reason"
 word_text Fault = codes "fault"
 
 -- The number followed as the word says.
-abbrev pub is_named : Remarkable → Judged → Bool
+abbrev pub is_named : Remarkable → NumberOrder → Bool
 is_named Repeat (judged.Repeat _) = true
 is_named Differs (judged.Differs _) = true
 is_named Ahead (judged.Ahead _) = true
@@ -34,7 +34,7 @@ is_named Anew judged.Anew = true
 is_named _ _ = false
 
 -- The number was judged and followed as the word says.
-abbrev pub is_maybe_named : Remarkable → Option Judged → Bool
+abbrev pub is_maybe_named : Remarkable → Option NumberOrder → Bool
 is_maybe_named word None = false
 is_maybe_named word (Some judged) = is_named word judged
 

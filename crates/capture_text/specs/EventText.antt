@@ -13,10 +13,10 @@ use Rattle.capture.specs.declared.following.Remark.TheVariants.{Pdu, NoRed, NoSa
 use Rattle.capture.specs.declared.heard.Header.{Header}
 use Rattle.capture.specs.declared.line.Address.{Address}
 use Rattle.capture.specs.declared.line.Record.{Record}
-use Rattle.capture.specs.declared.window.Judged.{Judged}
-use Rattle.capture.specs.declared.window.Judged.TheVariants as judged
+use Rattle.capture.specs.declared.window.NumberOrder.{NumberOrder}
+use Rattle.capture.specs.declared.window.NumberOrder.TheVariants as judged
 use Rattle.capture.specs.Following.{is_new, is_request}
-use Rattle.pdu_text.specs.Lines.{joined}
+use Rattle.pdu_text.specs.Lines.{join_pieces}
 use Rattle.capture_text.specs.Choice.{is_half}
 use Rattle.capture_text.specs.Pieces.{address_text, since_text}
 use Rattle.capture_text.specs.TableJson.{truth_json}
@@ -34,13 +34,13 @@ opening_event true kind = Some (if is_request kind then Opens else Up)
 opening_event false kind = None
 
 -- The event of a number: numbers before it are missing, on every channel or on its own one, or it was missing itself.
-abbrev pub number_event : Bool → Judged → Option Event
+abbrev pub number_event : Bool → NumberOrder → Option Event
 number_event everywhere (judged.Ahead passed) = Some (Lost passed everywhere)
 number_event everywhere judged.Late = Some (Late everywhere)
 number_event everywhere _ = None
 
 -- The event of a number on its own channel, if it was judged there.
-abbrev pub channel_event : Option Judged → Option Event
+abbrev pub channel_event : Option NumberOrder → Option Event
 channel_event None = None
 channel_event (Some judged) = number_event false judged
 
@@ -75,19 +75,19 @@ event_name (Left leaving) = codes "left"
 -- Numbers that are missing, and where.
 unfoldable pub lost_json : ℕ → Bool → List ℕ
 lost_json missing everywhere =
-    joined (codes ",\"on_every_channel\":" ∷ truth_json everywhere ∷ codes ",\"missing\":" ∷ decimal missing ∷ [])
+    join_pieces (codes ",\"on_every_channel\":" ∷ truth_json everywhere ∷ codes ",\"missing\":" ∷ decimal missing ∷ [])
 
 -- Where a number was missing that came late.
 unfoldable pub late_json : Bool → List ℕ
-late_json everywhere = joined (codes ",\"on_every_channel\":" ∷ truth_json everywhere ∷ [])
+late_json everywhere = join_pieces (codes ",\"on_every_channel\":" ∷ truth_json everywhere ∷ [])
 
 -- A wait in milliseconds.
 unfoldable pub waits_json : ℕ → List ℕ
-waits_json waits = joined (codes ",\"waits\":" ∷ decimal waits ∷ [])
+waits_json waits = join_pieces (codes ",\"waits\":" ∷ decimal waits ∷ [])
 
 -- Reason and detail.
 unfoldable pub left_json : Leaving → List ℕ
-left_json l = joined (codes ",\"reason\":" ∷ decimal l.reason ∷ codes ",\"detail\":" ∷ decimal l.detail ∷ [])
+left_json l = join_pieces (codes ",\"reason\":" ∷ decimal l.reason ∷ codes ",\"detail\":" ∷ decimal l.detail ∷ [])
 
 -- What an event has besides its place.
 abbrev pub event_json : Event → List ℕ
@@ -107,19 +107,19 @@ quote_of form.Epoch = []
 
 -- A time.
 unfoldable pub when_json : Clock → ℕ → List ℕ
-when_json clock time = joined (quote_of clock.form ∷ since_text clock time ∷ quote_of clock.form ∷ [])
+when_json clock time = join_pieces (quote_of clock.form ∷ since_text clock time ∷ quote_of clock.form ∷ [])
 
 -- The name of an event, at the start of its object.
 unfoldable pub named_json : List ℕ → List ℕ
-named_json name = joined (codes "{\"event\":\"" ∷ name ∷ codes "\",\"time\":" ∷ [])
+named_json name = join_pieces (codes "{\"event\":\"" ∷ name ∷ codes "\",\"time\":" ∷ [])
 
 -- The line or frame of an event.
 unfoldable pub line_json : ℕ → List ℕ
-line_json line = joined (codes ",\"line\":" ∷ decimal line ∷ [])
+line_json line = join_pieces (codes ",\"line\":" ∷ decimal line ∷ [])
 
 -- Name, time and line of an event.
 unfoldable pub head_json : List ℕ → Clock → ℕ → ℕ → List ℕ
-head_json name clock time line = joined (named_json name ∷ when_json clock time ∷ line_json line ∷ [])
+head_json name clock time line = join_pieces (named_json name ∷ when_json clock time ∷ line_json line ∷ [])
 
 -- The number of a channel, from 1; a further channel has none.
 abbrev pub channel_number : ℕ → List ℕ
@@ -130,13 +130,13 @@ channel_number place =
 -- The ends and the channel of a PDU.
 unfoldable pub way_json : ℕ → ℕ → ℕ → List ℕ
 way_json sender receiver route =
-    joined
+    join_pieces
     (codes ",\"from\":" ∷ decimal sender ∷ codes ",\"to\":" ∷ decimal receiver ∷ codes ",\"channel\":" ∷ channel_number route ∷ [])
 
 -- The line of an event.
 unfoldable pub event_line : Spot → Event → List ℕ
 event_line s e =
-    joined
+    join_pieces
     (head_json (event_name e) s.clock s.time s.line ∷ way_json s.sender s.receiver s.route ∷ event_json e ∷ codes "}\n" ∷ [])
 
 -- The line of an event, if there is one.
@@ -152,13 +152,13 @@ spot_of clock line r h m =
 -- The lines about the order of PDUs: the opening, then the number on its channel and on all.
 unfoldable pub order_lines : Spot → Kind → Remarks → List ℕ
 order_lines s kind m =
-    joined
+    join_pieces
     (maybe_line s (opening_event m.opens kind) ∷ maybe_line s (channel_event m.channel) ∷ maybe_line s (number_event true m.together) ∷ [])
 
 -- The other lines of a PDU: a unit that is sent again, a long wait, a leaving.
 unfoldable pub other_lines : Spot → ℕ → Remarks → List ℕ
 other_lines s t_max m =
-    joined (maybe_line s (resent_event m) ∷ maybe_line s (wait_event t_max m.waits) ∷ maybe_line s (left_event m) ∷ [])
+    join_pieces (maybe_line s (resent_event m) ∷ maybe_line s (wait_event t_max m.waits) ∷ maybe_line s (left_event m) ∷ [])
 
 -- The lines of a PDU.
 unfoldable pub pdu_lines : Spot → ℕ → Kind → Remarks → List ℕ
@@ -166,16 +166,16 @@ pdu_lines s t_max kind m = order_lines s kind m ++ other_lines s t_max m
 
 -- An address in quotes, after what names it.
 unfoldable pub quoted_json : List ℕ → Address → List ℕ
-quoted_json front address = joined (front ∷ address_text address ∷ codes "\"" ∷ [])
+quoted_json front address = join_pieces (front ∷ address_text address ∷ codes "\"" ∷ [])
 
 -- The layer that rejects a datagram, with the number and the name of its fault.
 unfoldable pub fault_json : List ℕ → ℕ → List ℕ → List ℕ
 fault_json layer number name =
-    joined (codes ",\"layer\":\"" ∷ layer ∷ codes "\",\"fault\":" ∷ decimal number ∷ codes ",\"name\":\"" ∷ name ∷ codes "\"}\n" ∷ [])
+    join_pieces (codes ",\"layer\":\"" ∷ layer ∷ codes "\",\"fault\":" ∷ decimal number ∷ codes ",\"name\":\"" ∷ name ∷ codes "\"}\n" ∷ [])
 
 -- The line of a datagram that is not a PDU, up to its fault.
 unfoldable pub damaged_json : Clock → ℕ → Record → List ℕ
-damaged_json clock line r = joined
+damaged_json clock line r = join_pieces
     (head_json (codes "damaged") clock r.time line ∷ quoted_json (codes ",\"source\":\"") r.source
     ∷ quoted_json (codes ",\"destination\":\"") r.destination ∷ [])
 

@@ -6,7 +6,7 @@ use Rattle.capture.specs.declared.file.FileFault.TheVariants as file
 use Rattle.capture.specs.declared.line.LineFault.{LineFault}
 use Rattle.capture.specs.declared.line.LineFault.TheVariants.{Fields, Time, Source, Destination, Long, Payload}
 use Rattle.capture.specs.Numbers.{counted}
-use Rattle.pdu_text.specs.Lines.{joined}
+use Rattle.pdu_text.specs.Lines.{join_pieces}
 use Rattle.capture_text.specs.declared.running.ForeignForm.{ForeignForm}
 use Rattle.capture_text.specs.declared.running.ForeignForm.TheVariants.{Gzip, Zstd, Snoop, ModifiedPcap}
 use Rattle.capture_text.specs.declared.frames.FrameFault.{FrameFault}
@@ -23,7 +23,7 @@ fault_word Payload = codes "payload"
 
 -- The line for an unreadable line, with its number.
 unfoldable pub fault_text : ℕ → LineFault → List ℕ
-fault_text number fault = joined (codes "line " ∷ decimal number ∷ codes ": unreadable: " ∷ fault_word fault ∷ codes "\n" ∷ [])
+fault_text number fault = join_pieces (codes "line " ∷ decimal number ∷ codes ": unreadable: " ∷ fault_word fault ∷ codes "\n" ∷ [])
 
 -- The word of a frame's fault.
 abbrev pub frame_word : FrameFault → List ℕ
@@ -35,7 +35,7 @@ frame_word frame.Length = codes "length"
 -- The line for an unreadable frame, with its number.
 unfoldable pub frame_text : ℕ → FrameFault → List ℕ
 frame_text number fault =
-    joined (codes "frame " ∷ decimal number ∷ codes ": unreadable: " ∷ frame_word fault ∷ codes "\n" ∷ [])
+    join_pieces (codes "frame " ∷ decimal number ∷ codes ": unreadable: " ∷ frame_word fault ∷ codes "\n" ∷ [])
 
 -- The words of a recording's fault.
 abbrev pub file_fault_word : FileFault → List ℕ
@@ -50,7 +50,7 @@ file_fault_word file.Interfaces = codes "too many interfaces"
 -- The line for a recording that cannot go on, with the number of its last frame.
 unfoldable pub recording_text : ℕ → List ℕ → List ℕ
 recording_text frames why =
-    joined (codes "recording: unreadable behind frame " ∷ decimal frames ∷ codes ": " ∷ why ∷ codes "\n" ∷ [])
+    join_pieces (codes "recording: unreadable behind frame " ∷ decimal frames ∷ codes ": " ∷ why ∷ codes "\n" ∷ [])
 
 -- The file begins with these four bytes.
 abbrev pub has_front : List ℕ → List ℕ → Bool
@@ -77,7 +77,7 @@ foreign_word ModifiedPcap = codes "it is a modified pcap file; use editcap -F pc
 -- The line about forgotten connections.
 unfoldable pub forgotten_text : ℕ → List ℕ
 forgotten_text forgotten =
-    joined
+    join_pieces
     (codes "connections: " ∷ decimal forgotten ∷ codes " were forgotten, since more than 256 were recorded at once; choose some by --ports\n" ∷ [])
 
 -- The line about forgotten connections, if there are any.
@@ -87,7 +87,7 @@ forgotten_told forgotten = if nat_eq forgotten 0 then [] else forgotten_text for
 -- The line about datagrams that all have another safety code.
 unfoldable pub miscoded_text : ℕ → List ℕ
 miscoded_text miscoded =
-    joined (codes "datagrams: all " ∷ decimal miscoded ∷ codes " of RaSTA have another safety code; choose it by --code or --iv\n" ∷ [])
+    join_pieces (codes "datagrams: all " ∷ decimal miscoded ∷ codes " of RaSTA have another safety code; choose it by --code or --iv\n" ∷ [])
 
 -- How many datagrams have another safety code, if none has the right one.
 abbrev pub all_miscoded : Option ℕ → ℕ

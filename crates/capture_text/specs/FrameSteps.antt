@@ -13,7 +13,7 @@ use Rattle.capture.specs.declared.frame.Passed.{Passed}
 use Rattle.capture.specs.declared.frame.Passed.TheVariants as passed
 use Rattle.capture.specs.Frames.{found_in}
 use Rattle.capture_text.specs.Steps.{first_of, first_skipped, skipped_by, told_text}
-use Rattle.capture_text.specs.declared.course.Asked.{Asked}
+use Rattle.capture_text.specs.declared.course.FollowOptions.{FollowOptions}
 use Rattle.capture_text.specs.declared.frames.FrameFault.{FrameFault}
 use Rattle.capture_text.specs.declared.frames.FrameFault.TheVariants.{Link as UnknownLink, Truncated, Fragment, Length}
 use Rattle.capture_text.specs.declared.frames.Seen.{Seen}
@@ -41,16 +41,16 @@ seen_if None r start end = Datagram r start end
 seen_if (Some why) r start end = Other why
 
 -- A datagram that is not followed is passed over, too.
-abbrev pub seen_chosen : Asked → Option ℕ → Record → ℕ → ℕ → Seen
+abbrev pub seen_chosen : FollowOptions → Option ℕ → Record → ℕ → ℕ → Seen
 seen_chosen a first r start end = seen_if (skipped_by a first r) r start end
 
 -- The datagram that was found, or the reason for none.
-abbrev pub seen_found : Asked → Option ℕ → ℕ → Result Found Passed → Seen
+abbrev pub seen_found : FollowOptions → Option ℕ → ℕ → Result Found Passed → Seen
 seen_found a first time (Ok f) = seen_chosen a first (record_found time f) f.start f.end
 seen_found a first time (Err why) = seen_passed why
 
 -- The datagram of a frame, if there is one that is followed.
-abbrev pub frame_seen : Asked → Option ℕ → Option Link → ℕ → List ℕ → Seen
+abbrev pub frame_seen : FollowOptions → Option ℕ → Option Link → ℕ → List ℕ → Seen
 frame_seen a first None time octets = Unread UnknownLink
 frame_seen a first (Some link) time octets = seen_found a first time (found_in link octets)
 
@@ -103,7 +103,7 @@ forgotten_seen rule forgotten cs octets (Other why) = forgotten
 forgotten_seen rule forgotten cs octets (Unread fault) = forgotten
 
 -- What is printed of a frame.
-abbrev pub seen_text : Asked → Option ℕ → List Connection → ℕ → List ℕ → Seen → List ℕ
+abbrev pub seen_text : FollowOptions → Option ℕ → List Connection → ℕ → List ℕ → Seen → List ℕ
 seen_text a first cs number octets (Datagram r start end) =
     told_text a (first_of first r.time) number r (remark_of cs number r (heard_of a.rule (payload_at start end octets)))
     (payload_at start end octets)

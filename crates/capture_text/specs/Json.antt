@@ -15,7 +15,7 @@ use Rattle.capture.specs.declared.window.Window.{Window}
 use Rattle.capture.specs.Following.{silence_of}
 use Rattle.capture.specs.Numbers.{open_window}
 use Rattle.capture.specs.Sessions.{session_sums}
-use Rattle.pdu_text.specs.Lines.{joined}
+use Rattle.pdu_text.specs.Lines.{join_pieces}
 use Rattle.capture_text.specs.declared.summary.CaptureCounts.{CaptureCounts}
 use Rattle.capture_text.specs.declared.summary.Scale.{Scale}
 use Rattle.capture_text.specs.AdviceJson.{end_json}
@@ -41,12 +41,12 @@ coming_json c = up_json (up_of c.from_low c.from_high)
 -- The type of an opening in quotes, or null.
 abbrev pub opening_json : Option SessionOpening → List ℕ
 opening_json None = codes "null"
-opening_json (Some opening) = joined (codes "\"" ∷ kind_name opening.kind ∷ codes "\"" ∷ [])
+opening_json (Some opening) = join_pieces (codes "\"" ∷ kind_name opening.kind ∷ codes "\"" ∷ [])
 
 -- The object of a disconnect: time, reason, detail.
 unfoldable pub reasons_json : ℕ → Leaving → List ℕ
 reasons_json left l =
-    joined
+    join_pieces
     (codes "{\"time\":" ∷ decimal left ∷ codes ",\"reason\":" ∷ decimal l.reason ∷ codes ",\"detail\":" ∷ decimal l.detail ∷ codes "}" ∷ [])
 
 -- A disconnect, or null.
@@ -62,13 +62,13 @@ totals_in w =
 -- Late, differing and stale ones.
 unfoldable pub others_json : Totals → List ℕ
 others_json t =
-    joined
+    join_pieces
     (codes ",\"late\":" ∷ decimal t.late ∷ codes ",\"differs\":" ∷ decimal t.differing ∷ codes ",\"stale\":" ∷ decimal t.stale ∷ [])
 
 -- All sums of redundancy numbers.
 unfoldable pub numbers_json : Totals → List ℕ
 numbers_json t =
-    joined
+    join_pieces
     (codes ",\"PDUs\":" ∷ decimal t.heard ∷ codes ",\"missing\":" ∷ decimal t.missing ∷ codes ",\"repeats\":" ∷ decimal t.repeats ∷ [])
     ++ others_json t
 
@@ -78,15 +78,15 @@ window_json w = numbers_json (totals_in w)
 
 -- The number of a channel, from 1, at the start of its object.
 unfoldable pub place_number_json : ℕ → List ℕ
-place_number_json place = joined (codes "{\"channel\":" ∷ decimal (place + 1) ∷ [])
+place_number_json place = join_pieces (codes "{\"channel\":" ∷ decimal (place + 1) ∷ [])
 
 -- The address of the end with the lower identifier.
 unfoldable pub low_json : Address → List ℕ
-low_json address = joined (codes ",\"low\":\"" ∷ address_text address ∷ codes "\"" ∷ [])
+low_json address = join_pieces (codes ",\"low\":\"" ∷ address_text address ∷ codes "\"" ∷ [])
 
 -- The address of the other end.
 unfoldable pub high_json : Address → List ℕ
-high_json address = joined (codes ",\"high\":\"" ∷ address_text address ∷ codes "\"" ∷ [])
+high_json address = join_pieces (codes ",\"high\":\"" ∷ address_text address ∷ codes "\"" ∷ [])
 
 -- The number and addresses of a channel.
 unfoldable pub route_json : ℕ → Route → List ℕ
@@ -94,11 +94,11 @@ route_json place route = place_number_json place ++ low_json route.low ++ high_j
 
 -- The number of datagrams on a channel.
 unfoldable pub came_json : ℕ → List ℕ
-came_json datagrams = joined (codes ",\"datagrams\":" ∷ decimal datagrams ∷ [])
+came_json datagrams = join_pieces (codes ",\"datagrams\":" ∷ decimal datagrams ∷ [])
 
 -- The number of damaged datagrams, at the end of a channel's object.
 unfoldable pub damaged_json : ℕ → List ℕ
-damaged_json damaged = joined (codes ",\"damaged\":" ∷ decimal damaged ∷ codes "}" ∷ [])
+damaged_json damaged = join_pieces (codes ",\"damaged\":" ∷ decimal damaged ∷ codes "}" ∷ [])
 
 -- The object of a channel.
 unfoldable pub known_channel_json : ℕ → Route → Window → ℕ → List ℕ
@@ -131,14 +131,14 @@ channels_json routes d =
 -- The counts of types.
 unfoldable pub kinds_json : Tally → List ℕ
 kinds_json t =
-    joined
+    join_pieces
     (codes ",\"heartbeats\":" ∷ decimal t.heartbeats ∷ codes ",\"requests\":" ∷ decimal t.requests ∷ codes ",\"resent\":" ∷ decimal t.resent
     ∷ codes ",\"disconnects\":" ∷ decimal t.disconnects ∷ [])
 
 -- A silence in microseconds, an age and a wait in milliseconds.
 unfoldable pub ages_json : ℕ → ℕ → ℕ → List ℕ
 ages_json silence age waits =
-    joined (codes ",\"silence\":" ∷ decimal silence ∷ codes ",\"age\":" ∷ decimal age ∷ codes ",\"waits\":" ∷ decimal waits ∷ [])
+    join_pieces (codes ",\"silence\":" ∷ decimal silence ∷ codes ",\"age\":" ∷ decimal age ∷ codes ",\"waits\":" ∷ decimal waits ∷ [])
 
 -- The longest silence up to this time, the greatest age and the longest wait.
 abbrev pub near_json : ℕ → Tally → List ℕ
@@ -146,7 +146,7 @@ near_json until t = ages_json (silence_of t until) t.oldest t.longest
 
 -- The sender and the receiver, at the start of a direction's object.
 unfoldable pub ends_json : ℕ → ℕ → List ℕ
-ends_json from to = joined (codes "{\"from\":" ∷ decimal from ∷ codes ",\"to\":" ∷ decimal to ∷ [])
+ends_json from to = join_pieces (codes "{\"from\":" ∷ decimal from ∷ codes ",\"to\":" ∷ decimal to ∷ [])
 
 -- The type of the last opening.
 unfoldable pub opened_json : Option SessionOpening → List ℕ
@@ -154,7 +154,7 @@ opened_json opening = codes ",\"opening\":" ++ opening_json opening
 
 -- The number of openings.
 unfoldable pub times_json : ℕ → List ℕ
-times_json times = joined (codes ",\"openings\":" ∷ decimal times ∷ [])
+times_json times = join_pieces (codes ",\"openings\":" ∷ decimal times ∷ [])
 
 -- The time of the last opening.
 unfoldable pub opened_at_json : ℕ → List ℕ
@@ -176,12 +176,12 @@ direction_json from to c d =
 
 -- The identifiers at the start of a connection's object.
 unfoldable pub name_json : Connection → List ℕ
-name_json c = joined (codes "{\"low\":" ∷ decimal c.low ∷ codes ",\"high\":" ∷ decimal c.high ∷ codes ",\"up\":" ∷ [])
+name_json c = join_pieces (codes "{\"low\":" ∷ decimal c.low ∷ codes ",\"high\":" ∷ decimal c.high ∷ codes ",\"up\":" ∷ [])
 
 -- The time of the last PDU, and both losses.
 unfoldable pub losses_json : ℕ → ℕ → ℕ → List ℕ
 losses_json last everywhere alone =
-    joined
+    join_pieces
     (codes ",\"last\":" ∷ decimal last ∷ codes ",\"lost_on_every_channel\":" ∷ decimal everywhere ∷ codes ",\"lost_on_one_channel\":"
     ∷ decimal alone ∷ [])
 
@@ -191,7 +191,7 @@ lost_json c = losses_json c.last (lost_on_all c) (session_sums c.sessions).alone
 
 -- An age and a wait.
 unfoldable pub both_json : ℕ → ℕ → List ℕ
-both_json age waits = joined (codes ",\"age\":" ∷ decimal age ∷ codes ",\"waits\":" ∷ decimal waits ∷ [])
+both_json age waits = join_pieces (codes ",\"age\":" ∷ decimal age ∷ codes ",\"waits\":" ∷ decimal waits ∷ [])
 
 -- The greatest age and the longest wait of a connection.
 abbrev pub greatest_json : Connection → List ℕ
@@ -225,12 +225,12 @@ connections_json (c ∷ cs) = connection_json c ++ more_json cs
 
 -- The first time and T_max, at the start of the object.
 unfoldable pub scale_json : Scale → List ℕ
-scale_json s = codes "{\"first\":" ++ time_json s.clock.first ++ joined (codes ",\"t_max\":" ∷ decimal s.t_max ∷ codes ",\"all\":{\"datagrams\":" ∷ [])
+scale_json s = codes "{\"first\":" ++ time_json s.clock.first ++ join_pieces (codes ",\"t_max\":" ∷ decimal s.t_max ∷ codes ",\"all\":{\"datagrams\":" ∷ [])
 
 -- The counts over the whole capture.
 unfoldable pub counts_json : CaptureCounts → List ℕ
 counts_json c =
-    joined
+    join_pieces
     (codes ",\"damaged\":" ∷ decimal c.damaged ∷ codes ",\"forgotten\":" ∷ decimal c.forgotten ∷ codes ",\"unreadable\":"
     ∷ decimal c.unreadable ∷ codes ",\"frames\":" ∷ decimal c.frames ∷ [])
 

@@ -1,11 +1,11 @@
 -- The frames and lines of which no datagram is followed, counted by kind, and their texts.
 use Rattle.std.specs.Prelude.{ℕ, ◌&&◌, Bool, nat_eq, List, [], ◌∷◌, ◌++◌, codes, if◌then◌else◌, Result, Ok, Err}
 use Rattle.std.specs.Fmt.{decimal}
-use Rattle.capture.specs.declared.heard.Heard.{Heard}
+use Rattle.capture.specs.declared.heard.DecodedDatagram.{DecodedDatagram}
 use Rattle.capture.specs.declared.line.Record.{Record}
 use Rattle.capture.specs.Numbers.{counted}
-use Rattle.capture_text.specs.declared.course.Unfollowed.{Unfollowed}
-use Rattle.capture_text.specs.declared.course.Unfollowed.TheVariants.{Fault, Chosen}
+use Rattle.capture_text.specs.declared.course.SkipCause.{SkipCause}
+use Rattle.capture_text.specs.declared.course.SkipCause.TheVariants.{Fault, Chosen}
 use Rattle.capture_text.specs.declared.frames.FrameFault.{FrameFault}
 use Rattle.capture_text.specs.declared.frames.FrameFault.TheVariants.{Link, Truncated, Fragment, Length}
 use Rattle.capture_text.specs.declared.frames.Seen.{Seen}
@@ -13,7 +13,7 @@ use Rattle.capture_text.specs.declared.frames.Seen.TheVariants.{Datagram, Other,
 use Rattle.capture_text.specs.declared.frames.Skipped.{Skipped}
 use Rattle.capture_text.specs.declared.frames.Skipped.TheVariants.{Port, Time, NoIp, NoUdp, Tunnel}
 use Rattle.capture_text.specs.declared.passed.PassedOver.{PassedOver}
-use Rattle.pdu_text.specs.Lines.{joined}
+use Rattle.pdu_text.specs.Lines.{join_pieces}
 
 -- Nothing was passed over.
 abbrev pub no_passed : PassedOver
@@ -42,7 +42,7 @@ passed_within p (Other why) = skipped_counted p why
 passed_within p (Unread fault) = fault_counted p fault
 
 -- The counts after a line; one that is not a datagram is only unreadable.
-abbrev pub passed_behind : PassedOver → Result (Record × Heard) Unfollowed → PassedOver
+abbrev pub passed_behind : PassedOver → Result (Record × DecodedDatagram) SkipCause → PassedOver
 passed_behind p (Ok h) = p
 passed_behind p (Err (Fault fault)) = p
 passed_behind p (Err (Chosen why)) = skipped_counted p why
@@ -56,14 +56,14 @@ is_all_zero p =
 -- What has no fault: other ports, other times, frames without IP, packets without UDP, tunnels.
 unfoldable pub rest_text : PassedOver → List ℕ
 rest_text p =
-    joined
+    join_pieces
     (codes "sum passed over: other ports " ∷ decimal p.ports ∷ codes " other times " ∷ decimal p.times ∷ codes " no IP " ∷ decimal p.no_ip ∷ codes " no UDP " ∷ decimal p.no_udp
     ∷ codes " tunnels " ∷ decimal p.tunnels ∷ [])
 
 -- What is not read: fragments, truncated frames, wrong lengths, unknown link headers.
 unfoldable pub unread_text : PassedOver → List ℕ
 unread_text p =
-    joined
+    join_pieces
     (codes " fragments " ∷ decimal p.fragments ∷ codes " truncated " ∷ decimal p.truncated ∷ codes " lengths " ∷ decimal p.lengths
     ∷ codes " links " ∷ decimal p.links ∷ codes "\n" ∷ [])
 
@@ -78,14 +78,14 @@ passed_lines p = if is_all_zero p then [] else passed_text p
 -- What has no fault, as members.
 unfoldable pub rest_json : PassedOver → List ℕ
 rest_json p =
-    joined
+    join_pieces
     (codes "{\"ports\":" ∷ decimal p.ports ∷ codes ",\"times\":" ∷ decimal p.times ∷ codes ",\"no_ip\":" ∷ decimal p.no_ip ∷ codes ",\"no_udp\":" ∷ decimal p.no_udp
     ∷ codes ",\"tunnels\":" ∷ decimal p.tunnels ∷ [])
 
 -- What is not read, as members.
 unfoldable pub unread_json : PassedOver → List ℕ
 unread_json p =
-    joined
+    join_pieces
     (codes ",\"fragments\":" ∷ decimal p.fragments ∷ codes ",\"truncated\":" ∷ decimal p.truncated ∷ codes ",\"lengths\":"
     ∷ decimal p.lengths ∷ codes ",\"links\":" ∷ decimal p.links ∷ codes "}" ∷ [])
 

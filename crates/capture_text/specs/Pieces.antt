@@ -3,7 +3,7 @@ use Rattle.std.specs.Prelude.{ℕ, ◌+◌, ◌-◌, ◌/◌, ◌%◌, nat_le, n
 use Rattle.std.specs.Fmt.{decimal}
 use Rattle.std.specs.Net.Addr.{segments_of}
 use Rattle.std.specs.Net.Text.{ipv6_text}
-use Rattle.pdu_text.specs.Lines.{joined}
+use Rattle.pdu_text.specs.Lines.{join_pieces}
 use Rattle.capture_text.specs.Dates.{date_of}
 use Rattle.capture_text.specs.declared.dates.Date.{Date}
 use Rattle.capture_text.specs.declared.pieces.Clock.{Clock}
@@ -23,7 +23,7 @@ six_digits n = digit 100000 n ∷ digit 10000 n ∷ digit 1000 n ∷ digit 100 n
 
 -- Microseconds as seconds: whole seconds, a point, six digits.
 unfoldable pub duration_text : ℕ → List ℕ
-duration_text micros = joined (decimal (micros / 1000000) ∷ codes "." ∷ six_digits (micros % 1000000) ∷ [])
+duration_text micros = join_pieces (decimal (micros / 1000000) ∷ codes "." ∷ six_digits (micros % 1000000) ∷ [])
 
 -- The time since the first one, after a minus sign if it is earlier.
 unfoldable pub difference_text : ℕ → ℕ → List ℕ
@@ -41,7 +41,7 @@ moment_digits d micros =
 
 -- A date and a time of day in UTC.
 unfoldable pub moment_text : Date → ℕ → List ℕ
-moment_text d micros = joined (decimal d.year ∷ moment_digits d micros ∷ [])
+moment_text d micros = join_pieces (decimal d.year ∷ moment_digits d micros ∷ [])
 
 -- A time as date and time of day in UTC.
 unfoldable pub utc_text : ℕ → List ℕ
@@ -68,12 +68,12 @@ octet_of host place = decimal (slice_index host place)
 -- An IPv4 address with its port.
 unfoldable pub v4_text : List ℕ → ℕ → List ℕ
 v4_text host port =
-    joined
+    join_pieces
     (octet_of host 0 ∷ codes "." ∷ octet_of host 1 ∷ codes "." ∷ octet_of host 2 ∷ codes "." ∷ octet_of host 3 ∷ codes ":" ∷ decimal port ∷ [])
 
 -- An IPv6 address as in RFC 5952, in brackets, with its port.
 unfoldable pub v6_text : List ℕ → ℕ → List ℕ
-v6_text host port = joined (codes "[" ∷ ipv6_text (segments_of host) ∷ codes "]:" ∷ decimal port ∷ [])
+v6_text host port = join_pieces (codes "[" ∷ ipv6_text (segments_of host) ∷ codes "]:" ∷ decimal port ∷ [])
 
 -- A host with a port.
 abbrev pub host_text : Host → ℕ → List ℕ
@@ -86,7 +86,7 @@ address_text a = host_text a.host a.port
 
 -- The sender and the receiver, by their identifiers.
 unfoldable pub ends_text : ℕ → ℕ → List ℕ
-ends_text sender receiver = joined (decimal sender ∷ codes "->" ∷ decimal receiver ∷ [])
+ends_text sender receiver = join_pieces (decimal sender ∷ codes "->" ∷ decimal receiver ∷ [])
 
 -- The words of a channel, counted from 1; further channels have no number.
 abbrev pub channel_text : ℕ → List ℕ

@@ -7,7 +7,7 @@ use Rattle.safe_pdu.specs.declared.reasons.Reason.{Reason}
 use Rattle.safe_pdu.specs.declared.reasons.Reason.TheVariants.{ClosedByUser, UnexpectedPdu, SequenceError, Timeout, ServiceNotAllowed, WrongVersion, RetransmissionImpossible, ProtocolError}
 use Rattle.safe_pdu.specs.declared.reasons.Detail.{Detail}
 use Rattle.safe_pdu.specs.declared.reasons.Detail.TheVariants.{Unspecified, VersionDiffers, OutOfOrder, NotWellFormed, Limit, BadUnit, ConfirmedNumber, ConfirmedTimestamp}
-use Rattle.pdu_text.specs.Lines.{joined}
+use Rattle.pdu_text.specs.Lines.{join_pieces}
 
 -- The words of a reason.
 abbrev pub reason_word : Option Reason → List ℕ
@@ -41,6 +41,6 @@ detail_word None detail = []
 -- Reason and detail, each with its number and words.
 unfoldable pub leaving_words : Leaving → List ℕ
 leaving_words l =
-    joined
+    join_pieces
     (codes " reason " ∷ decimal l.reason ∷ reason_word (reason_numbered l.reason) ∷ codes " detail " ∷ decimal l.detail
     ∷ detail_word (reason_numbered l.reason) l.detail ∷ [])

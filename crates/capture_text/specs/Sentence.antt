@@ -10,7 +10,7 @@ use Rattle.capture.specs.declared.sessions.SessionTotals.{SessionTotals}
 use Rattle.capture.specs.Following.{is_request}
 use Rattle.capture.specs.Numbers.{counted}
 use Rattle.capture.specs.Sessions.{session_sums}
-use Rattle.pdu_text.specs.Lines.{joined}
+use Rattle.pdu_text.specs.Lines.{join_pieces}
 use Rattle.capture_text.specs.declared.summary.Scale.{Scale}
 use Rattle.capture_text.specs.declared.pieces.Clock.{Clock}
 use Rattle.capture_text.specs.Pieces.{reached_text, since_text}
@@ -49,12 +49,12 @@ last_heard_text clock last = codes ", last PDU at " ++ since_text clock last
 -- How many sessions a connection had, how many came up, and how many nobody answered.
 unfoldable pub came_text : ℕ → SessionTotals → List ℕ
 came_text number t =
-    joined
+    join_pieces
     (codes " sessions " ∷ decimal number ∷ codes ", came up " ∷ decimal t.up ∷ codes ", nobody answered " ∷ decimal t.unanswered ∷ [])
 
 -- How many sessions an end left, and how many by a timeout.
 unfoldable pub gone_text : SessionTotals → List ℕ
-gone_text t = joined (codes ", ended by a DiscReq " ∷ decimal t.left ∷ codes ", by timeout " ∷ decimal t.timeouts ∷ [])
+gone_text t = join_pieces (codes ", ended by a DiscReq " ∷ decimal t.left ∷ codes ", by timeout " ∷ decimal t.timeouts ∷ [])
 
 -- The losses on all channels.
 abbrev pub lost_on_all : Connection → ℕ
@@ -71,11 +71,11 @@ longest_in c = max c.from_low.tally.longest c.from_high.tally.longest
 -- The longest wait beside T_max, and the end of the line.
 unfoldable pub near_text : ℕ → ℕ → List ℕ
 near_text t_max longest =
-    joined (codes ", waits " ∷ decimal longest ∷ codes " of " ∷ decimal t_max ∷ reached_text t_max longest ∷ codes "\n" ∷ [])
+    join_pieces (codes ", waits " ∷ decimal longest ∷ codes " of " ∷ decimal t_max ∷ reached_text t_max longest ∷ codes "\n" ∷ [])
 
 -- The name of a connection: both identifiers.
 unfoldable pub name_text : ℕ → ℕ → List ℕ
-name_text low high = joined (codes "connection " ∷ decimal low ∷ codes "-" ∷ decimal high ∷ [])
+name_text low high = join_pieces (codes "connection " ∷ decimal low ∷ codes "-" ∷ decimal high ∷ [])
 
 -- The sums over all sessions of a connection.
 unfoldable pub course_text : Connection → List ℕ

@@ -15,7 +15,7 @@ use Rattle.capture.specs.Following.{silence_of}
 use Rattle.capture.specs.Numbers.{counted, open_window}
 use Rattle.capture_text.specs.declared.summary.Scale.{Scale}
 use Rattle.capture_text.specs.declared.summary.CaptureCounts.{CaptureCounts}
-use Rattle.pdu_text.specs.Lines.{joined}
+use Rattle.pdu_text.specs.Lines.{join_pieces}
 use Rattle.capture_text.specs.Pieces.{address_text, channel_text, duration_text, ends_text, reached_text, since_text, utc_text}
 use Rattle.capture_text.specs.declared.pieces.Clock.{Clock}
 use Rattle.capture_text.specs.Passing.{passed_lines}
@@ -26,39 +26,39 @@ use Rattle.capture_text.specs.TableText.{sessions_text}
 -- How often an end opened, and by what.
 abbrev pub opening_text : Option SessionOpening → ℕ → List ℕ
 opening_text None times = codes " opening not seen"
-opening_text (Some opening) times = joined (codes " opened by " ∷ kind_name opening.kind ∷ codes " times " ∷ decimal times ∷ [])
+opening_text (Some opening) times = join_pieces (codes " opened by " ∷ kind_name opening.kind ∷ codes " times " ∷ decimal times ∷ [])
 
 -- The repeated, late, differing and stale numbers of a window.
 unfoldable pub others_text : Window → List ℕ
 others_text w =
-    joined
+    join_pieces
     (codes " repeats " ∷ decimal w.repeats ∷ codes " late " ∷ decimal w.late ∷ codes " differs " ∷ decimal w.differing ∷ codes " stale "
     ∷ decimal w.stale ∷ [])
 
 -- The counts of a window.
 unfoldable pub numbers_text : Window → List ℕ
-numbers_text w = joined (codes " PDUs " ∷ decimal w.heard ∷ codes " missing " ∷ decimal w.missing ∷ []) ++ others_text w
+numbers_text w = join_pieces (codes " PDUs " ∷ decimal w.heard ∷ codes " missing " ∷ decimal w.missing ∷ []) ++ others_text w
 
 -- The counts of types.
 unfoldable pub kinds_text : Tally → List ℕ
 kinds_text t =
-    joined
+    join_pieces
     (codes " heartbeats " ∷ decimal t.heartbeats ∷ codes " requests " ∷ decimal t.requests ∷ codes " resent " ∷ decimal t.resent ∷ codes " disconnects "
     ∷ decimal t.disconnects ∷ [])
 
 -- The longest silence.
 unfoldable pub silence_text : ℕ → List ℕ
-silence_text silence = joined (codes " silence " ∷ duration_text silence ∷ [])
+silence_text silence = join_pieces (codes " silence " ∷ duration_text silence ∷ [])
 
 -- The greatest age, and if it reached T_max.
 unfoldable pub oldest_text : ℕ → ℕ → List ℕ
 oldest_text t_max oldest =
-    joined (codes " age " ∷ decimal oldest ∷ codes " of " ∷ decimal t_max ∷ reached_text t_max oldest ∷ [])
+    join_pieces (codes " age " ∷ decimal oldest ∷ codes " of " ∷ decimal t_max ∷ reached_text t_max oldest ∷ [])
 
 -- The longest wait for a confirmation, and if it reached T_max.
 unfoldable pub longest_text : ℕ → ℕ → List ℕ
 longest_text t_max longest =
-    joined (codes " waits " ∷ decimal longest ∷ codes " of " ∷ decimal t_max ∷ reached_text t_max longest ∷ [])
+    join_pieces (codes " waits " ∷ decimal longest ∷ codes " of " ∷ decimal t_max ∷ reached_text t_max longest ∷ [])
 
 -- The time of the last PDU.
 abbrev pub last_text : Clock → ℕ → List ℕ
@@ -87,11 +87,11 @@ datagrams_of w damaged =
 
 -- The addresses of a channel.
 unfoldable pub route_text : Route → List ℕ
-route_text route = joined (codes " " ∷ address_text route.low ∷ codes "-" ∷ address_text route.high ∷ [])
+route_text route = join_pieces (codes " " ∷ address_text route.low ∷ codes "-" ∷ address_text route.high ∷ [])
 
 -- The number of datagrams on a channel.
 unfoldable pub datagrams_text : Window → ℕ → List ℕ
-datagrams_text w damaged = joined (codes " datagrams " ∷ decimal (datagrams_of w damaged) ∷ [])
+datagrams_text w damaged = join_pieces (codes " datagrams " ∷ decimal (datagrams_of w damaged) ∷ [])
 
 -- The ends and the number of a channel.
 unfoldable pub sum_text : ℕ → ℕ → ℕ → List ℕ
@@ -99,7 +99,7 @@ sum_text from to place = codes "sum " ++ ends_text from to ++ channel_text place
 
 -- The number of damaged datagrams, and the end of the line.
 unfoldable pub damaged_text : ℕ → List ℕ
-damaged_text damaged = joined (codes " damaged " ∷ decimal damaged ∷ codes "\n" ∷ [])
+damaged_text damaged = join_pieces (codes " damaged " ∷ decimal damaged ∷ codes "\n" ∷ [])
 
 -- The line of a channel.
 unfoldable pub known_channel_text : ℕ → ℕ → ℕ → Route → Window → ℕ → List ℕ
@@ -137,23 +137,23 @@ connections_text s cs = flat_map (λ c. connection_text s c) cs
 
 -- The number of datagrams in the whole capture.
 unfoldable pub came_text : ℕ → List ℕ
-came_text datagrams = joined (codes "sum all datagrams " ∷ decimal datagrams ∷ [])
+came_text datagrams = join_pieces (codes "sum all datagrams " ∷ decimal datagrams ∷ [])
 
 -- The repeated, late, differing and stale numbers of all connections.
 unfoldable pub other_totals_text : Totals → List ℕ
 other_totals_text t =
-    joined
+    join_pieces
     (codes " repeats " ∷ decimal t.repeats ∷ codes " late " ∷ decimal t.late ∷ codes " differs " ∷ decimal t.differing ∷ codes " stale "
     ∷ decimal t.stale ∷ [])
 
 -- The sums of all connections.
 unfoldable pub totals_text : Totals → List ℕ
-totals_text t = joined (codes " PDUs " ∷ decimal t.heard ∷ codes " missing " ∷ decimal t.missing ∷ []) ++ other_totals_text t
+totals_text t = join_pieces (codes " PDUs " ∷ decimal t.heard ∷ codes " missing " ∷ decimal t.missing ∷ []) ++ other_totals_text t
 
 -- The counts over the whole capture.
 unfoldable pub counts_text : CaptureCounts → List ℕ
 counts_text c =
-    joined (codes " damaged " ∷ decimal c.damaged ∷ codes " forgotten " ∷ decimal c.forgotten ∷ codes " unreadable " ∷ decimal c.unreadable ∷ [])
+    join_pieces (codes " damaged " ∷ decimal c.damaged ∷ codes " forgotten " ∷ decimal c.forgotten ∷ codes " unreadable " ∷ decimal c.unreadable ∷ [])
 
 -- The line of all sums.
 unfoldable pub all_text : Totals → CaptureCounts → List ℕ

@@ -10,7 +10,7 @@ use Rattle.capture.specs.declared.sessions.SessionTotals.{SessionTotals}
 use Rattle.capture.specs.declared.sessions.Sessions.{Sessions}
 use Rattle.capture.specs.declared.sessions.Side.{Side}
 use Rattle.capture.specs.Sessions.{alone_of, is_unanswered_in, session_sums}
-use Rattle.pdu_text.specs.Lines.{joined}
+use Rattle.pdu_text.specs.Lines.{join_pieces}
 use Rattle.capture_text.specs.TableText.{asker_of}
 
 -- A truth.
@@ -25,7 +25,7 @@ maybe_time_json (Some time) = decimal time
 
 -- The time and the end of a ConnReq.
 unfoldable pub asking_json : ℕ → ℕ → List ℕ
-asking_json end time = joined (codes ",\"asked\":" ∷ decimal time ∷ codes ",\"asked_by\":" ∷ decimal end ∷ [])
+asking_json end time = join_pieces (codes ",\"asked\":" ∷ decimal time ∷ codes ",\"asked_by\":" ∷ decimal end ∷ [])
 
 -- The ConnReq of a session, or that it was not recorded.
 abbrev pub asked_json : ℕ → ℕ → Option Asking → List ℕ
@@ -34,7 +34,7 @@ asked_json low high (Some a) = asking_json (asker_of low high a) a.time
 
 -- The number of a session, at the start of its object.
 unfoldable pub number_json : ℕ → List ℕ
-number_json number = joined (codes "{\"session\":" ∷ decimal number ∷ [])
+number_json number = join_pieces (codes "{\"session\":" ∷ decimal number ∷ [])
 
 -- The time of coming up, and if nobody answered.
 unfoldable pub outcome_json : Option ℕ → Bool → List ℕ
@@ -44,7 +44,7 @@ outcome_json up unanswered =
 -- The object of a DiscReq.
 unfoldable pub parting_json : Parting → List ℕ
 parting_json p =
-    joined
+    join_pieces
     (codes "{\"time\":" ∷ decimal p.time ∷ codes ",\"reason\":" ∷ decimal p.leaving.reason ∷ codes ",\"detail\":" ∷ decimal p.leaving.detail
     ∷ codes ",\"follows\":" ∷ truth_json p.follows ∷ codes "}" ∷ [])
 
@@ -56,13 +56,13 @@ left_json (Some p) = parting_json p
 -- The longest wait and the losses of an end.
 unfoldable pub losses_json : ℕ → ℕ → ℕ → List ℕ
 losses_json waits lost alone =
-    joined
+    join_pieces
     (codes ",\"waits\":" ∷ decimal waits ∷ codes ",\"lost_on_every_channel\":" ∷ decimal lost ∷ codes ",\"lost_on_one_channel\":" ∷ decimal alone
     ∷ [])
 
 -- What an end sent again, what came twice on one channel, and the end of its object.
 unfoldable pub again_json : ℕ → ℕ → List ℕ
-again_json resent repeats = joined (codes ",\"resent\":" ∷ decimal resent ∷ codes ",\"repeats\":" ∷ decimal repeats ∷ codes "}" ∷ [])
+again_json resent repeats = join_pieces (codes ",\"resent\":" ∷ decimal resent ∷ codes ",\"repeats\":" ∷ decimal repeats ∷ codes "}" ∷ [])
 
 -- What an end did in a session.
 unfoldable pub side_json : Side → List ℕ
@@ -93,14 +93,14 @@ slots_json low high xs = flat_map (λ x. slot_json low high x) xs
 -- The sums over all sessions: how many there were, came up, and were not answered.
 unfoldable pub came_json : ℕ → SessionTotals → List ℕ
 came_json number t =
-    joined
+    join_pieces
     (codes ",\"sessions\":{\"number\":" ∷ decimal number ∷ codes ",\"up\":" ∷ decimal t.up ∷ codes ",\"unanswered\":" ∷ decimal t.unanswered
     ∷ [])
 
 -- The sums over all sessions: how many an end left, and by a timeout; and the start of the table.
 unfoldable pub gone_json : SessionTotals → List ℕ
 gone_json t =
-    joined (codes ",\"left\":" ∷ decimal t.left ∷ codes ",\"timeouts\":" ∷ decimal t.timeouts ∷ codes ",\"table\":[" ∷ [])
+    join_pieces (codes ",\"left\":" ∷ decimal t.left ∷ codes ",\"timeouts\":" ∷ decimal t.timeouts ∷ codes ",\"table\":[" ∷ [])
 
 -- All kept sessions, the oldest one first, then the current one, and the end of the table.
 unfoldable pub table_json : ℕ → ℕ → Sessions → List ℕ

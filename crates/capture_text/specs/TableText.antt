@@ -9,7 +9,7 @@ use Rattle.capture.specs.declared.sessions.Session.{Session}
 use Rattle.capture.specs.declared.sessions.Sessions.{Sessions}
 use Rattle.capture.specs.Numbers.{counted}
 use Rattle.capture.specs.Sessions.{alone_in, is_unanswered_in, lost_in_session}
-use Rattle.pdu_text.specs.Lines.{joined}
+use Rattle.pdu_text.specs.Lines.{join_pieces}
 use Rattle.capture_text.specs.declared.pieces.Clock.{Clock}
 use Rattle.capture_text.specs.Pieces.{since_text}
 use Rattle.capture_text.specs.Reasons.{leaving_words}
@@ -17,7 +17,7 @@ use Rattle.capture_text.specs.Reasons.{leaving_words}
 -- The number of a session, and its connection.
 unfoldable pub number_text : ℕ → ℕ → ℕ → List ℕ
 number_text number low high =
-    joined (codes "session " ∷ decimal number ∷ codes " of " ∷ decimal low ∷ codes "-" ∷ decimal high ∷ [])
+    join_pieces (codes "session " ∷ decimal number ∷ codes " of " ∷ decimal low ∷ codes "-" ∷ decimal high ∷ [])
 
 -- The end that asked for a session.
 abbrev pub asker_of : ℕ → ℕ → Asking → ℕ
@@ -25,7 +25,7 @@ asker_of low high a = if a.by_low then low else high
 
 -- The ConnReq of a session: end and time.
 unfoldable pub asking_text : Clock → ℕ → ℕ → List ℕ
-asking_text clock end time = joined (codes ", " ∷ decimal end ∷ codes " asked at " ∷ []) ++ since_text clock time
+asking_text clock end time = join_pieces (codes ", " ∷ decimal end ∷ codes " asked at " ∷ []) ++ since_text clock time
 
 -- The ConnReq of a session, or that it was not recorded.
 abbrev pub asked_text : Clock → ℕ → ℕ → Option Asking → List ℕ
@@ -59,7 +59,7 @@ own_text false = codes " by itself"
 -- The DiscReq of an end: who, when, own or after that of the other end, reason.
 unfoldable pub leaving_text : Clock → ℕ → Parting → List ℕ
 leaving_text clock end p =
-    joined (codes ", " ∷ decimal end ∷ codes " left at " ∷ []) ++ since_text clock p.time ++ own_text p.follows ++ leaving_words p.leaving
+    join_pieces (codes ", " ∷ decimal end ∷ codes " left at " ∷ []) ++ since_text clock p.time ++ own_text p.follows ++ leaving_words p.leaving
 
 -- The DiscReq of an end, if it sent one.
 abbrev pub left_text : Clock → ℕ → Option Parting → List ℕ
@@ -82,19 +82,19 @@ ended_text clock low high x = left_text clock low x.low.left ++ left_text clock 
 -- The longest wait of each end.
 unfoldable pub waited_text : ℕ → ℕ → ℕ → ℕ → List ℕ
 waited_text low high one other =
-    joined
+    join_pieces
     (codes ", " ∷ decimal low ∷ codes " waited " ∷ decimal one ∷ codes " ms, " ∷ decimal high ∷ codes " waited " ∷ decimal other ∷ codes " ms" ∷ [])
 
 -- The losses, in words that name what is counted.
 unfoldable pub lost_text : ℕ → ℕ → List ℕ
 lost_text everywhere alone =
-    joined
+    join_pieces
     (codes ", PDUs lost on every channel " ∷ decimal everywhere ∷ codes ", datagrams lost on one channel whose PDU came on another " ∷ decimal alone
     ∷ [])
 
 -- What was sent again, and what came twice on one channel.
 unfoldable pub again_text : ℕ → ℕ → List ℕ
-again_text resent repeats = joined (codes ", sent again " ∷ decimal resent ∷ codes ", repeats on one channel " ∷ decimal repeats ∷ codes "\n" ∷ [])
+again_text resent repeats = join_pieces (codes ", sent again " ∷ decimal resent ∷ codes ", repeats on one channel " ∷ decimal repeats ∷ codes "\n" ∷ [])
 
 -- The units that both ends sent again.
 abbrev pub resent_in : Session → ℕ

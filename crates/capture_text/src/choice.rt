@@ -3,7 +3,7 @@
 ghost use Rattle.std.specs.Prelude.{◌≡◌, IfSome, Some};
 ghost use Rattle.capture_text.specs.Choice.{has_word, is_asked, is_half, is_maybe_named, is_meant, is_named, is_number_named, is_overdue, is_waiting, word_text};
 
-use capture::{Judged, Remark, Remarks};
+use capture::{NumberOrder, Remark, Remarks};
 
 /// A remark by which lines are chosen.
 #[derive(Clone, Copy, Debug, PartialEq, Eq)]
@@ -146,7 +146,7 @@ fn is_number(word: Remarkable, remarks: &Remarks) -> bool
 }
 
 /// Returns `true` if a number was judged and followed as the word says.
-fn is_maybe(word: Remarkable, judged: Option<Judged>) -> bool
+fn is_maybe(word: Remarkable, judged: Option<NumberOrder>) -> bool
     // Without a judgement the result is false.
     ensures { result ≡ is_maybe_named word judged }
 {
@@ -157,17 +157,17 @@ fn is_maybe(word: Remarkable, judged: Option<Judged>) -> bool
 }
 
 /// Returns `true` if a number followed as the word says.
-fn is_so(word: Remarkable, judged: Judged) -> bool
+fn is_so(word: Remarkable, judged: NumberOrder) -> bool
     // The `word` is that of the judgement; the first and the next number have no word.
     ensures { result ≡ is_named word judged }
 {
     match judged {
-        Judged::Repeat(_) => matches!(word, Remarkable::Repeat),
-        Judged::Differs(_) => matches!(word, Remarkable::Differs),
-        Judged::Ahead(_) => matches!(word, Remarkable::Ahead),
-        Judged::Late => matches!(word, Remarkable::Late),
-        Judged::Stale => matches!(word, Remarkable::Stale),
-        Judged::Anew => matches!(word, Remarkable::Anew),
-        Judged::First | Judged::Next => false,
+        NumberOrder::Repeat(_) => matches!(word, Remarkable::Repeat),
+        NumberOrder::Differs(_) => matches!(word, Remarkable::Differs),
+        NumberOrder::Ahead(_) => matches!(word, Remarkable::Ahead),
+        NumberOrder::Late => matches!(word, Remarkable::Late),
+        NumberOrder::Stale => matches!(word, Remarkable::Stale),
+        NumberOrder::Anew => matches!(word, Remarkable::Anew),
+        NumberOrder::First | NumberOrder::Next => false,
     }
 }

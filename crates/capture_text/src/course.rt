@@ -21,7 +21,8 @@ use crate::record::write_record;
 use crate::summary::{CaptureCounts, Scale, write_summary};
 use crate::telegrams::write_telegrams;
 use capture::{
-    Buffer, Following, Heard, LineFault, PAYLOAD_ROOM, Ports, Record, Remark, Span, hear, read_line,
+    Buffer, DecodedDatagram, Follower, LineFault, PAYLOAD_ROOM, Ports, Record, Remark, Span, hear,
+    read_line,
 };
 use safe_pdu::CodeRule;
 use std::alloc::{AllocError, Global};
@@ -41,7 +42,7 @@ pub enum OutputForm {
 
 /// The options of a run.
 #[derive(Clone, Copy, Debug, PartialEq, Eq)]
-pub struct Asked {
+pub struct FollowOptions {
     /// The rule of the safety code.
     pub rule: CodeRule,
     /// Only lines with this remark are printed; `None` prints all.
@@ -66,7 +67,7 @@ pub struct Asked {
 
 /// Why no datagram of a line is followed.
 #[derive(Clone, Copy, Debug, PartialEq, Eq)]
-pub(crate) enum Unfollowed {
+pub(crate) enum SkipCause {
     /// The line is not a datagram.
     Fault(LineFault),
     /// Its datagram is passed over.
@@ -75,9 +76,9 @@ pub(crate) enum Unfollowed {
 
 /// The state of a capture that is being read.
 #[derive(Drop)]
-pub struct Course {
+pub struct CaptureReading {
     /// What is kept of its datagrams.
-    pub following: Following,
+    pub following: Follower,
     /// The time of the first datagram, in microseconds; `None` before it.
     pub first: Option<u64>,
     /// How many lines or frames were read.
@@ -92,40 +93,40 @@ pub struct Course {
     pub due: Option<u64>,
 }
 
-impl Course {
+impl CaptureReading {
     /// Returns the state before the first line, with the memory for all connections.
     ///
     /// # Errors
     ///
     /// `AllocError` if there is too little memory.
     pub fn new(alloc: Global) -> Result<Self, AllocError>
-        // A new `Course` has no connection.
+        // A new `CaptureReading` has no connection.
         ensures connections { IfOk result (λ course. course.following.connections ≡ []) }
-        // A new `Course` has counted no datagram.
+        // A new `CaptureReading` has counted no datagram.
         ensures datagrams { IfOk result (λ course. course.following.datagrams ≡ 0) }
-        // A new `Course` has counted no damaged datagram.
+        // A new `CaptureReading` has counted no damaged datagram.
         ensures damaged { IfOk result (λ course. course.following.damaged ≡ 0) }
-        // A new `Course` has counted no datagram with another safety code, and none with the right one.
+        // A new `CaptureReading` has counted no datagram with another safety code, and none with the right one.
         ensures miscoded { IfOk result (λ course. course.following.miscoded ≡ Some 0) }
-        // A new `Course` has no sums of forgotten connections.
+        // A new `CaptureReading` has no sums of forgotten connections.
         ensures gone { IfOk result (λ course. course.following.gone ≡ no_totals) }
-        // A new `Course` has forgotten no connection.
+        // A new `CaptureReading` has forgotten no connection.
         ensures forgotten { IfOk result (λ course. course.following.forgotten ≡ 0) }
-        // A new `Course` has no time of a first datagram.
+        // A new `CaptureReading` has no time of a first datagram.
         ensures first { IfOk result (λ course. course.first ≡ None) }
-        // A new `Course` has read no line.
+        // A new `CaptureReading` has read no line.
         ensures lines { IfOk result (λ course. course.lines ≡ 0) }
-        // A new `Course` has no unreadable line.
+        // A new `CaptureReading` has no unreadable line.
         ensures unreadable { IfOk result (λ course. course.unreadable ≡ 0) }
-        // A new `Course` has passed over nothing.
+        // A new `CaptureReading` has passed over nothing.
         ensures passed { IfOk result (λ course. course.passed ≡ no_passed) }
-        // A new `Course` has no time of a last datagram.
+        // A new `CaptureReading` has no time of a last datagram.
         ensures latest { IfOk result (λ course. course.latest ≡ 0) }
-        // A new `Course` has no time at which sums are due.
+        // A new `CaptureReading` has no time at which sums are due.
         ensures due { IfOk result (λ course. course.due ≡ None) }
     {
-        Ok(Course {
-            following: Following::new(alloc)?,
+        Ok(CaptureReading {
+            following: Follower::new(alloc)?,
             first: None,
             lines: 0,
             unreadable: 0,
@@ -145,7 +146,7 @@ impl Course {
     /// The error of the writer. What was written before it stays, and the line has been added.
     pub fn take_line<W: Write>(
         &mut self,
-        asked: &Asked,
+        asked: &FollowOptions,
         line: &[u8],
         buffer: &mut Buffer,
         writer: &mut W,
@@ -236,8 +237,8 @@ impl Course {
     /// Writes what is printed of a line.
     fn tell<W: Write>(
         &mut self,
-        asked: &Asked,
-        found: Result<(Record, Remark), Unfollowed>,
+        asked: &FollowOptions,
+        found: Result<(Record, Remark), SkipCause>,
         datagram: &[u8],
         writer: &mut W,
     ) -> io::Result<Option<LineFault>>
@@ -270,11 +271,11 @@ impl Course {
                 write_wanted(writer, asked, first, self.lines, &record, &remark, datagram)?;
                 Ok(None)
             }
-            Err(Unfollowed::Chosen(why)) => {
+            Err(SkipCause::Chosen(why)) => {
                 self.first = first_with(self.first, why);
                 Ok(None)
             }
-            Err(Unfollowed::Fault(fault)) => {
+            Err(SkipCause::Fault(fault)) => {
                 self.unreadable = self.unreadable.saturating_add(1);
                 Ok(Some(fault))
             }
@@ -286,7 +287,7 @@ impl Course {
     /// # Errors
     ///
     /// The error of the writer. What was written before it stays, and the next time is set.
-    pub fn sum_if_due<W: Write>(&mut self, asked: &Asked, writer: &mut W) -> io::Result<()>
+    pub fn sum_if_due<W: Write>(&mut self, asked: &FollowOptions, writer: &mut W) -> io::Result<()>
         // The sums are due next after whole periods since the first datagram, if they were due (`due_next`).
         ensures due { self.new.due ≡ due_next asked.now.every self.old.due self.old.first self.old.latest }
         // The sums change nothing in the connections and their counts.
@@ -321,7 +322,7 @@ impl Course {
     /// # Errors
     ///
     /// The error of the writer. What was written before it stays.
-    pub fn sum<W: Write>(&self, asked: &Asked, writer: &mut W) -> io::Result<()>
+    pub fn sum<W: Write>(&self, asked: &FollowOptions, writer: &mut W) -> io::Result<()>
         // On success the sums over all kept and forgotten connections are appended, with the counts of the course, in
         // the form that was `asked` for (`course_text`).
         ensures { OnOk result (Appends (W.contents writer.old) (W.contents writer.new)
@@ -401,11 +402,11 @@ pub(crate) fn start(first: Option<u64>, time: u64) -> u64
 
 /// Reads a line, and returns the size of its payload and its decoded datagram.
 fn hear_line(
-    asked: &Asked,
+    asked: &FollowOptions,
     first: Option<u64>,
     line: &[u8],
     buffer: &mut Buffer,
-) -> (usize, Result<(Record, Heard), Unfollowed>)
+) -> (usize, Result<(Record, DecodedDatagram), SkipCause>)
     // The second result is the decoded datagram of the line, or the reason why none is followed (`heard_line`).
     ensures heard { result.1 ≡ heard_line asked.now first (line_of line.now) }
     // The first bytes of the `buffer`, as many as the first result, are the payload of the line.
@@ -418,43 +419,43 @@ fn hear_line(
             let heard = hear_chosen(asked, first, &record, &buffer[..record.size]);
             (record.size, heard)
         }
-        Err(fault) => (0, Err(Unfollowed::Fault(fault))),
+        Err(fault) => (0, Err(SkipCause::Fault(fault))),
     }
 }
 
 /// Counts a line whose datagram is passed over.
-fn pass_line(passed: &mut PassedOver, heard: &Result<(Record, Heard), Unfollowed>)
+fn pass_line(passed: &mut PassedOver, heard: &Result<(Record, DecodedDatagram), SkipCause>)
     // Only a datagram that is passed over is counted, by its kind (`passed_behind`).
     ensures { passed.new ≡ passed_behind passed.old heard.now }
 {
     match heard {
-        Ok(_) | Err(Unfollowed::Fault(_)) => {}
-        Err(Unfollowed::Chosen(why)) => passed.count_skipped(*why),
+        Ok(_) | Err(SkipCause::Fault(_)) => {}
+        Err(SkipCause::Chosen(why)) => passed.count_skipped(*why),
     }
 }
 
 /// Decodes a datagram if it is followed.
 fn hear_chosen(
-    asked: &Asked,
+    asked: &FollowOptions,
     first: Option<u64>,
     record: &Record,
     octets: &[u8],
-) -> Result<(Record, Heard), Unfollowed>
+) -> Result<(Record, DecodedDatagram), SkipCause>
     // The result is the decoded datagram if it is followed, or the reason why it is passed over (`heard_chosen`).
     ensures { result ≡ heard_chosen asked.now first «record».now octets.now }
 {
     match skip(asked, first, record) {
         None => Ok((*record, hear(octets, &asked.rule))),
-        Some(why) => Err(Unfollowed::Chosen(why)),
+        Some(why) => Err(SkipCause::Chosen(why)),
     }
 }
 
 /// Adds the datagram of a line to the connections.
 fn follow(
-    following: &mut Following,
+    following: &mut Follower,
     number: u64,
-    heard: Result<(Record, Heard), Unfollowed>,
-) -> Result<(Record, Remark), Unfollowed>
+    heard: Result<(Record, DecodedDatagram), SkipCause>,
+) -> Result<(Record, Remark), SkipCause>
     // The result is the remark on a datagram that is followed; the reason for any other stays (`found_in`).
     ensures found { result ≡ found_in following.old.connections number heard }
     // Only a datagram that is followed changes the connections.
@@ -485,7 +486,7 @@ fn follow(
 /// Writes what is asked for of a datagram, if its remark is chosen.
 pub(crate) fn write_wanted<W: Write>(
     writer: &mut W,
-    asked: &Asked,
+    asked: &FollowOptions,
     first: u64,
     number: u64,
     record: &Record,
@@ -505,7 +506,7 @@ pub(crate) fn write_wanted<W: Write>(
 /// Writes a datagram in the form that is asked for.
 fn write_told<W: Write>(
     writer: &mut W,
-    asked: &Asked,
+    asked: &FollowOptions,
     first: u64,
     number: u64,
     record: &Record,
@@ -527,7 +528,7 @@ fn write_told<W: Write>(
 }
 
 /// Returns how times, ages and waits are printed.
-fn scale(asked: &Asked, first: u64) -> Scale
+fn scale(asked: &FollowOptions, first: u64) -> Scale
     // Times are printed in the form that is `asked` for, by the time of the `first` datagram.
     ensures { result ≡ scale_from asked.now first }
 {
@@ -541,7 +542,7 @@ fn scale(asked: &Asked, first: u64) -> Scale
 }
 
 /// Writes the telegrams of a datagram, if they are asked for.
-fn write_asked<W: Write>(writer: &mut W, asked: &Asked, datagram: &[u8]) -> io::Result<()>
+fn write_asked<W: Write>(writer: &mut W, asked: &FollowOptions, datagram: &[u8]) -> io::Result<()>
     // On success the lines of the telegrams are appended exactly if `asked` has `messages`.
     ensures { OnOk result (Appends (W.contents writer.old) (W.contents writer.new)
         (asked_telegrams asked.now datagram.now)) }

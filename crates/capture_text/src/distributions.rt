@@ -5,7 +5,7 @@ ghost use Rattle.std.specs.Io.KnownBytes.{Appends};
 ghost use Rattle.capture_text.specs.Distributions.{after_mark, bracket_json, count_sum, counts_text, distribution_json, distribution_text, measured_json, measured_text, number_text, one_counted};
 
 use crate::pieces::write_ends;
-use capture::{Distribution, Measured, class};
+use capture::{Distribution, Measurements, class};
 use pdu_text::write_text;
 use std::io;
 use std::io::Write;
@@ -15,7 +15,7 @@ use std::io::Write;
 pub(crate) fn write_measured<W: Write>(
     writer: &mut W,
     ends: (u32, u32),
-    measured: &Measured,
+    measured: &Measurements,
 ) -> io::Result<()>
     // On success the lines of round trips, skews, silences and waits are appended, in this order.
     ensures { OnOk result (Appends (W.contents writer.old) (W.contents writer.new)
@@ -109,7 +109,10 @@ fn write_count<W: Write>(writer: &mut W, mark: &str, count: u32) -> io::Result<(
 
 /// Writes the distributions of an end as an object.
 #[tactic(auto, unfolding(crate::specs::Distributions::measured_json))]
-pub(crate) fn write_measured_json<W: Write>(writer: &mut W, measured: &Measured) -> io::Result<()>
+pub(crate) fn write_measured_json<W: Write>(
+    writer: &mut W,
+    measured: &Measurements,
+) -> io::Result<()>
     // On success the object with round trips, skews, silences and waits is appended.
     ensures { OnOk result (Appends (W.contents writer.old) (W.contents writer.new)
         (measured_json measured.now)) }

@@ -8,7 +8,7 @@ use crate::choice::is_half_of;
 use crate::pieces::{Clock, TimeForm, write_address, write_since};
 use crate::summary::Scale;
 use crate::table_json::name_truth;
-use capture::{Address, Header, Judged, Record, Remark, Remarks, is_first_copy};
+use capture::{Address, Header, NumberOrder, Record, Remark, Remarks, is_first_copy};
 use pdu_text::write_text;
 use red_layer::pdu::RedFault;
 use safe_pdu::{Kind, Leaving, SafeFault};
@@ -178,7 +178,7 @@ fn open(opens: bool, kind: Kind) -> Option<Event>
 }
 
 /// Returns the event of a number on its channel, if it was judged there.
-fn miss_on_channel(channel: Option<Judged>) -> Option<Event>
+fn miss_on_channel(channel: Option<NumberOrder>) -> Option<Event>
     // Without a judgement there is no event.
     ensures { result ≡ channel_event channel }
 {
@@ -189,22 +189,22 @@ fn miss_on_channel(channel: Option<Judged>) -> Option<Event>
 }
 
 /// Returns the event of a number on every channel or on its own one.
-fn miss(everywhere: bool, judged: Judged) -> Option<Event>
+fn miss(everywhere: bool, judged: NumberOrder) -> Option<Event>
     // A gap is the event of its missing numbers, a late number is one of its own, and any other number is no event.
     ensures { result ≡ number_event everywhere judged }
 {
     match judged {
-        Judged::Ahead(missing) => Some(Event::Lost {
+        NumberOrder::Ahead(missing) => Some(Event::Lost {
             missing,
             everywhere,
         }),
-        Judged::Late => Some(Event::Late { everywhere }),
-        Judged::First
-        | Judged::Next
-        | Judged::Repeat(_)
-        | Judged::Differs(_)
-        | Judged::Stale
-        | Judged::Anew => None,
+        NumberOrder::Late => Some(Event::Late { everywhere }),
+        NumberOrder::First
+        | NumberOrder::Next
+        | NumberOrder::Repeat(_)
+        | NumberOrder::Differs(_)
+        | NumberOrder::Stale
+        | NumberOrder::Anew => None,
     }
 }
 

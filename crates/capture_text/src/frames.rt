@@ -11,7 +11,7 @@ ghost use Rattle.capture_text.specs.FrameSteps.{connections_seen, damaged_seen, 
 ghost use Rattle.capture_text.specs.Passing.{passed_within};
 ghost use Rattle.capture_text.specs.Steps.{first_of, first_skipped, skipped_by, told_text};
 
-use crate::course::{Asked, Course, start, write_wanted};
+use crate::course::{CaptureReading, FollowOptions, start, write_wanted};
 use capture::{Found, Link, Passed, Record, find_datagram, hear, is_between, is_followed};
 use std::io;
 use std::io::Write;
@@ -55,7 +55,7 @@ pub(crate) enum Seen {
     Unread(FrameFault),
 }
 
-impl Course {
+impl CaptureReading {
     /// Adds a frame of a recording, and writes what is printed of its datagram. Returns why a datagram is not read.
     ///
     /// Each frame counts as a line, even if it carries something else.
@@ -65,7 +65,7 @@ impl Course {
     /// The error of the writer. What was written before it stays, and the frame has been added.
     pub fn take_frame<W: Write>(
         &mut self,
-        asked: &Asked,
+        asked: &FollowOptions,
         link: Option<Link>,
         time: u64,
         octets: &[u8],
@@ -141,7 +141,7 @@ impl Course {
     /// Adds the datagram of a frame that was counted.
     fn take_datagram<W: Write>(
         &mut self,
-        asked: &Asked,
+        asked: &FollowOptions,
         record: &Record,
         payload: &[u8],
         writer: &mut W,
@@ -195,7 +195,13 @@ impl Course {
 }
 
 /// Finds the datagram of a frame.
-fn look(asked: &Asked, first: Option<u64>, link: Option<Link>, time: u64, octets: &[u8]) -> Seen
+fn look(
+    asked: &FollowOptions,
+    first: Option<u64>,
+    link: Option<Link>,
+    time: u64,
+    octets: &[u8],
+) -> Seen
     requires { length octets.now < 2 ^ 32 }
     // An unknown link header is a fault. A datagram that is found is kept if one of its ports is chosen and its time
     // is asked for, and is otherwise passed over (`frame_seen`).
@@ -219,7 +225,13 @@ fn look(asked: &Asked, first: Option<u64>, link: Option<Link>, time: u64, octets
 }
 
 /// Returns a datagram that was found if it is followed, or why it is passed over.
-fn choose(asked: &Asked, first: Option<u64>, record: Record, start: usize, end: usize) -> Seen
+fn choose(
+    asked: &FollowOptions,
+    first: Option<u64>,
+    record: Record,
+    start: usize,
+    end: usize,
+) -> Seen
     requires { start ≤ end }
     // A datagram is followed if one of its ports is chosen and its time is asked for (`seen_chosen`).
     ensures seen { result ≡ seen_chosen asked.now first «record» start end }
@@ -233,7 +245,7 @@ fn choose(asked: &Asked, first: Option<u64>, record: Record, start: usize, end: 
 }
 
 /// Returns why a datagram is passed over; `None` if it is followed.
-pub(crate) fn skip(asked: &Asked, first: Option<u64>, record: &Record) -> Option<Skipped>
+pub(crate) fn skip(asked: &FollowOptions, first: Option<u64>, record: &Record) -> Option<Skipped>
     // A datagram without a chosen port is passed over, then one whose time is not asked for (`skipped_by`).
     ensures { result ≡ skipped_by asked.now first «record».now }
 {

@@ -30,7 +30,7 @@ mod table_json;
 mod telegrams;
 
 pub use choice::{Remarkable, is_wanted};
-pub use course::{Asked, Course, OutputForm, write_fault};
+pub use course::{CaptureReading, FollowOptions, OutputForm, write_fault};
 pub use events::write_events;
 pub use frames::{FrameFault, write_frame_fault};
 pub use json::write_json;

@@ -6,7 +6,7 @@ ghost use Rattle.capture_text.specs.RemarkText.{again_text, age_text, asked_text
 
 use crate::choice::is_half_of;
 use crate::reasons::write_reasons;
-use capture::{Judged, Remarks};
+use capture::{NumberOrder, Remarks};
 use safe_pdu::Leaving;
 use std::io;
 use std::io::Write;
@@ -70,7 +70,7 @@ fn write_others<W: Write>(writer: &mut W, t_max: u32, remarks: &Remarks) -> io::
 }
 
 /// Writes how a number followed, if it was judged.
-fn write_maybe<W: Write>(writer: &mut W, name: &str, judged: Option<Judged>) -> io::Result<()>
+fn write_maybe<W: Write>(writer: &mut W, name: &str, judged: Option<NumberOrder>) -> io::Result<()>
     // On success the text of `judged` is appended; without it, nothing is.
     ensures { OnOk result (Appends (W.contents writer.old) (W.contents writer.new) (maybe_text name.now judged)) }
 {
@@ -81,19 +81,19 @@ fn write_maybe<W: Write>(writer: &mut W, name: &str, judged: Option<Judged>) -> 
 }
 
 /// Writes how a number followed; nothing if it was the first or the next.
-fn write_judged<W: Write>(writer: &mut W, name: &str, judged: Judged) -> io::Result<()>
+fn write_judged<W: Write>(writer: &mut W, name: &str, judged: NumberOrder) -> io::Result<()>
     // On success the `name` of the numbers and the judgement are appended, with the gap or the earlier line; for the
     // first and the next, nothing is.
     ensures { OnOk result (Appends (W.contents writer.old) (W.contents writer.new) (judged_text name.now judged)) }
 {
     match judged {
-        Judged::First | Judged::Next => Ok(()),
-        Judged::Ahead(passed) => write!(writer, " {name} ahead {passed}"),
-        Judged::Late => write!(writer, " {name} late"),
-        Judged::Repeat(line) => write!(writer, " {name} repeat of line {line}"),
-        Judged::Differs(line) => write!(writer, " {name} differs from line {line}"),
-        Judged::Stale => write!(writer, " {name} stale"),
-        Judged::Anew => write!(writer, " {name} anew"),
+        NumberOrder::First | NumberOrder::Next => Ok(()),
+        NumberOrder::Ahead(passed) => write!(writer, " {name} ahead {passed}"),
+        NumberOrder::Late => write!(writer, " {name} late"),
+        NumberOrder::Repeat(line) => write!(writer, " {name} repeat of line {line}"),
+        NumberOrder::Differs(line) => write!(writer, " {name} differs from line {line}"),
+        NumberOrder::Stale => write!(writer, " {name} stale"),
+        NumberOrder::Anew => write!(writer, " {name} anew"),
     }
 }
 

@@ -18,7 +18,7 @@ ghost use Rattle.capture_text.specs.Lines.{cut, lines_of};
 ghost use Rattle.capture_text.specs.Steps.{without_end};
 ghost use Rattle.capture_text.specs.Stops.{output_stop, status_of};
 
-use crate::course::{Asked, Course, write_fault};
+use crate::course::{CaptureReading, FollowOptions, write_fault};
 use crate::frames::{FrameFault, write_frame_fault};
 use crate::reading::{LINE_MAX, take_line};
 use capture::{
@@ -80,7 +80,7 @@ pub enum Stop {
 pub fn run<R: Read + Drop, O: Write, E: Write>(
     alloc: Global,
     reader: R,
-    asked: &Asked,
+    asked: &FollowOptions,
     out: &mut O,
     err: &mut E,
 ) -> FollowStatus {
@@ -107,7 +107,7 @@ pub fn status_after(ended: Result<u64, Stop>) -> FollowStatus
 fn follow_input<R: Read + Drop, O: Write, E: Write>(
     alloc: Global,
     reader: R,
-    asked: &Asked,
+    asked: &FollowOptions,
     out: &mut O,
     err: &mut E,
 ) -> Result<u64, Stop> {
@@ -115,7 +115,7 @@ fn follow_input<R: Read + Drop, O: Write, E: Write>(
     let mut front = [0u8; 4];
     let size = read_whole(&mut reader, &mut front)?;
     let mut writer = BufWriter::new(alloc, out).map_err(|_| Stop::Memory)?;
-    let mut course = Course::new(alloc).map_err(|_| Stop::Memory)?;
+    let mut course = CaptureReading::new(alloc).map_err(|_| Stop::Memory)?;
     let mut recording = Recording::new();
     match recording.take(&front[..size]) {
         Ok(BlockContent::Nothing) => {
@@ -151,7 +151,7 @@ fn follow_input<R: Read + Drop, O: Write, E: Write>(
 
 /// Returns how many lines were not a datagram, connections were forgotten, and datagrams have another safety code if
 /// none has the right one.
-fn faults_of(course: &Course) -> u64
+fn faults_of(course: &CaptureReading) -> u64
     // The three counts are added, limited to 2^64 - 1 (`faults_in`).
     ensures { result ≡ faults_in course.now.unreadable course.now.following.forgotten course.now.following.miscoded }
 {
@@ -160,7 +160,7 @@ fn faults_of(course: &Course) -> u64
 }
 
 /// Returns how many datagrams have another safety code, if none has the right one.
-fn miscoded(course: &Course) -> u64
+fn miscoded(course: &CaptureReading) -> u64
     // The result is 0 as soon as a datagram has the right code (`all_miscoded`).
     ensures { result ≡ all_miscoded course.now.following.miscoded }
 {
@@ -171,7 +171,7 @@ fn miscoded(course: &Course) -> u64
 }
 
 /// Reports that all datagrams have another safety code.
-fn tell_miscoded<E: Write>(course: &Course, err: &mut E) -> Result<(), Stop>
+fn tell_miscoded<E: Write>(course: &CaptureReading, err: &mut E) -> Result<(), Stop>
     // On success one line with their number is appended to `err` if datagrams have another code, and none has the right
     // one; otherwise nothing is (`miscoded_told`).
     ensures { OnOk result (Appends (E.contents err.old) (E.contents err.new)
@@ -242,7 +242,7 @@ pub fn name_of_foreign(form: ForeignForm) -> &'static str
 
 /// Reports connections that were forgotten.
 #[tactic(auto, unfolding(crate::specs::FaultText::forgotten_text))]
-fn tell_forgotten<E: Write>(course: &Course, err: &mut E) -> Result<(), Stop>
+fn tell_forgotten<E: Write>(course: &CaptureReading, err: &mut E) -> Result<(), Stop>
     // On success one line with their number is appended to `err` if connections were forgotten; otherwise nothing is
     // (`forgotten_told`).
     ensures { OnOk result (Appends (E.contents err.old) (E.contents err.new)
@@ -265,8 +265,8 @@ fn tell_forgotten<E: Write>(course: &Course, err: &mut E) -> Result<(), Stop>
 fn follow_lines<R: Read + Drop, W: Write, E: Write, A: Allocator + Copy>(
     alloc: A,
     reader: &mut BufReader<R, A>,
-    asked: &Asked,
-    course: &mut Course,
+    asked: &FollowOptions,
+    course: &mut CaptureReading,
     writer: &mut W,
     err: &mut E,
 ) -> Result<(), Stop>
@@ -322,8 +322,8 @@ fn next_line<R: BufRead, A: Allocator>(reader: &mut R, line: &mut Vec<u8, A>) ->
 
 /// Adds a line, or the prefix of one that is too long, and prints the sums if they are due.
 fn follow_line<W: Write, E: Write>(
-    course: &mut Course,
-    asked: &Asked,
+    course: &mut CaptureReading,
+    asked: &FollowOptions,
     line: &[u8],
     buffer: &mut Buffer,
     writer: &mut W,
@@ -344,7 +344,11 @@ fn follow_line<W: Write, E: Write>(
 }
 
 /// Prints the sums if they are due.
-fn write_due<W: Write>(course: &mut Course, asked: &Asked, writer: &mut W) -> Result<(), Stop>
+fn write_due<W: Write>(
+    course: &mut CaptureReading,
+    asked: &FollowOptions,
+    writer: &mut W,
+) -> Result<(), Stop>
     // The state has the next time of sums; nothing else changes (`with_sums`).
     ensures read { read_by course.new ≡ with_sums asked.now (read_by course.old) }
     // On success the sums are appended to `writer` if they are due.
@@ -359,8 +363,8 @@ fn write_due<W: Write>(course: &mut Course, asked: &Asked, writer: &mut W) -> Re
 
 /// Adds a line, or the prefix of one that is too long. Its text goes to `writer`, its fault to `err`.
 fn take_any<W: Write, E: Write>(
-    course: &mut Course,
-    asked: &Asked,
+    course: &mut CaptureReading,
+    asked: &FollowOptions,
     line: &[u8],
     buffer: &mut Buffer,
     writer: &mut W,
@@ -387,8 +391,8 @@ fn follow_frames<R: Read + Drop, W: Write, E: Write, A: Allocator + Copy>(
     alloc: A,
     reader: &mut BufReader<R, A>,
     recording: &mut Recording,
-    asked: &Asked,
-    course: &mut Course,
+    asked: &FollowOptions,
+    course: &mut CaptureReading,
     writer: &mut W,
     err: &mut E,
 ) -> Result<(), Stop> {
@@ -429,9 +433,9 @@ fn make_room<A: Allocator>(block: &mut Vec<u8, A>, wanted: usize) -> Result<(), 
 /// Adds a block of a recording, prints the sums if they are due, and returns whether the recording goes on. A block
 /// with a fault is reported, and ends it.
 fn take_block<W: Write, E: Write>(
-    course: &mut Course,
+    course: &mut CaptureReading,
     recording: &mut Recording,
-    asked: &Asked,
+    asked: &FollowOptions,
     block: &[u8],
     writer: &mut W,
     err: &mut E,
@@ -467,8 +471,8 @@ fn take_block<W: Write, E: Write>(
 
 /// Adds a line without its line feed. Its text goes to `writer`, its fault to `err`.
 fn take_text<W: Write, E: Write>(
-    course: &mut Course,
-    asked: &Asked,
+    course: &mut CaptureReading,
+    asked: &FollowOptions,
     line: &[u8],
     buffer: &mut Buffer,
     writer: &mut W,
@@ -491,7 +495,7 @@ fn take_text<W: Write, E: Write>(
 }
 
 /// Adds a line that is too long to be kept.
-fn take_long<E: Write>(course: &mut Course, err: &mut E) -> Result<(), Stop>
+fn take_long<E: Write>(course: &mut CaptureReading, err: &mut E) -> Result<(), Stop>
     // Both the lines and the unreadable lines grow by 1; nothing else changes (`with_long`).
     ensures read { read_by course.new ≡ with_long (read_by course.old) }
     // On success the fault for a long line is appended to `err`, with the number of the line.
@@ -585,8 +589,8 @@ fn flush<W: Write>(writer: &mut W) -> Result<(), Stop>
 
 /// Adds the frame of a block, and prints the sums if they are due.
 fn take_shown<W: Write, E: Write>(
-    course: &mut Course,
-    asked: &Asked,
+    course: &mut CaptureReading,
+    asked: &FollowOptions,
     framed: &Framed,
     block: &[u8],
     writer: &mut W,
@@ -615,8 +619,8 @@ fn take_shown<W: Write, E: Write>(
 
 /// Adds the frame of a block, and reports why its datagram is not read.
 fn take_framed<W: Write, E: Write>(
-    course: &mut Course,
-    asked: &Asked,
+    course: &mut CaptureReading,
+    asked: &FollowOptions,
     framed: &Framed,
     block: &[u8],
     writer: &mut W,
@@ -658,7 +662,12 @@ fn tell_frame<E: Write>(err: &mut E, number: u64, fault: FrameFault) -> Result<(
 }
 
 /// Ends a recording when too few bytes came for the next block. Within a block that is reported.
-fn end<E: Write>(course: &mut Course, part: FilePart, size: usize, err: &mut E) -> Result<(), Stop>
+fn end<E: Write>(
+    course: &mut CaptureReading,
+    part: FilePart,
+    size: usize,
+    err: &mut E,
+) -> Result<(), Stop>
     // Before a record or block of which no byte came nothing changes; anywhere else the recording counts as
     // unreadable (`ended_at`).
     ensures read { read_by course.new ≡ ended_at part size (read_by course.old) }
@@ -692,7 +701,7 @@ pub fn is_whole(part: FilePart, size: usize) -> bool
 
 /// Reports why a recording cannot go on. What was read of it stays.
 #[tactic(auto, unfolding(crate::specs::FaultText::recording_text))]
-fn give_up<E: Write>(course: &mut Course, why: &str, err: &mut E) -> Result<(), Stop>
+fn give_up<E: Write>(course: &mut CaptureReading, why: &str, err: &mut E) -> Result<(), Stop>
     // The recording counts as unreadable; what was read of it stays (`broken_off`).
     ensures read { read_by course.new ≡ broken_off (read_by course.old) }
     // On success one line is appended to `err`, with the number of the last frame and the reason `why`.

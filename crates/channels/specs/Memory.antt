@@ -1,7 +1,7 @@
 -- Channels in memory: their state, and how a send and a reception change it.
 use Rattle.std.specs.Prelude.{ℕ, ◌+◌, ◌-◌, Bool, false, ◌&&◌, nat_lt, nat_le, Some, None, List, [], ◌∷◌, ◌++◌, length, take, if◌then◌else◌}
 use Rattle.octets.specs.declared.limits.TheConstants.{RED_PDU_MAX}
-use Rattle.channels.specs.Told.{Sending, Answer, Told, counted}
+use Rattle.channels.specs.Told.{Sending, Answer, ChannelHistory, count_failure}
 
 -- the state of channels in memory
 pub record Kept : Type 0 where
@@ -23,7 +23,7 @@ pub record Kept : Type 0 where
   pub failed_receives : ℕ
 
 -- the state as contracts of `Channels` see it: both lists are known; no send is sure on a channel, since all channels share the room
-abbrev pub told_of : Kept → Told
+abbrev pub told_of : Kept → ChannelHistory
 told_of k =
     record {
       sent = Some k.sent;
@@ -65,7 +65,7 @@ abbrev pub with_sending : Sending → Kept → Kept
 with_sending x k =
     if goes_out x.1 k
     then record k { sent = k.sent ++ x ∷ []; sends_left = k.sends_left - 1 }
-    else record k { failed_sends = counted false k.failed_sends }
+    else record k { failed_sends = count_failure false k.failed_sends }
 
 -- the first waiting datagram cut to the buffer's length, or None if nothing waits
 abbrev pub first_answer : ℕ → List Sending → Answer
@@ -87,4 +87,4 @@ with_reception size k =
       asked = size;
       answers_left = k.answers_left - 1;
     }
-    else record k { asked = size; failed_receives = counted false k.failed_receives }
+    else record k { asked = size; failed_receives = count_failure false k.failed_receives }

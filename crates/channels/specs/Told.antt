@@ -12,7 +12,7 @@ abbrev pub Answer : Type 0
 Answer = Option (ℕ × List ℕ)
 
 -- what contracts know of channels; the first three fields are None for sockets
-pub record Told : Type 0 where
+pub record ChannelHistory : Type 0 where
   -- the datagrams sent, in order, if known
   pub sent : Option (List Sending)
   -- the results of the receptions, in order, if known
@@ -27,15 +27,15 @@ pub record Told : Type 0 where
   pub room : ℕ → ℕ
 
 -- the count of failures after a call, modulo 2^64: one more if it failed
-abbrev pub counted : Bool → ℕ → ℕ
-counted went n = if went then n else (n + 1) % 2 ^ 64
+abbrev pub count_failure : Bool → ℕ → ℕ
+count_failure went n = if went then n else (n + 1) % 2 ^ 64
 
 -- one send: it succeeds, or is counted as failed
-pub record Sends (went : Bool) (before : Told) (x : Sending) (after : Told) : Type 0 where
+pub record Sends (went : Bool) (before : ChannelHistory) (x : Sending) (after : ChannelHistory) : Type 0 where
   -- a successful send appends the datagram and its channel
   pub sent : after.sent ≡ option_map (λ xs. xs ++ (if went then x ∷ [] else [])) before.sent
   -- a failed send is counted
-  pub failed : after.failed_sends ≡ counted went before.failed_sends
+  pub failed : after.failed_sends ≡ count_failure went before.failed_sends
   -- a send on a channel with sure room succeeds
   pub sure : 1 ≤ before.room x.0 → length x.1 ≤ RED_PDU_MAX → went ≡ true
   -- a send uses at most one sure place, of its channel
@@ -46,23 +46,23 @@ pub record Sends (went : Bool) (before : Told) (x : Sending) (after : Told) : Ty
   pub failed_receives : after.failed_receives ≡ before.failed_receives
 
 -- one send, successful or not
-abbrev pub SendsOne : Told → Sending → Told → Type 0
+abbrev pub SendsOne : ChannelHistory → Sending → ChannelHistory → Type 0
 SendsOne before x after = (went : Bool) × Sends went before x after
 
 -- the result that a reception appends: the channel and the bytes at the start of the buffer, or None; a failed one appends nothing
-abbrev pub answered : Result (Option (ℕ × ℕ)) ChannelFault → List ℕ → List Answer
-answered (Ok (Some (channel, size))) buffer = Some (channel, take size buffer) ∷ []
-answered (Ok None) buffer = None ∷ []
-answered (Err fault) buffer = []
+abbrev pub answers_of : Result (Option (ℕ × ℕ)) ChannelFault → List ℕ → List Answer
+answers_of (Ok (Some (channel, size))) buffer = Some (channel, take size buffer) ∷ []
+answers_of (Ok None) buffer = None ∷ []
+answers_of (Err fault) buffer = []
 
 -- what is known after one reception: its result is appended, or its failure counted
-abbrev pub after_receive : Result (Option (ℕ × ℕ)) ChannelFault → List ℕ → Told → Told
+abbrev pub after_receive : Result (Option (ℕ × ℕ)) ChannelFault → List ℕ → ChannelHistory → ChannelHistory
 after_receive result buffer before =
     record {
       sent = before.sent;
-      answers = option_map (λ xs. xs ++ answered result buffer) before.answers;
+      answers = option_map (λ xs. xs ++ answers_of result buffer) before.answers;
       asked = option_map (λ _. length buffer) before.asked;
       failed_sends = before.failed_sends;
-      failed_receives = counted (is_ok result) before.failed_receives;
+      failed_receives = count_failure (is_ok result) before.failed_receives;
       room = before.room;
     }

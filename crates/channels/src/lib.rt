@@ -5,7 +5,7 @@
 #![tactic(auto)]
 
 ghost use Rattle.std.specs.Prelude.{◌≡◌, ◌≤◌, length, is_ok, IfOk, IfSome};
-ghost use Rattle.channels.specs.Told.{Told, Sends, after_receive};
+ghost use Rattle.channels.specs.Told.{ChannelHistory, Sends, after_receive};
 
 mod memory;
 mod note;
@@ -30,7 +30,7 @@ pub enum ChannelFault {
 pub trait Channels {
     /// What contracts know of the channels: the datagrams sent, the results of `receive`, and how often each of
     /// the two calls failed.
-    ghost told: { Self → Told };
+    ghost told: { Self → ChannelHistory };
 
     /// Sends a datagram of at most 1,258 bytes on a channel.
     ///

@@ -6,7 +6,7 @@ ghost use Rattle.std.specs.Prelude.{◌≡◌, ◌≤◌, ◌^◌, IfOk, OnOk};
 use crate::switch::{Switch, turn};
 use end_settings::Side;
 use safe_machine::ConnectionState;
-use settings_file::{Ends, Settings, SettingsFault, Word, settings};
+use settings_file::{Ends, Settings, SettingsFault, Subcommand, settings};
 use stack_end::{End, OpenFault};
 use std::alloc::Global;
 use std::env::Env;
@@ -137,7 +137,7 @@ fn read_settings<R: AllocGlobal + Files>(rt: &R, path: &str) -> Result<Settings,
     let Ok(text) = fs::read_to_string(rt, path) else {
         return Err(Stop::File);
     };
-    match settings(rt.alloc(), Word::Il, text.as_str()) {
+    match settings(rt.alloc(), Subcommand::Il, text.as_str()) {
         Ok(Ends::Il(il)) => Ok(il),
         Ok(_) => Err(Stop::File),
         Err(fault) => Err(Stop::Settings(fault)),

@@ -17,11 +17,11 @@ use Rattle.safe_pdu.specs.declared.reasons.Detail.TheVariants.{ConfirmedNumber, 
 use Rattle.safe_pdu.specs.declared.reasons.Reason.{Reason}
 use Rattle.safe_pdu.specs.declared.reasons.Reason.TheVariants.{ProtocolError, RetransmissionImpossible, SequenceError, UnexpectedPdu, WrongVersion}
 use Rattle.safe_machine.specs.Connections.{in_turn, is_closed}
-use Rattle.safe_machine.specs.Decision.{answering, as_client, by_cell, by_connection, by_table, cs_fits, cs_step, cts_fits, distance, in_down, is_foreign}
-use Rattle.safe_machine.specs.Decision.{is_goodbye, is_ours, tested}
+use Rattle.safe_machine.specs.Decision.{decide_request, as_client, by_cell, by_connection, by_table, cs_fits, cs_step, cts_fits, distance, in_down, is_foreign}
+use Rattle.safe_machine.specs.Decision.{is_goodbye, is_ours, decide_by_tests}
 use Rattle.safe_machine.specs.Table.{cell, request_row, run_row, start_row, up_row}
-use Rattle.safe_machine.specs.Turns.{Turn as MachineTurn, answers_early, answers_next, asks, carries_out, leaves, responds, still, accepts, connects}
-use Rattle.safe_machine.specs.Turns.{moved_to, rejects, resumes, takes_next}
+use Rattle.safe_machine.specs.Turns.{Turn as MachineTurn, answer_early_turn, answer_next_turn, request_turn, decision_turn, leave_turn, response_turn, still, acceptance_turn, connection_turn}
+use Rattle.safe_machine.specs.Turns.{moved_to, rejection_turn, resume, take_next_turn}
 use Rattle.safe_machine.specs.View.{View}
 use Rattle.safe_machine.specs.declared.ConnectionState.{ConnectionState}
 use Rattle.safe_machine.specs.declared.ConnectionState.TheVariants.{Closed, Down, RetrReq as Requesting, RetrRun, Start, Up}
@@ -30,50 +30,50 @@ use Rattle.safe_machine.specs.declared.ConnectionState.TheVariants.{Closed, Down
 
 pub record Effects (P : MachineTurn → Type 0) (p : Pdu) (now : ℕ) (v : View) : Type 0 where
   pub stays : P (still v)
-  pub leaves : (reason : Reason) (detail : Detail) → P (leaves reason detail now v)
+  pub leaves : (reason : Reason) (detail : Detail) → P (leave_turn reason detail now v)
   pub shuts : P (moved_to Closed (still v))
-  pub rejects : P (rejects p now v)
-  pub accepts : p.kind ≡ ConnReq → P (accepts p now v)
-  pub connects : p.kind ≡ ConnResp → P (connects p now v)
-  pub takes : (connection : ConnectionState) → P (takes_next connection p now v)
-  pub asks : P (asks now v)
-  pub resumes : P (still (resumes p v))
-  pub next : P (answers_next p now v)
-  pub early : P (answers_early p now v)
+  pub rejects : P (rejection_turn p now v)
+  pub accepts : p.kind ≡ ConnReq → P (acceptance_turn p now v)
+  pub connects : p.kind ≡ ConnResp → P (connection_turn p now v)
+  pub takes : (connection : ConnectionState) → P (take_next_turn connection p now v)
+  pub asks : P (request_turn now v)
+  pub resumes : P (still (resume p v))
+  pub next : P (answer_next_turn p now v)
+  pub early : P (answer_early_turn p now v)
 
 module _ (P : MachineTurn → Type 0) (p : Pdu) (now : ℕ) (v : View) (h : Effects P p now v) where
-  tested-has : (d : _) → P (carries_out p now d v) → P (carries_out p now (tested v p now d) v)
+  tested-has : (d : _) → P (decision_turn p now d v) → P (decision_turn p now (decide_by_tests v p now d) v)
   tested-has d k =
-      by_cond (λ e. P (carries_out p now e v)) (cs_fits v p) _ _
-      (λ _. by_cond (λ e. P (carries_out p now e v)) (cts_fits v p now) _ _ (λ _. k) (λ _. h.leaves ProtocolError ConfirmedTimestamp))
+      by_cond (λ e. P (decision_turn p now e v)) (cs_fits v p) _ _
+      (λ _. by_cond (λ e. P (decision_turn p now e v)) (cts_fits v p now) _ _ (λ _. k) (λ _. h.leaves ProtocolError ConfirmedTimestamp))
       (λ _. h.leaves ProtocolError ConfirmedNumber)
 
-  down-has : (k : Kind) → p.kind ≡ k → P (carries_out p now (in_down p k) v)
-  down-has ConnReq e = by_cond (λ d. P (carries_out p now d v)) (is_ours p.body) _ _ (λ _. h.accepts e) (λ _. h.rejects)
+  down-has : (k : Kind) → p.kind ≡ k → P (decision_turn p now (in_down p k) v)
+  down-has ConnReq e = by_cond (λ d. P (decision_turn p now d v)) (is_ours p.body) _ _ (λ _. h.accepts e) (λ _. h.rejects)
   down-has _ e = h.stays
 
-  client-has : (k : Kind) → p.kind ≡ k → P (carries_out p now (as_client v p now k) v)
+  client-has : (k : Kind) → p.kind ≡ k → P (decision_turn p now (as_client v p now k) v)
   client-has ConnResp e =
-      by_cond (λ d. P (carries_out p now d v)) (is_ours p.body) _ _ (λ _. tested-has _ (h.connects e)) (λ _. h.leaves WrongVersion Unspecified)
+      by_cond (λ d. P (decision_turn p now d v)) (is_ours p.body) _ _ (λ _. tested-has _ (h.connects e)) (λ _. h.leaves WrongVersion Unspecified)
   client-has _ e = h.leaves UnexpectedPdu Unspecified
 
-  answering-has : (d : ℕ) → P (carries_out p now (answering v p now d) v)
+  answering-has : (d : ℕ) → P (decision_turn p now (decide_request v p now d) v)
   answering-has d =
-      by_cond (λ e. P (carries_out p now e v)) (nat_le (v.expected + d) v.answered) _ _ (λ _. h.stays)
-      (λ _. by_cond (λ e. P (carries_out p now e v)) (cs_fits v p) _ _
-      (λ _. by_cond (λ e. P (carries_out p now e v)) ((d == 0) && in_turn v.connection) _ _
-      (λ _. by_cond (λ e. P (carries_out p now e v)) (cts_fits v p now) _ _ (λ _. h.next) (λ _. h.leaves ProtocolError ConfirmedTimestamp))
+      by_cond (λ e. P (decision_turn p now e v)) (nat_le (v.expected + d) v.answered) _ _ (λ _. h.stays)
+      (λ _. by_cond (λ e. P (decision_turn p now e v)) (cs_fits v p) _ _
+      (λ _. by_cond (λ e. P (decision_turn p now e v)) ((d == 0) && in_turn v.connection) _ _
+      (λ _. by_cond (λ e. P (decision_turn p now e v)) (cts_fits v p now) _ _ (λ _. h.next) (λ _. h.leaves ProtocolError ConfirmedTimestamp))
       (λ _. h.early))
-      (λ _. by_cond (λ e. P (carries_out p now e v)) (nat_le 0x8000_0000 (cs_step v p)) _ _ (λ _. h.stays)
+      (λ _. by_cond (λ e. P (decision_turn p now e v)) (nat_le 0x8000_0000 (cs_step v p)) _ _ (λ _. h.stays)
       (λ _. h.leaves RetransmissionImpossible Unspecified)))
 
-  start-has : (d : ℕ) (next : Bool) (k : Kind) → P (carries_out p now (by_cell v p now d (start_row next k)) v)
+  start-has : (d : ℕ) (next : Bool) (k : Kind) → P (decision_turn p now (by_cell v p now d (start_row next k)) v)
   start-has d true Heartbeat = tested-has _ (h.takes Up)
   start-has d false Heartbeat = h.leaves SequenceError Unspecified
   start-has d false Data = h.leaves SequenceError Unspecified
   start-has d _ _ = h.leaves UnexpectedPdu Unspecified
 
-  up-has : (d : ℕ) (next : Bool) (k : Kind) → P (carries_out p now (by_cell v p now d (up_row next k)) v)
+  up-has : (d : ℕ) (next : Bool) (k : Kind) → P (decision_turn p now (by_cell v p now d (up_row next k)) v)
   up-has d true Heartbeat = tested-has _ (h.takes Up)
   up-has d true Data = tested-has _ (h.takes Up)
   up-has d false Heartbeat = h.asks
@@ -81,7 +81,7 @@ module _ (P : MachineTurn → Type 0) (p : Pdu) (now : ℕ) (v : View) (h : Effe
   up-has d _ RetrReq = answering-has d
   up-has d _ _ = h.leaves UnexpectedPdu Unspecified
 
-  run-has : (d : ℕ) (next : Bool) (k : Kind) → P (carries_out p now (by_cell v p now d (run_row next k)) v)
+  run-has : (d : ℕ) (next : Bool) (k : Kind) → P (decision_turn p now (by_cell v p now d (run_row next k)) v)
   run-has d true Heartbeat = tested-has _ (h.takes Up)
   run-has d true Data = tested-has _ (h.takes Up)
   run-has d true RetrData = tested-has _ (h.takes RetrRun)
@@ -91,7 +91,7 @@ module _ (P : MachineTurn → Type 0) (p : Pdu) (now : ℕ) (v : View) (h : Effe
   run-has d _ RetrReq = answering-has d
   run-has d _ _ = h.leaves UnexpectedPdu Unspecified
 
-  request-has : (d : ℕ) (k : Kind) → P (carries_out p now (by_cell v p now d (request_row k)) v)
+  request-has : (d : ℕ) (k : Kind) → P (decision_turn p now (by_cell v p now d (request_row k)) v)
   request-has d Heartbeat = h.stays
   request-has d Data = h.stays
   request-has d RetrData = h.stays
@@ -99,29 +99,29 @@ module _ (P : MachineTurn → Type 0) (p : Pdu) (now : ℕ) (v : View) (h : Effe
   request-has d RetrResp = tested-has _ h.resumes
   request-has d _ = h.leaves UnexpectedPdu Unspecified
 
-  cell-has : (d : ℕ) (c : ConnectionState) (next : Bool) (k : Kind) → P (carries_out p now (by_cell v p now d (cell c next k)) v)
+  cell-has : (d : ℕ) (c : ConnectionState) (next : Bool) (k : Kind) → P (decision_turn p now (by_cell v p now d (cell c next k)) v)
   cell-has d Start next k = start-has d next k
   cell-has d Up next k = up-has d next k
   cell-has d RetrRun next k = run-has d next k
   cell-has d Requesting next k = request-has d k
   cell-has d _ next k = h.stays
 
-  table-has : (d : ℕ) → P (carries_out p now (by_table v p now d) v)
+  table-has : (d : ℕ) → P (decision_turn p now (by_table v p now d) v)
   table-has d =
-      by_cond (λ e. P (carries_out p now e v)) (nat_le d (REACH * v.settings.n_sendmax)) _ _ (λ _. cell-has d v.connection (d == 0) p.kind) (λ _. h.stays)
+      by_cond (λ e. P (decision_turn p now e v)) (nat_le d (REACH * v.settings.n_sendmax)) _ _ (λ _. cell-has d v.connection (d == 0) p.kind) (λ _. h.stays)
 
-  connection-has : (c : ConnectionState) → P (carries_out p now (by_connection v p now c) v)
+  connection-has : (c : ConnectionState) → P (decision_turn p now (by_connection v p now c) v)
   connection-has Closed = h.stays
   connection-has Down = down-has p.kind refl
   connection-has Start =
-      by_cond (λ d. P (carries_out p now d v)) (is_goodbye p.kind) _ _ (λ _. h.shuts)
-      (λ _. by_cond (λ d. P (carries_out p now d v)) v.settings.client _ _ (λ _. client-has p.kind refl) (λ _. table-has (distance v p)))
-  connection-has _ = by_cond (λ d. P (carries_out p now d v)) (is_goodbye p.kind) _ _ (λ _. h.shuts) (λ _. table-has (distance v p))
+      by_cond (λ d. P (decision_turn p now d v)) (is_goodbye p.kind) _ _ (λ _. h.shuts)
+      (λ _. by_cond (λ d. P (decision_turn p now d v)) v.settings.client _ _ (λ _. client-has p.kind refl) (λ _. table-has (distance v p)))
+  connection-has _ = by_cond (λ d. P (decision_turn p now d v)) (is_goodbye p.kind) _ _ (λ _. h.shuts) (λ _. table-has (distance v p))
 
-  pub responds-has : P (responds p now v)
+  pub responds-has : P (response_turn p now v)
   responds-has =
-      by_cond (λ d. P (carries_out p now d v)) (is_closed v.connection) _ _ (λ _. h.stays)
-      (λ _. by_cond (λ d. P (carries_out p now d v)) (is_foreign v.settings p) _ _ (λ _. h.stays) (λ _. connection-has v.connection))
+      by_cond (λ d. P (decision_turn p now d v)) (is_closed v.connection) _ _ (λ _. h.stays)
+      (λ _. by_cond (λ d. P (decision_turn p now d v)) (is_foreign v.settings p) _ _ (λ _. h.stays) (λ _. connection-has v.connection))
 
 -- the PDU, if it was read, has a body that fits it
 abbrev pub Fitting : Result Pdu SafeFault → Type 0

@@ -12,8 +12,8 @@ use Rattle.octets.specs.declared.limits.TheConstants.{UNIT_MESSAGES}
 use Rattle.safe_machine.proofs.one.Turning.{opened-cases}
 use Rattle.safe_machine.specs.Ring.{ring_of}
 use Rattle.safe_machine.specs.Settings.{Settings, is_legal}
-use Rattle.safe_machine.specs.Step.{opened}
-use Rattle.safe_machine.specs.Turns.{Turn as MachineTurn, opens}
+use Rattle.safe_machine.specs.Step.{new_state}
+use Rattle.safe_machine.specs.Turns.{Turn as MachineTurn, opening_turn}
 use Rattle.safe_machine.specs.View.{View}
 use Rattle.safe_machine.specs.World.{Side}
 use Rattle.safe_machine.specs.World.Side.{Fe, Il}
@@ -24,17 +24,17 @@ use Rattle.pdi_session.specs.declared.TheConstants.{CHECKSUM_MAX}
 use Rattle.pdi_session.specs.telegram.Names.{is_character}
 use Rattle.red_layer.specs.FiniteMap.{has_number}
 use Rattle.red_layer.specs.Parts.{Part}
-use Rattle.red_layer.specs.Redundancy.{Datagram, Input, Receiver, Stepped, Tick as RedTick, after, after_release, arrival, decoded, deferred, follow, heard}
+use Rattle.red_layer.specs.Redundancy.{Datagram, Input, Receiver, ReceiverStep, Tick as RedTick, after, after_release, arrival, decoded, defer, follow, step_decoded}
 use Rattle.red_layer.specs.Redundancy.{is_due, least_waiting}
 use Rattle.red_layer.specs.declared.pdu.RedFault.{RedFault}
-use Rattle.channels.specs.Told.{Sending, Sends, SendsOne, Told}
+use Rattle.channels.specs.Told.{Sending, Sends, SendsOne, ChannelHistory}
 use Rattle.end_settings.specs.EndSettings.{EndSettings, are_fit, connection_of, has_versions, in_limits, is_addressing, is_name, session_of}
 use Rattle.stack_end.specs.Bounds.{IsBounded}
 use Rattle.stack_end.specs.EndValue.{EndValue, channels_of, inside}
 use Rattle.stack_end.specs.Ends.{Call, new_end}
 use Rattle.stack_end.specs.Ends.Call.{Close, Deliver, InitDone, Put, Tick}
 use Rattle.stack_end.specs.Fields.{BothStand}
-use Rattle.stack_end.specs.Reopening.{reopens}
+use Rattle.stack_end.specs.Reopening.{reopening_turn}
 use Rattle.stack_end.specs.Turns.{Inside, Turn, above, followed, goes_on, guards, is_over, receives, sends, still, ticks, turn}
 use Rattle.end_for_callers.proofs.Loads.{load_law_holds, on-append}
 use Rattle.end_for_callers.proofs.Sizes.{size_law_holds}
@@ -48,18 +48,18 @@ use Rattle.end_for_callers.specs.declared.outbox.Shares.{Shares}
 release-q : (now : ℕ) (r : Receiver) → (after_release now r).q ≡ r.q
 release-q now r = by_cond (λ (s : Receiver). s.q ≡ r.q) (is_due now r) (follow now (least_waiting r.waiting) r) r (λ _. refl) (λ _. refl)
 
-deferred-q : (now : ℕ) (p : Part) (r : Receiver) → (deferred now p r).left.q ≡ r.q
+deferred-q : (now : ℕ) (p : Part) (r : Receiver) → (defer now p r).left.q ≡ r.q
 deferred-q now p r =
-    by_cond (λ (s : Stepped). s.left.q ≡ r.q) (has_number p.0 r.waiting) _ _ (λ _. refl)
-    (λ _. by_cond (λ (s : Stepped). s.left.q ≡ r.q) (length r.waiting == r.q) _ _ (λ _. refl) (λ _. refl))
+    by_cond (λ (s : ReceiverStep). s.left.q ≡ r.q) (has_number p.0 r.waiting) _ _ (λ _. refl)
+    (λ _. by_cond (λ (s : ReceiverStep). s.left.q ≡ r.q) (length r.waiting == r.q) _ _ (λ _. refl) (λ _. refl))
 
 arrival-q : (now : ℕ) (p : Part) (r : Receiver) → (arrival now p r).left.q ≡ r.q
 arrival-q now p r =
-    by_cond (λ (s : Stepped). s.left.q ≡ r.q) (nat_lt p.0 r.expected) _ _ (λ _. refl)
-    (λ _. by_cond (λ (s : Stepped). s.left.q ≡ r.q) (p.0 == r.expected) _ _ (λ _. refl)
-    (λ _. by_cond (λ (s : Stepped). s.left.q ≡ r.q) (nat_lt (r.expected + REACH * r.q) p.0) _ _ (λ _. refl) (λ _. deferred-q now p r)))
+    by_cond (λ (s : ReceiverStep). s.left.q ≡ r.q) (nat_lt p.0 r.expected) _ _ (λ _. refl)
+    (λ _. by_cond (λ (s : ReceiverStep). s.left.q ≡ r.q) (p.0 == r.expected) _ _ (λ _. refl)
+    (λ _. by_cond (λ (s : ReceiverStep). s.left.q ≡ r.q) (nat_lt (r.expected + REACH * r.q) p.0) _ _ (λ _. refl) (λ _. deferred-q now p r)))
 
-heard-q : (now : ℕ) (read : Result Part RedFault) (r : Receiver) → (heard now read r).left.q ≡ r.q
+heard-q : (now : ℕ) (read : Result Part RedFault) (r : Receiver) → (step_decoded now read r).left.q ≡ r.q
 heard-q now (Ok p) r = arrival-q now p r
 heard-q now (Err fault) r = refl
 
@@ -94,7 +94,7 @@ turned-ready reserve c v w is h =
       sized = k.sized;
     })
 
-opens-none : (settings : Settings) (first now : ℕ) → (opens settings first now).left.ring ≡ []
+opens-none : (settings : Settings) (first now : ℕ) → (opening_turn settings first now).left.ring ≡ []
 opens-none settings first now = by_cond (λ (t : MachineTurn). t.left.ring ≡ []) settings.client _ _ (λ _. refl) (λ _. refl)
 
 no-units : (us : List Numbered) → us ≡ [] → AllByRecursion (λ (u : Numbered). length u.octets ≤ UNIT_MAX) us
@@ -103,7 +103,7 @@ no-units us e = subst (AllByRecursion (λ (u : Numbered). length u.octets ≤ UN
 no-messages : (ms : List (List ℕ)) → ms ≡ [] → AllByRecursion (λ (m : List ℕ). length m ≤ MESSAGE_MAX) ms
 no-messages ms e = subst (AllByRecursion (λ (m : List ℕ). length m ≤ MESSAGE_MAX)) (sym e) tt
 
-pub reopened-ready : (reserve first now : ℕ) (v w : Inside) → w ≡ (reopens first now v).left → IsReady reserve v → IsReady reserve w
+pub reopened-ready : (reserve first now : ℕ) (v w : Inside) → w ≡ (reopening_turn first now v).left → IsReady reserve v → IsReady reserve w
 reopened-ready reserve first now v w is h =
     subst (IsReady reserve) (sym is)
     (record {
@@ -112,7 +112,7 @@ reopened-ready reserve first now v w is h =
       deferring = h.deferring;
       sized =
           record {
-            units = no-units (opens v.upper.machine.settings first now).left.ring (opens-none v.upper.machine.settings first now);
+            units = no-units (opening_turn v.upper.machine.settings first now).left.ring (opens-none v.upper.machine.settings first now);
             messages = tt;
             together = h.sized.together;
             own = h.sized.own;
@@ -170,7 +170,7 @@ role-short : (side : Side) (s : EndSettings) → length s.checksum ≤ CHECKSUM_
 role-short Il s h = omega arith
 role-short Fe s h = h
 
-opened-none : (settings : Settings) (first now : ℕ) → ring_of (opened settings first now) ≡ []
+opened-none : (settings : Settings) (first now : ℕ) → ring_of (new_state settings first now) ≡ []
 opened-none settings first now = opened-cases (λ x. ring_of x ≡ []) settings first now (λ _. refl) (λ _. refl)
 
 pub opened-ready : (side : Side) (s : EndSettings) (first now : ℕ) (v : Inside) → are_fit side s ≡ true → BothStand v (new_end side s first now)
@@ -201,14 +201,14 @@ same-test k n = grind (arith, nat_tests)
 one-here : (k : ℕ) → 1 ≤ (if k == k then 1 else 0)
 one-here k = grind (arith, nat_tests)
 
-sure-one : (x : Sending) (xs : List Sending) (a m b : Told) (went : Bool) → Sends went a x m → went ≡ true
+sure-one : (x : Sending) (xs : List Sending) (a m b : ChannelHistory) (went : Bool) → Sends went a x m → went ≡ true
     → ((m.failed_sends ≡ a.failed_sends) → b.failed_sends ≡ a.failed_sends) → b.failed_sends ≡ a.failed_sends
 sure-one x xs a m b true s is rest = rest s.failed
 sure-one x xs a m b false s is rest = absurd (false≢true is)
 
-pub sure-all : (n : ℕ) (xs : List Sending) (a b : Told) → FoldsTo SendsOne a xs b → AllByRecursion (IsPlaced n) xs → ((k : ℕ) → sent_on k xs ≤ a.room k)
+pub sure-all : (n : ℕ) (xs : List Sending) (a b : ChannelHistory) → FoldsTo SendsOne a xs b → AllByRecursion (IsPlaced n) xs → ((k : ℕ) → sent_on k xs ≤ a.room k)
     → b.failed_sends ≡ a.failed_sends
-sure-all n [] a b h placed room = ap (λ (t : Told). t.failed_sends) (sym h)
+sure-all n [] a b h placed room = ap (λ (t : ChannelHistory). t.failed_sends) (sym h)
 sure-all n (x ∷ xs) a b (m, (went, s), rest) placed room =
     let one : 1 ≤ a.room x.0 = omega (arith, on-append x.0 (x ∷ []) xs, one-here x.0, room x.0) in
     sure-one x xs a m b went s (s.sure one placed.0.short)

@@ -23,28 +23,28 @@ use Rattle.safe_machine.specs.Connections.{in_turn, is_closed}
 use Rattle.safe_machine.specs.Deadlines.{beat_due, overdue}
 use Rattle.safe_machine.specs.Decision.{distance}
 use Rattle.safe_machine.specs.Made.{Made}
-use Rattle.safe_machine.specs.Octets.{heard, hears as machine_hears, heard_answer}
+use Rattle.safe_machine.specs.Octets.{move_of, octets_turn as machine_hears, decoded_answer}
 use Rattle.safe_machine.specs.Turned.{turn as machine_turn_of}
-use Rattle.safe_machine.specs.Turns.{Turn as MachineTurn, answers_ahead, answers_early, answers_next, asks, beats, goes_on, guards, has_room, leaves, passed}
-use Rattle.safe_machine.specs.Turns.{both_confirmed, replies, requested, resends, responds, says, sends, sends_unit, still, ticks, units_confirmed, accepts}
-use Rattle.safe_machine.specs.Turns.{connects, moved_to, rejects, resumes, takes_next}
+use Rattle.safe_machine.specs.Turns.{Turn as MachineTurn, answer_ahead_turn, answer_early_turn, answer_next_turn, request_turn, heartbeat_turn, goes_on, guard_turn, has_room, leave_turn, move_past}
+use Rattle.safe_machine.specs.Turns.{both_confirmed, reply_turn, mark_answered, resend_turn, response_turn, sending_turn, send_turn, send_unit_turn, still, tick_turn, units_confirmed, acceptance_turn}
+use Rattle.safe_machine.specs.Turns.{connection_turn, moved_to, rejection_turn, resume, take_next_turn}
 use Rattle.safe_machine.specs.View.{View, text_of}
 use Rattle.safe_machine.specs.declared.ConnectionState.{ConnectionState}
 use Rattle.safe_machine.specs.declared.ConnectionState.TheVariants.{Closed}
 use Rattle.safe_machine.specs.declared.Step.{Step as Outcome}
-use Rattle.safe_machine.specs.retrans.Units.{Numbered, above, octets_of, renumbered}
+use Rattle.safe_machine.specs.retrans.Units.{Numbered, above, octets_of, renumber_units}
 use Rattle.pdi_session.specs.SessionStep.{Closes, InitDone as Completes, Puts}
 use Rattle.pdi_session.specs.packing.UnitText.{unit_text}
 use Rattle.red_layer.specs.Parts.{Part, is_nil}
-use Rattle.red_layer.specs.Redundancy.{Datagram, Input, Receiver, Stepped, Tick as RedTick, after_release, after_run, arrival, decoded, deferred, follow}
-use Rattle.red_layer.specs.Redundancy.{heard as red_heard, is_due, judged, least_waiting, passed_by, released, run_from}
+use Rattle.red_layer.specs.Redundancy.{Datagram, Input, Receiver, ReceiverStep, Tick as RedTick, after_release, after_run, arrival, decoded, defer, follow}
+use Rattle.red_layer.specs.Redundancy.{step_decoded as red_heard, is_due, judge, least_waiting, parts_passed, parts_due, run_from}
 use Rattle.red_layer.specs.declared.pdu.RedFault.{RedFault}
 use Rattle.red_layer.specs.pdu.RedText.{red_text}
 use Rattle.channels.specs.Told.{Sending}
 use Rattle.stack_end.specs.Bounds.{IsBounded}
 use Rattle.stack_end.specs.Datagrams.{on_channels}
 use Rattle.stack_end.specs.Departures.{own_departure}
-use Rattle.stack_end.specs.Dialogue.{Dialogue, Leaving, meets}
+use Rattle.stack_end.specs.Dialogue.{Dialogue, Leaving, process_event}
 use Rattle.stack_end.specs.Ends.Call.{Close, Deliver, InitDone, Put, Tick}
 use Rattle.stack_end.specs.Turns.{accepts as accepts_in, Fields, Inside, Turn, above as above_red, arrives as end_arrives, can_pack, closes, closing}
 use Rattle.stack_end.specs.Turns.{completes, counts, datagrams, departs, dialogue_of, followed, goes_on as end_goes_on, goes_up, is_over, judged_at}
@@ -106,12 +106,12 @@ pub record Single (v : View) (t : MachineTurn) : Type 0 where
   pub ring : t.left.ring ≡ v.ring
   pub window : t.left.window ≡ v.window
 
-pub leaves-single : (reason : Reason) (detail : Detail) (now : ℕ) (v : View) → Single v (leaves reason detail now v)
+pub leaves-single : (reason : Reason) (detail : Detail) (now : ℕ) (v : View) → Single v (leave_turn reason detail now v)
 leaves-single reason detail now v = grind arith
 
-pub guards-single : (now : ℕ) (v : View) → Single v (guards now v)
+pub guards-single : (now : ℕ) (v : View) → Single v (guard_turn now v)
 guards-single now v =
-    by_guard-cases (Single v) now v (λ reason detail. leaves reason detail now v) (still v) (λ reason detail. leaves-single reason detail now v)
+    by_guard-cases (Single v) now v (λ reason detail. leave_turn reason detail now v) (still v) (λ reason detail. leaves-single reason detail now v)
     (λ _. record { made = omega arith; ring = refl; window = refl })
 
 held-as : (v w : View) → w.ring ≡ v.ring → w.window ≡ v.window → Held v → Held w
@@ -123,28 +123,28 @@ above-fewer number us =
     omega (arith, length-filter p us, count_by-le-length p us)
 
 -- units sent again
-resends-made : (units : List (List ℕ)) (now : ℕ) (v : View) → length (resends units now v).made ≡ length units
+resends-made : (units : List (List ℕ)) (now : ℕ) (v : View) → length (resend_turn units now v).made ≡ length units
 resends-made [] now v = refl
-resends-made (unit ∷ units) now v = ap suc (resends-made units now (says RetrData unit now v).left)
+resends-made (unit ∷ units) now v = ap suc (resends-made units now (sending_turn RetrData unit now v).left)
 
-resends-kept : (units : List (List ℕ)) (now : ℕ) (v : View) → ((resends units now v).left.ring ≡ v.ring) × ((resends units now v).left.window ≡ v.window)
+resends-kept : (units : List (List ℕ)) (now : ℕ) (v : View) → ((resend_turn units now v).left.ring ≡ v.ring) × ((resend_turn units now v).left.window ≡ v.window)
 resends-kept [] now v = (refl, refl)
-resends-kept (unit ∷ units) now v = resends-kept units now (says RetrData unit now v).left
+resends-kept (unit ∷ units) now v = resends-kept units now (sending_turn RetrData unit now v).left
 
-renumbered-length : (first : ℕ) (us : List (List ℕ)) → length (renumbered first us) ≡ length us
+renumbered-length : (first : ℕ) (us : List (List ℕ)) → length (renumber_units first us) ≡ length us
 renumbered-length first [] = refl
 renumbered-length first (u ∷ us) = ap suc (renumbered-length (first + 1) us)
 
-pub replies-few : (now : ℕ) (v : View) → Held v → Few 2 (replies now v)
+pub replies-few : (now : ℕ) (v : View) → Held v → Few 2 (reply_turn now v)
 replies-few now v h =
-    let w = (says RetrResp [] now v).left in
+    let w = (sending_turn RetrResp [] now v).left in
     let units = octets_of v.ring in
-    let again = resends units now w in
+    let again = resend_turn units now w in
     let kept = resends-kept units now w in
-    let ring : length (replies now v).left.ring ≡ length v.ring =
+    let ring : length (reply_turn now v).left.ring ≡ length v.ring =
     renumbered-length w.made (octets_of again.left.ring) ∙ (octets_of-length again.left.ring ∙ ap (λ (us : List Numbered). length us) kept.0) in
-    let count : length (replies now v).made ≡ length units + 2 =
-    omega (arith, length-append again.made ((says Heartbeat [] now again.left).made), resends-made units now w) in
+    let count : length (reply_turn now v).made ≡ length units + 2 =
+    omega (arith, length-append again.made ((sending_turn Heartbeat [] now again.left).made), resends-made units now w) in
     record {
       made = omega (arith, count, ring, octets_of-length v.ring);
       held = record { ring = omega (arith, ring, h.ring); window = omega (arith, kept.1, h.window) };
@@ -162,60 +162,60 @@ still-few v h = record { made = omega arith; held = h }
 single-few : (v : View) (t : MachineTurn) → Held v → Single v t → Few 3 t
 single-few v t h s = record { made = omega (arith, s.made); held = held-as v t.left s.ring s.window h }
 
-leaves-few : (reason : Reason) (detail : Detail) (now : ℕ) (v : View) → Held v → Few 3 (leaves reason detail now v)
-leaves-few reason detail now v h = single-few v (leaves reason detail now v) h (leaves-single reason detail now v)
+leaves-few : (reason : Reason) (detail : Detail) (now : ℕ) (v : View) → Held v → Few 3 (leave_turn reason detail now v)
+leaves-few reason detail now v h = single-few v (leave_turn reason detail now v) h (leaves-single reason detail now v)
 
 shuts-few : (v : View) → Held v → Few 3 (moved_to Closed (still v))
 shuts-few v h = record { made = omega arith; held = held-as v (moved_to Closed (still v)).left refl refl h }
 
-rejects-few : (p : Pdu) (now : ℕ) (v : View) → Held v → Few 3 (rejects p now v)
-rejects-few p now v h = record { made = omega arith; held = held-as v (rejects p now v).left refl refl h }
+rejects-few : (p : Pdu) (now : ℕ) (v : View) → Held v → Few 3 (rejection_turn p now v)
+rejects-few p now v h = record { made = omega arith; held = held-as v (rejection_turn p now v).left refl refl h }
 
 opening-small : (kind : Kind) (body : List ℕ) → IsBody ConnReq body → window_of body ≤ 32
 opening-small kind body b = grind arith
 
-accepts-few : (p : Pdu) (now : ℕ) (v : View) → p.kind ≡ ConnReq → IsBody p.kind p.body → Held v → Few 3 (accepts p now v)
+accepts-few : (p : Pdu) (now : ℕ) (v : View) → p.kind ≡ ConnReq → IsBody p.kind p.body → Held v → Few 3 (acceptance_turn p now v)
 accepts-few p now v kind body h =
     let small : window_of p.body ≤ 32 = opening-small ConnReq p.body (subst (λ k. IsBody k p.body) kind body) in
     record { made = omega arith; held = record { ring = omega arith; window = small } }
 
-connects-few : (p : Pdu) (now : ℕ) (v : View) → p.kind ≡ ConnResp → IsBody p.kind p.body → Held v → Few 3 (connects p now v)
+connects-few : (p : Pdu) (now : ℕ) (v : View) → p.kind ≡ ConnResp → IsBody p.kind p.body → Held v → Few 3 (connection_turn p now v)
 connects-few p now v kind body h =
     let small : window_of p.body ≤ 32 = opening-small ConnReq p.body (subst (λ k. IsBody k p.body) kind body) in
     record { made = omega arith; held = record { ring = omega (arith, above-fewer (both_confirmed p v).confirmed v.ring, h.ring); window = small } }
 
-takes-few : (connection : ConnectionState) (p : Pdu) (now : ℕ) (v : View) → Held v → Few 3 (takes_next connection p now v)
+takes-few : (connection : ConnectionState) (p : Pdu) (now : ℕ) (v : View) → Held v → Few 3 (take_next_turn connection p now v)
 takes-few connection p now v h = grind (arith, above-fewer, h.ring, h.window)
 
-asks-few : (now : ℕ) (v : View) → Held v → Few 3 (asks now v)
-asks-few now v h = record { made = omega arith; held = held-as v (asks now v).left refl refl h }
+asks-few : (now : ℕ) (v : View) → Held v → Few 3 (request_turn now v)
+asks-few now v h = record { made = omega arith; held = held-as v (request_turn now v).left refl refl h }
 
-resumes-few : (p : Pdu) (now : ℕ) (v : View) → Held v → Few 3 (still (resumes p v))
-resumes-few p now v h = still-few (resumes p v) (held-fewer v (resumes p v) (above-fewer (both_confirmed p v).confirmed v.ring) (omega arith) h)
+resumes-few : (p : Pdu) (now : ℕ) (v : View) → Held v → Few 3 (still (resume p v))
+resumes-few p now v h = still-few (resume p v) (held-fewer v (resume p v) (above-fewer (both_confirmed p v).confirmed v.ring) (omega arith) h)
 
-next-few : (p : Pdu) (now : ℕ) (v : View) → Held v → Few 3 (answers_next p now v)
+next-few : (p : Pdu) (now : ℕ) (v : View) → Held v → Few 3 (answer_next_turn p now v)
 next-few p now v h =
-    let w = passed p 0 (requested 0 (both_confirmed p v)) in
-    few-more 2 3 (replies now w) (omega arith) (replies-few now w (held-fewer v w (above-fewer w.confirmed v.ring) (omega arith) h))
+    let w = move_past p 0 (mark_answered 0 (both_confirmed p v)) in
+    few-more 2 3 (reply_turn now w) (omega arith) (replies-few now w (held-fewer v w (above-fewer w.confirmed v.ring) (omega arith) h))
 
-ahead-few : (p : Pdu) (now : ℕ) (v : View) → Held v → Few 2 (answers_ahead p now v)
+ahead-few : (p : Pdu) (now : ℕ) (v : View) → Held v → Few 2 (answer_ahead_turn p now v)
 ahead-few p now v h =
-    let w = requested (distance v p) (units_confirmed p v) in
+    let w = mark_answered (distance v p) (units_confirmed p v) in
     replies-few now w (held-fewer v w (above-fewer w.confirmed v.ring) (omega arith) h)
 
-asks-behind : (now : ℕ) (t : MachineTurn) → Few 2 t → Few 3 (goes_on t (asks now))
+asks-behind : (now : ℕ) (t : MachineTurn) → Few 2 t → Few 3 (goes_on t (request_turn now))
 asks-behind now t h =
     record {
-      made = omega (arith, length-append t.made (asks now t.left).made, h.made);
-      held = held-as t.left (asks now t.left).left refl refl h.held;
+      made = omega (arith, length-append t.made (request_turn now t.left).made, h.made);
+      held = held-as t.left (request_turn now t.left).left refl refl h.held;
     }
 
-early-few : (p : Pdu) (now : ℕ) (v : View) → Held v → Few 3 (answers_early p now v)
+early-few : (p : Pdu) (now : ℕ) (v : View) → Held v → Few 3 (answer_early_turn p now v)
 early-few p now v h =
-    by_cond (Few 3) (in_turn v.connection) (goes_on (answers_ahead p now v) (asks now)) (answers_ahead p now v)
-    (λ _. asks-behind now (answers_ahead p now v) (ahead-few p now v h)) (λ _. few-more 2 3 (answers_ahead p now v) (omega arith) (ahead-few p now v h))
+    by_cond (Few 3) (in_turn v.connection) (goes_on (answer_ahead_turn p now v) (request_turn now)) (answer_ahead_turn p now v)
+    (λ _. asks-behind now (answer_ahead_turn p now v) (ahead-few p now v h)) (λ _. few-more 2 3 (answer_ahead_turn p now v) (omega arith) (ahead-few p now v h))
 
-pub responds-few : (p : Pdu) (now : ℕ) (v : View) → IsBody p.kind p.body → Held v → Few 3 (responds p now v)
+pub responds-few : (p : Pdu) (now : ℕ) (v : View) → IsBody p.kind p.body → Held v → Few 3 (response_turn p now v)
 responds-few p now v body h =
     responds-has (Few 3) p now v
     (record {
@@ -233,17 +233,17 @@ responds-few p now v body h =
     })
 
 guarded-few : (now : ℕ) (v : View) (next : View → MachineTurn) (n : ℕ) → Held v → ((w : View) → Held w → Few n (next w))
-    → Few (n + 1) (goes_on (guards now v) next)
+    → Few (n + 1) (goes_on (guard_turn now v) next)
 guarded-few now v next n h after =
-    let t = guards now v in
+    let t = guard_turn now v in
     let s = guards-single now v in
     let k = after t.left (held-as v t.left s.ring s.window h) in
     record { made = omega (arith, length-append t.made (next t.left).made, s.made, k.made); held = k.held }
 
 heard-few : (rule : CodeRule) (octets : List ℕ) (now : ℕ) (v : View) (read : Result Pdu SafeFault) → safe_seen rule octets ≡ read → Held v
-    → Few 4 (machine_turn_of (heard read now) v)
-heard-few rule octets now v (Ok p) e h = guarded-few now v (responds p now) 3 h (λ w k. responds-few p now w (read-body rule octets p e) k)
-heard-few rule octets now v (Err fault) e h = few-more 3 4 (guards now v) (omega arith) (single-few v (guards now v) h (guards-single now v))
+    → Few 4 (machine_turn_of (move_of read now) v)
+heard-few rule octets now v (Ok p) e h = guarded-few now v (response_turn p now) 3 h (λ w k. responds-few p now w (read-body rule octets p e) k)
+heard-few rule octets now v (Err fault) e h = few-more 3 4 (guard_turn now v) (omega arith) (single-few v (guard_turn now v) h (guards-single now v))
 
 pub hears-few : (octets : List ℕ) (now : ℕ) (v : View) → Held v → Few 4 (machine_hears octets now v)
 hears-few octets now v h = heard-few v.settings.rule octets now v (safe_seen v.settings.rule octets) refl h
@@ -272,8 +272,8 @@ session-quiet d v = record { sent = refl; machine = refl }
 
 settles-quiet : (v : Fields) → Quiet v (settles v)
 settles-quiet v =
-    quiet-if v (is_closed v.machine.connection) (session_turn (meets Closes (dialogue_of v)) v) (end_still v)
-    (session-quiet (meets Closes (dialogue_of v)) v) (still-quiet v)
+    quiet-if v (is_closed v.machine.connection) (session_turn (process_event Closes (dialogue_of v)) v) (end_still v)
+    (session-quiet (process_event Closes (dialogue_of v)) v) (still-quiet v)
 
 quiet-then : (k n : ℕ) (t : Turn Fields) (next : Fields → Turn Fields) → Sparse k n t → Quiet t.left (next t.left) → Sparse k n (followed t next)
 quiet-then k n t next h q =
@@ -292,7 +292,7 @@ leaves-then k n now None t h =
     record { sent = omega (arith, on-append k t.sent [], h.sent); held = h.held }
 leaves-then k n now (Some why) t h =
     let v = t.left in
-    let m = leaves why.0 why.1 now v.machine in
+    let m = leave_turn why.0 why.1 now v.machine in
     let s = leaves-single why.0 why.1 now v.machine in
     record {
       sent = omega (
@@ -322,20 +322,20 @@ counts-quiet answer waited now v = record { sent = refl; machine = refl }
 part-sparse : (k now : ℕ) (octets : List ℕ) (v : Fields) → Held v.machine → Sparse k 5 (part now octets v)
 part-sparse k now octets v h =
     let before = v.machine.connection in
-    let judged = judged_at now octets v in
-    let answer = heard_answer (safe_seen v.machine.settings.rule octets) now v.machine in
+    let judge = judged_at now octets v in
+    let answer = decoded_answer (safe_seen v.machine.settings.rule octets) now v.machine in
     let t0 = machine_turn (machine_hears octets now v.machine) v in
-    let t1 = followed t0 (session_turn judged.left) in
+    let t1 = followed t0 (session_turn judge.left) in
     let t2 = followed t1 (notes before octets) in
     let t3 = followed t2 (goes_up before) in
-    let t4 = followed t3 (end_leaves now judged.leaving) in
+    let t4 = followed t3 (end_leaves now judge.leaving) in
     let t5 = followed t4 settles in
     let t6 = followed t5 (departs (closing now octets v)) in
     let h0 = machine-sparse k 4 (machine_hears octets now v.machine) v (hears-few octets now v.machine h) in
-    let h1 = quiet-then k 4 t0 (session_turn judged.left) h0 (session-quiet judged.left t0.left) in
+    let h1 = quiet-then k 4 t0 (session_turn judge.left) h0 (session-quiet judge.left t0.left) in
     let h2 = quiet-then k 4 t1 (notes before octets) h1 (notes-quiet before octets t1.left) in
     let h3 = quiet-then k 4 t2 (goes_up before) h2 (goes_up-quiet before t2.left) in
-    let h4 = leaves-then k 4 now judged.leaving t3 h3 in
+    let h4 = leaves-then k 4 now judge.leaving t3 h3 in
     let h5 = quiet-then k 5 t4 settles h4 (settles-quiet t4.left) in
     let h6 = quiet-then k 5 t5 (departs (closing now octets v)) h5 (departs-quiet (closing now octets v) t5.left) in
     quiet-then k 5 t6 (counts answer (waited now v) now) h6 (counts-quiet answer (waited now v) now t6.left)
@@ -367,11 +367,11 @@ record SendsOne (v : View) (t : MachineTurn) : Type 0 where
   ring : length t.left.ring ≡ length v.ring + 1
   window : t.left.window ≡ v.window
 
-sends-one : (unit : List ℕ) (now : ℕ) (v : View) → SendsOne v (sends_unit unit now v)
+sends-one : (unit : List ℕ) (now : ℕ) (v : View) → SendsOne v (send_unit_turn unit now v)
 sends-one unit now v = record { made = omega arith; ring = length-append v.ring _; window = refl }
 
-may-send : (unit : List ℕ) (now : ℕ) (v : View) → has_room v ≡ true → SendsOne v (sends unit now v)
-may-send unit now v may = subst (λ (b : Bool). SendsOne v (if b then sends_unit unit now v else still v)) (sym may) (sends-one unit now v)
+may-send : (unit : List ℕ) (now : ℕ) (v : View) → has_room v ≡ true → SendsOne v (send_turn unit now v)
+may-send unit now v may = subst (λ (b : Bool). SendsOne v (if b then send_unit_turn unit now v else still v)) (sym may) (sends-one unit now v)
 
 room-left : (v : View) → has_room v ≡ true → v.window ≤ 32 → length v.ring < 32
 room-left v may small =
@@ -384,7 +384,7 @@ packs-few k (suc n) now v small =
     by_cond (λ (t : Turn Fields). sent_on k t.sent ≤ 32 - length v.machine.ring) (can_pack v) (followed (packs now v) (packs_up_to n now)) (end_still v)
     (λ can.
     let may = (and_parts (not (is_nil v.waiting)) (has_room v.machine) can).1 in
-    let m = sends (unit_text (take v.max v.waiting)) now v.machine in
+    let m = send_turn (unit_text (take v.max v.waiting)) now v.machine in
     let one : SendsOne v.machine m = may-send (unit_text (take v.max v.waiting)) now v.machine may in
     let t = packs now v in
     let first : sent_on k t.sent ≤ 1 = omega (
@@ -408,36 +408,36 @@ run-within n (e ∷ es) =
     by_test (λ b. length (if b then e ∷ run_from (n + 1) es else []) + length (if b then after_run (n + 1) es else e ∷ es) ≤ length (e ∷ es)) (e.0 == n)
     (λ _. omega (arith, run-within (n + 1) es)) (λ _. omega arith)
 
-released-within : (now : ℕ) (r : Receiver) → length (released now r) + length (after_release now r).waiting ≤ length r.waiting
+released-within : (now : ℕ) (r : Receiver) → length (parts_due now r) + length (after_release now r).waiting ≤ length r.waiting
 released-within now r =
     let least = least_waiting r.waiting in
     by_test (λ b. length (if b then run_from least r.waiting else []) + length (if b then follow now least r else r).waiting ≤ length r.waiting) (is_due now r)
     (λ _. run-within least r.waiting) (λ _. omega arith)
 
-deferred-none : (now : ℕ) (p : Part) (r : Receiver) → (deferred now p r).passed ≡ []
+deferred-none : (now : ℕ) (p : Part) (r : Receiver) → (defer now p r).passed ≡ []
 deferred-none now p r = grind arith
 
 arrival-few : (now : ℕ) (p : Part) (r : Receiver) → length (arrival now p r).passed ≤ length r.waiting + 1
 arrival-few now p r =
-    by_cond (λ (s : Stepped). length s.passed ≤ length r.waiting + 1) (nat_lt p.0 r.expected) _ _ (λ _. omega arith)
-    (λ _. by_cond (λ (s : Stepped). length s.passed ≤ length r.waiting + 1) (p.0 == r.expected) _ _ (λ _. omega (arith, run-within (p.0 + 1) r.waiting))
-    (λ _. by_cond (λ (s : Stepped). length s.passed ≤ length r.waiting + 1) (nat_lt (r.expected + REACH * r.q) p.0) _ _ (λ _. omega arith)
+    by_cond (λ (s : ReceiverStep). length s.passed ≤ length r.waiting + 1) (nat_lt p.0 r.expected) _ _ (λ _. omega arith)
+    (λ _. by_cond (λ (s : ReceiverStep). length s.passed ≤ length r.waiting + 1) (p.0 == r.expected) _ _ (λ _. omega (arith, run-within (p.0 + 1) r.waiting))
+    (λ _. by_cond (λ (s : ReceiverStep). length s.passed ≤ length r.waiting + 1) (nat_lt (r.expected + REACH * r.q) p.0) _ _ (λ _. omega arith)
     (λ _. omega (arith, ap (λ (ps : List Part). length ps) (deferred-none now p r)))))
 
 judged-few : (now : ℕ) (read : Result Part RedFault) (r : Receiver) → length (red_heard now read r).passed ≤ length r.waiting + 1
 judged-few now (Ok p) r = arrival-few now p r
 judged-few now (Err fault) r = omega arith
 
-datagram-parts : (octets : List ℕ) (now : ℕ) (r : Receiver) → length (passed_by (Datagram octets now) r) ≤ length r.waiting + 1
+datagram-parts : (octets : List ℕ) (now : ℕ) (r : Receiver) → length (parts_passed (Datagram octets now) r) ≤ length r.waiting + 1
 datagram-parts octets now r =
     omega (
       arith,
-      length-append (released now r) (judged now octets r).passed,
+      length-append (parts_due now r) (judge now octets r).passed,
       released-within now r,
       judged-few now (decoded octets) (after_release now r),
     )
 
-tick-parts : (now : ℕ) (r : Receiver) → length (passed_by (RedTick now) r) ≤ length r.waiting
+tick-parts : (now : ℕ) (r : Receiver) → length (parts_passed (RedTick now) r) ≤ length r.waiting
 tick-parts now r = omega (arith, released-within now r)
 
 -- The calls.
@@ -468,7 +468,7 @@ settled-machine t cause v = (settles-quiet (machine_turn t v).left).machine
 
 closes-few : (k now : ℕ) (v : Fields) → Held v.machine → sent_on k (closes now v).sent ≤ 1
 closes-few k now v h =
-    let t = leaves ClosedByUser Unspecified now v.machine in
+    let t = leave_turn ClosedByUser Unspecified now v.machine in
     let s = leaves-single ClosedByUser Unspecified now v.machine in
     let cause = own_departure (if is_closed v.machine.connection then None else Some (ClosedByUser, Unspecified)) now in
     (settled-short k 1 t cause v s.made (held-as v.machine t.left s.ring s.window h)).sent
@@ -482,12 +482,12 @@ goes-few k now n (p ∷ ps) v h few some =
     let w = (parts now (p ∷ ps) v).left in
     omega (arith, all.sent, sends-few k now w all.held.window, few)
 
-goes_on-few : (k now n : ℕ) (i : Input) (v : Inside) → Held v.upper.machine → length (passed_by i v.red) ≤ n → 1 ≤ n
+goes_on-few : (k now n : ℕ) (i : Input) (v : Inside) → Held v.upper.machine → length (parts_passed i v.red) ≤ n → 1 ≤ n
     → sent_on k (end_goes_on now i v).sent ≤ n * 37
 goes_on-few k now n i v h few some =
     let t = receives now i v in
     by_cond (λ (u : Turn Inside). sent_on k u.sent ≤ n * 37) (is_over v) (end_still v) (followed t (above_red (end_sends now))) (λ _. omega arith)
-    (λ _. omega (arith, on-append k t.sent (end_sends now t.left.upper).sent, goes-few k now n (passed_by i v.red) v.upper h few some))
+    (λ _. omega (arith, on-append k t.sent (end_sends now t.left.upper).sent, goes-few k now n (parts_passed i v.red) v.upper h few some))
 
 over-still : (now : ℕ) (i : Input) (v : Inside) → is_over v ≡ true → end_goes_on now i v ≡ end_still v
 over-still now i v e = ap (λ (b : Bool). if b then end_still v else followed (receives now i v) (above_red (end_sends now))) e
@@ -512,63 +512,63 @@ checked-closed k now octets cause v t few held closed =
 
 checked-open : (k now : ℕ) (octets : List ℕ) (cause : Option Departure) (v : Inside) (t : MachineTurn) → length t.made ≤ 0 → Held t.left
     → length v.red.waiting ≤ 8 → sent_on k (checked now octets cause v t).sent ≤ 333
-checked-open k now octets cause v t few held deferred =
+checked-open k now octets cause v t few held defer =
     let first = above_red (settled t cause) v in
     let h = settled-short k 0 t cause v.upper few held in
-    let rest = goes_on-few k now 9 (Datagram octets now) first.left h.held (omega (arith, datagram-parts octets now v.red, deferred)) (omega arith) in
+    let rest = goes_on-few k now 9 (Datagram octets now) first.left h.held (omega (arith, datagram-parts octets now v.red, defer)) (omega arith) in
     omega (arith, on-append k first.sent (end_goes_on now (Datagram octets now) first.left).sent, h.sent, rest)
 
-leaves-closed : (reason : Reason) (detail : Detail) (now : ℕ) (v : View) → is_closed (leaves reason detail now v).left.connection ≡ true
+leaves-closed : (reason : Reason) (detail : Detail) (now : ℕ) (v : View) → is_closed (leave_turn reason detail now v).left.connection ≡ true
 leaves-closed reason detail now v = refl
 
 arrives-few : (k now : ℕ) (octets : List ℕ) (v : Inside) → Held v.upper.machine → length v.red.waiting ≤ 8 → sent_on k (end_arrives now octets v).sent ≤ 333
-arrives-few k now octets v h deferred =
+arrives-few k now octets v h defer =
     let m = v.upper.machine in
     let cause = own_departure (overdue now m) now in
-    by_cond (λ (u : Turn Inside). sent_on k u.sent ≤ 333) (is_over v) (end_still v) (checked now octets cause v (guards now m)) (λ _. omega arith)
+    by_cond (λ (u : Turn Inside). sent_on k u.sent ≤ 333) (is_over v) (end_still v) (checked now octets cause v (guard_turn now m)) (λ _. omega arith)
     (λ _. by_guard-cases (λ (t : MachineTurn). sent_on k (checked now octets cause v t).sent ≤ 333) now m
-    (λ reason detail. leaves reason detail now m) (still m)
+    (λ reason detail. leave_turn reason detail now m) (still m)
     (λ reason detail.
     let s = leaves-single reason detail now m in
-    checked-closed k now octets cause v (leaves reason detail now m) s.made (held-as m (leaves reason detail now m).left s.ring s.window h)
+    checked-closed k now octets cause v (leave_turn reason detail now m) s.made (held-as m (leave_turn reason detail now m).left s.ring s.window h)
     (leaves-closed reason detail now m))
-    (λ _. checked-open k now octets cause v (still m) (omega arith) h deferred))
+    (λ _. checked-open k now octets cause v (still m) (omega arith) h defer))
 
-beats-single : (now : ℕ) (v : View) → Single v (beats now v)
+beats-single : (now : ℕ) (v : View) → Single v (heartbeat_turn now v)
 beats-single now v = by_cond (Single v) (beat_due now v) _ _ (λ _. record { made = omega arith; ring = refl; window = refl })
     (λ _. record { made = omega arith; ring = refl; window = refl })
 
-ticks-two : (now : ℕ) (v : View) → length (ticks now v).made ≤ 2
+ticks-two : (now : ℕ) (v : View) → length (tick_turn now v).made ≤ 2
 ticks-two now v =
-    let left = (guards now v).left in
-    omega (arith, length-append (guards now v).made (beats now left).made, (guards-single now v).made, (beats-single now left).made)
+    let left = (guard_turn now v).left in
+    omega (arith, length-append (guard_turn now v).made (heartbeat_turn now left).made, (guards-single now v).made, (beats-single now left).made)
 
-ticks-held : (now : ℕ) (v : View) → Held v → Held (ticks now v).left
+ticks-held : (now : ℕ) (v : View) → Held v → Held (tick_turn now v).left
 ticks-held now v h =
     let g = guards-single now v in
-    let b = beats-single now (guards now v).left in
-    held-as (guards now v).left (ticks now v).left b.ring b.window (held-as v (guards now v).left g.ring g.window h)
+    let b = beats-single now (guard_turn now v).left in
+    held-as (guard_turn now v).left (tick_turn now v).left b.ring b.window (held-as v (guard_turn now v).left g.ring g.window h)
 
 passes-few : (k now : ℕ) (v : Inside) → Held v.upper.machine → length v.red.waiting ≤ 8 → sent_on k (passes now v).sent ≤ 333
-passes-few k now v h deferred =
+passes-few k now v h defer =
     let m = v.upper.machine in
     let cause = own_departure (overdue now m) now in
-    let first = above_red (settled (ticks now m) cause) v in
+    let first = above_red (settled (tick_turn now m) cause) v in
     by_cond (λ (u : Turn Inside). sent_on k u.sent ≤ 333) (is_over v) (end_still v) (followed first (end_goes_on now (RedTick now))) (λ _. omega arith)
     (λ _.
-    let s = settled-short k 2 (ticks now m) cause v.upper (ticks-two now m) (ticks-held now m h) in
-    let rest = goes_on-few k now 8 (RedTick now) first.left s.held (omega (arith, tick-parts now v.red, deferred)) (omega arith) in
+    let s = settled-short k 2 (tick_turn now m) cause v.upper (ticks-two now m) (ticks-held now m h) in
+    let rest = goes_on-few k now 8 (RedTick now) first.left s.held (omega (arith, tick-parts now v.red, defer)) (omega arith) in
     omega (arith, on-append k first.sent (end_goes_on now (RedTick now) first.left).sent, s.sent, rest))
 
 puts-few : (k kind now : ℕ) (payload : List ℕ) (v : Fields) → Held v.machine → sent_on k (puts kind payload now v).sent ≤ 333
 puts-few k kind now payload v h =
-    let d = meets (Puts kind payload (length v.waiting)) (dialogue_of v) in
+    let d = process_event (Puts kind payload (length v.waiting)) (dialogue_of v) in
     let first = session_turn d (accepts_in d v) in
     omega (arith, on-append k first.sent (end_sends now first.left).sent, sends-few k now first.left h.window)
 
 completes-few : (k now : ℕ) (v : Fields) → Held v.machine → sent_on k (completes now v).sent ≤ 333
 completes-few k now v h =
-    let first = session_turn (meets (Completes (length v.waiting)) (dialogue_of v)) v in
+    let first = session_turn (process_event (Completes (length v.waiting)) (dialogue_of v)) v in
     omega (arith, on-append k first.sent (end_sends now first.left).sent, sends-few k now first.left h.window)
 
 -- the bounds of an end are those of its machine
@@ -576,8 +576,8 @@ held-within : (v : Inside) → IsBounded v → Held v.upper.machine
 held-within v b = record { ring = omega (arith, b.unconfirmed, b.window); window = b.window }
 
 pub load_law_holds : LoadLaw
-load_law_holds (Close now) v b deferred k = omega (arith, closes-few k now v.upper (held-within v b))
-load_law_holds (Put kind payload now) v b deferred k = puts-few k kind now payload v.upper (held-within v b)
-load_law_holds (InitDone now) v b deferred k = completes-few k now v.upper (held-within v b)
-load_law_holds (Tick now) v b deferred k = passes-few k now v (held-within v b) deferred
-load_law_holds (Deliver channel octets now) v b deferred k = arrives-few k now octets v (held-within v b) deferred
+load_law_holds (Close now) v b defer k = omega (arith, closes-few k now v.upper (held-within v b))
+load_law_holds (Put kind payload now) v b defer k = puts-few k kind now payload v.upper (held-within v b)
+load_law_holds (InitDone now) v b defer k = completes-few k now v.upper (held-within v b)
+load_law_holds (Tick now) v b defer k = passes-few k now v (held-within v b) defer
+load_law_holds (Deliver channel octets now) v b defer k = arrives-few k now octets v (held-within v b) defer

@@ -6,7 +6,7 @@ use Rattle.end_for_callers.specs.declared.queue.Head.{Head}
 use Rattle.circular_buffer.specs.Buffer.{Buffer, buffer}
 use Rattle.std.specs.Prelude.{Some, None, slice_get}
 use Rattle.end_for_callers.specs.Pieces.{AreKept, pieces_in, size_of}
-use Rattle.end_for_callers.specs.Queues.{bytes_of, emptied, IsTooLong, Queued, TookOldest, with_piece}
+use Rattle.end_for_callers.specs.Queues.{bytes_of, empty_queue, IsTooLong, Queued, TookOldest, with_piece}
 
 pub size-add : {T : Type 0} (hs : List (Head T)) (h : Head T) → size_of (hs ++ h ∷ []) ≡ size_of hs + h.size
 size-add [] h = omega arith
@@ -156,7 +156,7 @@ bytes-are (x ∷ hs) o h =
 -- rings without items are the queue without its pieces
 pub emptied-is : {T : Type 0} (heads heads' : Buffer (Head T)) (octets octets' : Buffer ℕ) → AreKept heads octets → heads' ≡ buffer [] heads.capacity
     → octets' ≡ buffer [] octets.capacity
-    → queued heads' octets' ≡ emptied (queued heads octets)
+    → queued heads' octets' ≡ empty_queue (queued heads octets)
 emptied-is heads heads' octets octets' kept h o =
     let places : heads.capacity - 0 ≡ heads.capacity - length heads.items + length (pieces_in heads.items octets.items) =
     omega (arith, pieces-length heads.items octets.items, kept.places) in

@@ -4,7 +4,7 @@ use Rattle.std.specs.Prelude.{option_map}
 use Rattle.std.proofs.lemmas.Bool.{false≢true}
 use Rattle.std.specs.List.{FoldsTo}
 use Rattle.pdi_session.specs.SessionStep.{Item}
-use Rattle.channels.specs.Told.{Sending, Sends, SendsOne, Told}
+use Rattle.channels.specs.Told.{Sending, Sends, SendsOne, ChannelHistory}
 use Rattle.std.specs.Global.{Global}
 use Rattle.end_for_callers.specs.Boxes.{Came, Incoming, Outgoing, Posted, Posting, takes_of, told_in, told_of}
 use Rattle.end_for_callers.specs.Queues.{fits, with_piece}
@@ -14,7 +14,7 @@ use Rattle.stack_end.specs.EndValue.{EndTurns, EndTurnsAlone, EndValue, channels
 use Rattle.stack_end.specs.Turns.{Inside, Turn, turn}
 
 -- Sends of which some failed: the count has grown by their number, and if none failed all are recorded.
-record Counted (a : Told) (xs : List Sending) (b : Told) : Type 0 where
+record Counted (a : ChannelHistory) (xs : List Sending) (b : ChannelHistory) : Type 0 where
   failed : ℕ
   few : failed ≤ length xs
   count : b.failed_sends % 2 ^ 64 ≡ (a.failed_sends + failed) % 2 ^ 64
@@ -28,7 +28,7 @@ map-one : (o : Option (List Sending)) (x : Sending) (xs : List Sending) → opti
 map-one None x xs = refl
 map-one (Some ys) x xs = ap Some (append_assoc ys (x ∷ []) xs)
 
-counted-one : (a m b : Told) (x : Sending) (xs : List Sending) (went : Bool) → Sends went a x m → Counted m xs b → Counted a (x ∷ xs) b
+counted-one : (a m b : ChannelHistory) (x : Sending) (xs : List Sending) (went : Bool) → Sends went a x m → Counted m xs b → Counted a (x ∷ xs) b
 counted-one a m b x xs true h k =
     record {
       failed = k.failed;
@@ -44,7 +44,7 @@ counted-one a m b x xs false h k =
       sent = λ none. absurd (omega (arith, none));
     }
 
-counted-all : (a : Told) (xs : List Sending) (b : Told) → FoldsTo SendsOne a xs b → Counted a xs b
+counted-all : (a : ChannelHistory) (xs : List Sending) (b : ChannelHistory) → FoldsTo SendsOne a xs b → Counted a xs b
 counted-all a [] b e =
     record {
       failed = 0;
@@ -109,10 +109,10 @@ pub came-none : (n : Incoming) → Came n [] n
 came-none n = came n [] n refl
 
 -- what is known without the places that are sure
-abbrev pub roomless : Told → Told
+abbrev pub roomless : ChannelHistory → ChannelHistory
 roomless t = record t { room = λ _. 0 }
 
-sends-roomless : (went : Bool) (a : Told) (x : Sending) (b : Told) → Sends went a x b → Sends went (roomless a) x (roomless b)
+sends-roomless : (went : Bool) (a : ChannelHistory) (x : Sending) (b : ChannelHistory) → Sends went a x b → Sends went (roomless a) x (roomless b)
 sends-roomless went a x b s =
     record {
       sent = s.sent;
@@ -124,7 +124,7 @@ sends-roomless went a x b s =
       failed_receives = s.failed_receives;
     }
 
-pub folds-roomless : (xs : List Sending) (a b : Told) → FoldsTo SendsOne a xs b → FoldsTo SendsOne (roomless a) xs (roomless b)
+pub folds-roomless : (xs : List Sending) (a b : ChannelHistory) → FoldsTo SendsOne a xs b → FoldsTo SendsOne (roomless a) xs (roomless b)
 folds-roomless [] a b h = ap roomless h
 folds-roomless (x ∷ xs) a b (m, (went, s), rest) = (roomless m, (went, sends-roomless went a x m s), folds-roomless xs m b rest)
 

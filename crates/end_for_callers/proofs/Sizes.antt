@@ -26,16 +26,16 @@ use Rattle.safe_machine.specs.Connections.{in_turn, is_closed, is_live}
 use Rattle.safe_machine.specs.Deadlines.{beat_due, overdue}
 use Rattle.safe_machine.specs.Decision.{distance}
 use Rattle.safe_machine.specs.Made.{Made}
-use Rattle.safe_machine.specs.Octets.{heard, hears as machine_hears, heard_answer, hears_units}
+use Rattle.safe_machine.specs.Octets.{move_of, octets_turn as machine_hears, decoded_answer, octets_units}
 use Rattle.safe_machine.specs.Turned.{turn as machine_turn_of}
-use Rattle.safe_machine.specs.Turns.{Turn as MachineTurn, answers_ahead, asks, beats, both_confirmed, goes_on, guards, has_room, leaves, moved_to, passed}
-use Rattle.safe_machine.specs.Turns.{replies, requested, resends, responds, says, sends, still, ticks, units_confirmed}
+use Rattle.safe_machine.specs.Turns.{Turn as MachineTurn, answer_ahead_turn, request_turn, heartbeat_turn, both_confirmed, goes_on, guard_turn, has_room, leave_turn, moved_to, move_past}
+use Rattle.safe_machine.specs.Turns.{reply_turn, mark_answered, resend_turn, response_turn, sending_turn, send_turn, still, tick_turn, units_confirmed}
 use Rattle.safe_machine.specs.View.{View}
 use Rattle.safe_machine.specs.declared.ConnectionState.{ConnectionState}
 use Rattle.safe_machine.specs.declared.ConnectionState.TheVariants.{Closed}
-use Rattle.safe_machine.specs.retrans.Units.{Numbered, above, octets_of, renumbered}
+use Rattle.safe_machine.specs.retrans.Units.{Numbered, above, octets_of, renumber_units}
 use Rattle.pdi_session.specs.SessionStep.{Arrives, Closes, Event, InitDone as Completes, Puts, SessionState, Up as GoesUp, added_by, at_init_done}
-use Rattle.pdi_session.specs.SessionStep.{init_refusal, judged as session_judged, notice_tele, put_refusal, sent_by, texts}
+use Rattle.pdi_session.specs.SessionStep.{init_refusal, judge_telegram as session_judged, notice_tele, put_refusal, sent_by, texts}
 use Rattle.pdi_session.specs.Settings.{checksum_of}
 use Rattle.pdi_session.specs.Tables.{at_up}
 use Rattle.pdi_session.specs.Telegrams.{payload_of, telegram}
@@ -47,16 +47,16 @@ use Rattle.pdi_session.specs.declared.packing.PackFault.{PackFault}
 use Rattle.pdi_session.specs.declared.telegram.TeleFault.{TeleFault}
 use Rattle.pdi_session.specs.packing.Places.{unit_seen}
 use Rattle.pdi_session.specs.packing.UnitText.{piece, unit_text}
-use Rattle.pdi_session.specs.telegram.Names.{filled}
+use Rattle.pdi_session.specs.telegram.Names.{fill_name}
 use Rattle.pdi_session.specs.telegram.Places.{tele_seen}
 use Rattle.pdi_session.specs.telegram.Tele.{Tele}
 use Rattle.pdi_session.specs.telegram.TeleText.{tele_text}
 use Rattle.red_layer.specs.Parts.{Part}
-use Rattle.red_layer.specs.Redundancy.{Datagram, Input, Tick as RedTick, passed_by}
+use Rattle.red_layer.specs.Redundancy.{Datagram, Input, Tick as RedTick, parts_passed}
 use Rattle.red_layer.specs.pdu.RedText.{red_text}
 use Rattle.stack_end.specs.Datagrams.{on_channels}
 use Rattle.stack_end.specs.Departures.{own_departure}
-use Rattle.stack_end.specs.Dialogue.{Dialogue, Judged, Leaving, judge_messages, judge_read, judge_units, judge_unpacked, meets, session_in, unless_leaving}
+use Rattle.stack_end.specs.Dialogue.{Dialogue, Judged, Leaving, judge_messages, judge_read, judge_units, judge_unpacked, process_event, session_in, unless_leaving}
 use Rattle.stack_end.specs.Ends.{Call, comes_up, rises}
 use Rattle.stack_end.specs.Ends.Call.{Close, Deliver, InitDone, Put, Tick}
 use Rattle.stack_end.specs.Turns.{Fields, Inside, Turn, above as above_red, accepts as accepts_in, arrives as end_arrives, can_pack, closes, closing}
@@ -128,7 +128,7 @@ keeps-then t next h k = record { made = all-append HasShortBody t.made (next t.l
 still-keeps : (v : View) → AreShortUnits v.ring → Keeps (still v)
 still-keeps v h = record { made = tt; ring = h }
 
-leaves-keeps : (reason : Reason) (detail : Detail) (now : ℕ) (v : View) → AreShortUnits v.ring → Keeps (leaves reason detail now v)
+leaves-keeps : (reason : Reason) (detail : Detail) (now : ℕ) (v : View) → AreShortUnits v.ring → Keeps (leave_turn reason detail now v)
 leaves-keeps reason detail now v h =
     by_cond (λ t. Keeps (moved_to Closed t)) (is_live v.connection) _ _ (λ _. record { made = (omega arith, tt); ring = h })
     (λ _. record { made = tt; ring = h })
@@ -140,34 +140,34 @@ units-short : (us : List Numbered) → AreShortUnits us → AllByRecursion IsSho
 units-short [] h = tt
 units-short (u ∷ us) h = (h.0, units-short us h.1)
 
-renumbered-short : (first : ℕ) (us : List (List ℕ)) → AllByRecursion IsShortUnit us → AreShortUnits (renumbered first us)
+renumbered-short : (first : ℕ) (us : List (List ℕ)) → AllByRecursion IsShortUnit us → AreShortUnits (renumber_units first us)
 renumbered-short first [] h = tt
 renumbered-short first (u ∷ us) h = (h.0, renumbered-short (first + 1) us h.1)
 
-resends-keeps : (us : List (List ℕ)) (now : ℕ) (v : View) → AllByRecursion IsShortUnit us → AreShortUnits v.ring → Keeps (resends us now v)
+resends-keeps : (us : List (List ℕ)) (now : ℕ) (v : View) → AllByRecursion IsShortUnit us → AreShortUnits v.ring → Keeps (resend_turn us now v)
 resends-keeps [] now v h k = still-keeps v k
 resends-keeps (u ∷ us) now v h k =
-    keeps-then (says RetrData u now v) (resends us now) (record { made = (h.0, tt); ring = k }) (resends-keeps us now (says RetrData u now v).left h.1 k)
+    keeps-then (sending_turn RetrData u now v) (resend_turn us now) (record { made = (h.0, tt); ring = k }) (resends-keeps us now (sending_turn RetrData u now v).left h.1 k)
 
-replies-keeps : (now : ℕ) (v : View) → AreShortUnits v.ring → Keeps (replies now v)
+replies-keeps : (now : ℕ) (v : View) → AreShortUnits v.ring → Keeps (reply_turn now v)
 replies-keeps now v h =
-    let w = (says RetrResp [] now v).left in
+    let w = (sending_turn RetrResp [] now v).left in
     let again = resends-keeps (octets_of v.ring) now w (units-short v.ring h) h in
-    let u = (resends (octets_of v.ring) now w).left in
+    let u = (resend_turn (octets_of v.ring) now w).left in
     let ring = renumbered-short w.made (octets_of u.ring) (units-short u.ring again.ring) in
     record {
       made = (
         omega arith,
-        all-append HasShortBody (resends (octets_of v.ring) now w).made _ again.made (omega arith, tt),
+        all-append HasShortBody (resend_turn (octets_of v.ring) now w).made _ again.made (omega arith, tt),
       );
       ring = ring;
     }
 
-ahead-keeps : (p : Pdu) (now : ℕ) (v : View) → AreShortUnits v.ring → Keeps (answers_ahead p now v)
+ahead-keeps : (p : Pdu) (now : ℕ) (v : View) → AreShortUnits v.ring → Keeps (answer_ahead_turn p now v)
 ahead-keeps p now v h =
-    let w = requested (distance v p) (units_confirmed p v) in replies-keeps now w (above-short w.confirmed v.ring h)
+    let w = mark_answered (distance v p) (units_confirmed p v) in replies-keeps now w (above-short w.confirmed v.ring h)
 
-responds-keeps : (p : Pdu) (now : ℕ) (v : View) → AreShortUnits v.ring → Keeps (responds p now v)
+responds-keeps : (p : Pdu) (now : ℕ) (v : View) → AreShortUnits v.ring → Keeps (response_turn p now v)
 responds-keeps p now v h =
     let confirmed = above-short (both_confirmed p v).confirmed v.ring h in
     responds-has Keeps p now v
@@ -181,35 +181,35 @@ responds-keeps p now v h =
       takes = λ connection. grind (arith, nat_tests, confirmed);
       asks = record { made = (omega arith, tt); ring = h };
       resumes = record { made = tt; ring = confirmed };
-      next = replies-keeps now (passed p 0 (requested 0 (both_confirmed p v))) confirmed;
+      next = replies-keeps now (move_past p 0 (mark_answered 0 (both_confirmed p v))) confirmed;
       early =
           by_cond Keeps (in_turn v.connection) _ _
-          (λ _. keeps-then (answers_ahead p now v) (asks now) (ahead-keeps p now v h)
+          (λ _. keeps-then (answer_ahead_turn p now v) (request_turn now) (ahead-keeps p now v h)
           (record { made = (omega arith, tt); ring = (ahead-keeps p now v h).ring }))
           (λ _. ahead-keeps p now v h);
     })
 
-guards-keeps : (now : ℕ) (v : View) → AreShortUnits v.ring → Keeps (guards now v)
+guards-keeps : (now : ℕ) (v : View) → AreShortUnits v.ring → Keeps (guard_turn now v)
 guards-keeps now v h =
-    by_guard-cases Keeps now v (λ reason detail. leaves reason detail now v) (still v) (λ reason detail. leaves-keeps reason detail now v h)
+    by_guard-cases Keeps now v (λ reason detail. leave_turn reason detail now v) (still v) (λ reason detail. leaves-keeps reason detail now v h)
     (λ _. still-keeps v h)
 
-heard-keeps : (read : Result Pdu SafeFault) (now : ℕ) (v : View) → AreShortUnits v.ring → Keeps (machine_turn_of (heard read now) v)
+heard-keeps : (read : Result Pdu SafeFault) (now : ℕ) (v : View) → AreShortUnits v.ring → Keeps (machine_turn_of (move_of read now) v)
 heard-keeps (Ok p) now v h =
-    let g = guards-keeps now v h in keeps-then (guards now v) (responds p now) g (responds-keeps p now (guards now v).left g.ring)
+    let g = guards-keeps now v h in keeps-then (guard_turn now v) (response_turn p now) g (responds-keeps p now (guard_turn now v).left g.ring)
 heard-keeps (Err fault) now v h = guards-keeps now v h
 
 hears-keeps : (octets : List ℕ) (now : ℕ) (v : View) → AreShortUnits v.ring → Keeps (machine_hears octets now v)
 hears-keeps octets now v h = heard-keeps (safe_seen v.settings.rule octets) now v h
 
-ticks-keeps : (now : ℕ) (v : View) → AreShortUnits v.ring → Keeps (ticks now v)
+ticks-keeps : (now : ℕ) (v : View) → AreShortUnits v.ring → Keeps (tick_turn now v)
 ticks-keeps now v h =
     let g = guards-keeps now v h in
-    let w = (guards now v).left in
-    keeps-then (guards now v) (beats now) g
+    let w = (guard_turn now v).left in
+    keeps-then (guard_turn now v) (heartbeat_turn now) g
     (by_cond Keeps (beat_due now w) _ _ (λ _. record { made = (omega arith, tt); ring = g.ring }) (λ _. still-keeps w g.ring))
 
-sends-keeps : (unit : List ℕ) (now : ℕ) (v : View) → IsShortUnit unit → AreShortUnits v.ring → Keeps (sends unit now v)
+sends-keeps : (unit : List ℕ) (now : ℕ) (v : View) → IsShortUnit unit → AreShortUnits v.ring → Keeps (send_turn unit now v)
 sends-keeps unit now v short h =
     by_cond Keeps (has_room v) _ _
     (λ _. record {
@@ -230,7 +230,7 @@ record Named (s : SessionState) : Type 0 where
   peer : length s.addressing.peer ≤ NAME_LENGTH
   checksum : length (checksum_of s.role) ≤ CHECKSUM_MAX
 
-filled-length : (name : List ℕ) → length name ≤ NAME_LENGTH → length (filled name) ≡ 20
+filled-length : (name : List ℕ) → length name ≤ NAME_LENGTH → length (fill_name name) ≡ 20
 filled-length name h =
     let rest = NAME_LENGTH - length name in
     omega (arith, length-append name (replicate rest FILLING), length-replicate rest FILLING, h)
@@ -251,7 +251,7 @@ front-short protocol kind sender receiver payload two one other few =
 
 tele-short : (t : Tele) → length t.sender ≤ NAME_LENGTH → length t.receiver ≤ NAME_LENGTH → length t.payload ≤ PAYLOAD_MAX → IsShortMessage (tele_text t)
 tele-short t sender receiver payload =
-    front-short t.protocol (little_bytes 2 t.kind) (filled t.sender) (filled t.receiver) t.payload refl (filled-length t.sender sender)
+    front-short t.protocol (little_bytes 2 t.kind) (fill_name t.sender) (fill_name t.receiver) t.payload refl (filled-length t.sender sender)
     (filled-length t.receiver receiver) payload
 
 payload-short : (checksum : List ℕ) (n : Notice) → length checksum ≤ CHECKSUM_MAX → length (payload_of checksum n) ≤ PAYLOAD_MAX
@@ -279,7 +279,7 @@ record Talks (d : Dialogue) : Type 0 where
   named : Named (session_in d)
   messages : AreShort d.waiting
 
-meets-talks : (e : Event) (d : Dialogue) → Talks d → Talks (meets e d)
+meets-talks : (e : Event) (d : Dialogue) → Talks d → Talks (process_event e d)
 meets-talks e d h =
     record {
       named = record { own = h.named.own; peer = h.named.peer; checksum = h.named.checksum };
@@ -402,14 +402,14 @@ session-good n d v h k = record { placed = tt; able = able-as n v (session_turn 
 
 settles-good : (n : ℕ) (v : Fields) → Able n v → Good n (settles v)
 settles-good n v h =
-    by_cond (Good n) (is_closed v.machine.connection) (session_turn (meets Closes (dialogue_of v)) v) (end_still v)
-    (λ _. session-good n (meets Closes (dialogue_of v)) v h (meets-talks Closes (dialogue_of v) (talks-of v h.sized)))
+    by_cond (Good n) (is_closed v.machine.connection) (session_turn (process_event Closes (dialogue_of v)) v) (end_still v)
+    (λ _. session-good n (process_event Closes (dialogue_of v)) v h (meets-talks Closes (dialogue_of v) (talks-of v h.sized)))
     (λ _. same-good n v v h refl refl refl refl refl)
 
 end_leaves-good : (n now : ℕ) (why : Option Leaving) (v : Fields) → Able n v → Good n (end_leaves now why v)
 end_leaves-good n now None v h = same-good n v v h refl refl refl refl refl
 end_leaves-good n now (Some why) v h =
-    machine-good n (leaves why.0 why.1 now v.machine) v h (leaves-keeps why.0 why.1 now v.machine h.sized.units)
+    machine-good n (leave_turn why.0 why.1 now v.machine) v h (leaves-keeps why.0 why.1 now v.machine h.sized.units)
 
 departs-good : (n : ℕ) (cause : Option Departure) (v : Fields) → Able n v → Good n (departs cause v)
 departs-good n cause v h = same-good n v (departs cause v).left h refl refl refl refl refl
@@ -423,7 +423,7 @@ part-good : (n now : ℕ) (octets : List ℕ) (v : Fields) → Able n v → Good
 part-good n now octets v h =
     let before = v.machine.connection in
     let judged = judged_at now octets v in
-    let answer = heard_answer (safe_seen v.machine.settings.rule octets) now v.machine in
+    let answer = decoded_answer (safe_seen v.machine.settings.rule octets) now v.machine in
     let t0 = machine_turn (machine_hears octets now v.machine) v in
     let t1 = followed t0 (session_turn judged.left) in
     let t2 = followed t1 (notes before octets) in
@@ -431,7 +431,7 @@ part-good n now octets v h =
     let t4 = followed t3 (end_leaves now judged.leaving) in
     let t5 = followed t4 settles in
     let t6 = followed t5 (departs (closing now octets v)) in
-    let talk = units-talk (hears_units octets now v.machine) (dialogue_of v) (talks-of v h.sized) in
+    let talk = units-talk (octets_units octets now v.machine) (dialogue_of v) (talks-of v h.sized) in
     let h0 = machine-good n (machine_hears octets now v.machine) v h (hears-keeps octets now v.machine h.sized.units) in
     let h1 = good-then n t0 (session_turn judged.left) h0 (session-good n judged.left t0.left h0.able talk) in
     let h2 = good-then n t1 (notes before octets) h1 (same-good n t1.left (notes before octets t1.left).left h1.able refl refl refl refl refl) in
@@ -450,8 +450,8 @@ parts-good n now (p ∷ ps) v h =
 packs-good : (n now : ℕ) (v : Fields) → Able n v → Good n (packs now v)
 packs-good n now v h =
     let unit = unit_text (take v.max v.waiting) in
-    let t = machine_turn (sends unit now v.machine) v in
-    let one = machine-good n (sends unit now v.machine) v h
+    let t = machine_turn (send_turn unit now v.machine) v in
+    let one = machine-good n (send_turn unit now v.machine) v h
     (sends-keeps unit now v.machine (unit-short v.max v.waiting h.sized.together h.sized.messages) h.sized.units) in
     good-then n t (λ w. end_still (record w { waiting = drop v.max v.waiting })) one
     (record {
@@ -497,7 +497,7 @@ idle-good n v h = record { placed = tt; able = h }
 goes_on-good : (n now : ℕ) (i : Input) (v : Inside) → Able n v.upper → AllGood n (end_goes_on now i v)
 goes_on-good n now i v h =
     let t = receives now i v in
-    let p = parts-good n now (passed_by i v.red) v.upper h in
+    let p = parts-good n now (parts_passed i v.red) v.upper h in
     by_cond (AllGood n) (is_over v) (end_still v) (followed t (above_red (end_sends now))) (λ _. idle-good n v h)
     (λ _. all-good-then n t (above_red (end_sends now)) (record { placed = p.placed; able = p.able })
     (above-good n (end_sends now) t.left (sends-good n now t.left.upper p.able)))
@@ -506,40 +506,40 @@ arrives-good : (n now : ℕ) (octets : List ℕ) (v : Inside) → Able n v.upper
 arrives-good n now octets v h =
     let m = v.upper.machine in
     let cause = own_departure (overdue now m) now in
-    let first = above_red (settled (guards now m) cause) v in
-    let g = settled-good n (guards now m) cause v.upper h (guards-keeps now m h.sized.units) in
+    let first = above_red (settled (guard_turn now m) cause) v in
+    let g = settled-good n (guard_turn now m) cause v.upper h (guards-keeps now m h.sized.units) in
     by_cond (AllGood n) (is_over v) (end_still v) (followed first (end_goes_on now (Datagram octets now))) (λ _. idle-good n v h)
-    (λ _. all-good-then n first (end_goes_on now (Datagram octets now)) (above-good n (settled (guards now m) cause) v g)
+    (λ _. all-good-then n first (end_goes_on now (Datagram octets now)) (above-good n (settled (guard_turn now m) cause) v g)
     (goes_on-good n now (Datagram octets now) first.left g.able))
 
 passes-good : (n now : ℕ) (v : Inside) → Able n v.upper → AllGood n (passes now v)
 passes-good n now v h =
     let m = v.upper.machine in
     let cause = own_departure (overdue now m) now in
-    let first = above_red (settled (ticks now m) cause) v in
-    let g = settled-good n (ticks now m) cause v.upper h (ticks-keeps now m h.sized.units) in
+    let first = above_red (settled (tick_turn now m) cause) v in
+    let g = settled-good n (tick_turn now m) cause v.upper h (ticks-keeps now m h.sized.units) in
     by_cond (AllGood n) (is_over v) (end_still v) (followed first (end_goes_on now (RedTick now))) (λ _. idle-good n v h)
-    (λ _. all-good-then n first (end_goes_on now (RedTick now)) (above-good n (settled (ticks now m) cause) v g)
+    (λ _. all-good-then n first (end_goes_on now (RedTick now)) (above-good n (settled (tick_turn now m) cause) v g)
     (goes_on-good n now (RedTick now) first.left g.able))
 
 closes-good : (n now : ℕ) (v : Fields) → Able n v → Good n (closes now v)
 closes-good n now v h =
-    settled-good n (leaves ClosedByUser Unspecified now v.machine)
+    settled-good n (leave_turn ClosedByUser Unspecified now v.machine)
     (own_departure (if is_closed v.machine.connection then None else Some (ClosedByUser, Unspecified)) now) v h
     (leaves-keeps ClosedByUser Unspecified now v.machine h.sized.units)
 
 meets-then : (n now : ℕ) (e : Event) (v w : Fields) → Able n v → Able n w
-    → Good n (followed (session_turn (meets e (dialogue_of v)) w) (end_sends now))
+    → Good n (followed (session_turn (process_event e (dialogue_of v)) w) (end_sends now))
 meets-then n now e v w h k =
-    let d = meets e (dialogue_of v) in
+    let d = process_event e (dialogue_of v) in
     let one = session-good n d w k (meets-talks e (dialogue_of v) (talks-of v h.sized)) in
     good-then n (session_turn d w) (end_sends now) one (sends-good n now (session_turn d w).left one.able)
 
 puts-good : (n kind now : ℕ) (payload : List ℕ) (v : Fields) → Able n v → Good n (puts kind payload now v)
 puts-good n kind now payload v h =
     let e = Puts kind payload (length v.waiting) in
-    meets-then n now e v (accepts_in (meets e (dialogue_of v)) v) h
-    (same-good n v (accepts_in (meets e (dialogue_of v)) v) h refl refl refl refl refl).able
+    meets-then n now e v (accepts_in (process_event e (dialogue_of v)) v) h
+    (same-good n v (accepts_in (process_event e (dialogue_of v)) v) h refl refl refl refl refl).able
 
 completes-good : (n now : ℕ) (v : Fields) → Able n v → Good n (completes now v)
 completes-good n now v h = meets-then n now (Completes (length v.waiting)) v v h h

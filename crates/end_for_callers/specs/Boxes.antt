@@ -5,8 +5,8 @@ use Rattle.std.specs.List.{FoldsTo}
 use Rattle.octets.specs.Lists.{IsBeginning}
 use Rattle.octets.specs.declared.limits.TheConstants.{RED_PDU_MAX}
 use Rattle.pdi_session.specs.SessionStep.{Item}
-use Rattle.channels.specs.Told.{Sending, SendsOne, Told, counted}
-use Rattle.end_for_callers.specs.Queues.{Queued, emptied, fits, new_queue, with_piece}
+use Rattle.channels.specs.Told.{Sending, SendsOne, ChannelHistory, count_failure}
+use Rattle.end_for_callers.specs.Queues.{Queued, empty_queue, fits, new_queue, with_piece}
 use Rattle.end_for_callers.specs.Notes.{NoteQueue, heard_anew}
 use Rattle.end_for_callers.specs.declared.outbox.Shares.{Shares}
 
@@ -24,11 +24,11 @@ abbrev pub new_outgoing : ℕ → Outgoing
 new_outgoing datagrams = record { queue = new_queue datagrams (datagrams * RED_PDU_MAX); unsent = 0; notes = heard_anew false }
 
 -- no datagram waits, and none is counted; the notes stay
-abbrev pub cleared : Outgoing → Outgoing
-cleared o = record o { queue = emptied o.queue; unsent = 0 }
+abbrev pub clear_outgoing : Outgoing → Outgoing
+clear_outgoing o = record o { queue = empty_queue o.queue; unsent = 0 }
 
 -- what the contracts of an end know of these datagrams as its channels
-abbrev pub told_of : Outgoing → Told
+abbrev pub told_of : Outgoing → ChannelHistory
 told_of o = record { sent = Some o.queue.waiting; answers = None; asked = None; failed_sends = o.unsent; failed_receives = 0; room = λ _. 0 }
 
 -- the places set aside for a channel
@@ -41,8 +41,8 @@ share_of s channel =
     else 0
 
 -- the places set aside for all channels
-abbrev pub shared : Shares → ℕ
-shared s = s.first + s.second + s.third + s.fourth
+abbrev pub sum_of_shares : Shares → ℕ
+sum_of_shares s = s.first + s.second + s.third + s.fourth
 
 -- one place less for a channel, if one is set aside for it
 abbrev pub spent_on : ℕ → Shares → Shares
@@ -72,7 +72,7 @@ pub record Posting : Type 0 where
   pub shares : Shares
 
 -- what the contracts of an end know of the outbox as its channels: a send on a channel with a place set aside is sure
-abbrev pub told_in : Posting → Told
+abbrev pub told_in : Posting → ChannelHistory
 told_in p = record (told_of p.out) { room = λ channel. share_of p.shares channel }
 
 -- a datagram of this size leaves this number of places free, each with the room of the longest datagram
@@ -83,9 +83,9 @@ leaves_free rest size q = nat_lt rest q.places && nat_le (rest * RED_PDU_MAX + s
 abbrev pub with_posting : Sending → Posting → Posting
 with_posting x p =
     let rest = spent_on x.0 p.shares in
-    if leaves_free (shared rest) (length x.1) p.out.queue
+    if leaves_free (sum_of_shares rest) (length x.1) p.out.queue
     then record { out = record p.out { queue = with_piece x p.out.queue }; shares = rest }
-    else record p { out = record p.out { unsent = counted false p.out.unsent } }
+    else record p { out = record p.out { unsent = count_failure false p.out.unsent } }
 
 -- datagrams were sent in order: each is appended or counted; if the count did not change, all are appended
 pub record Posted (o : Outgoing) (xs : List Sending) (p : Outgoing) : Type 0 where

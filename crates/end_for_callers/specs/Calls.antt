@@ -19,8 +19,8 @@ use Rattle.end_for_callers.specs.declared.TheConstants.{CALL_TELEGRAMS, PART_PDU
 use Rattle.end_settings.specs.EndSettings.{EndSettings, are_fit}
 use Rattle.end_settings.specs.Configured.{side_of}
 use Rattle.end_settings.specs.declared.Side.{Side}
-use Rattle.stack_end.specs.Reopening.{reopens}
-use Rattle.end_for_callers.specs.Boxes.{Came, Incoming, Outgoing, Posted, Posting, cleared}
+use Rattle.stack_end.specs.Reopening.{reopening_turn}
+use Rattle.end_for_callers.specs.Boxes.{Came, Incoming, Outgoing, Posted, Posting, clear_outgoing}
 use Rattle.end_for_callers.specs.Queues.{Queued}
 
 -- an end on the outbox of a station as a caller sees it: without the places set aside
@@ -155,11 +155,11 @@ pub record Does (c : Call) (s t : StationValue) : Type 0 where
 -- the end opens again with the settings that it has, and both queues are empty
 pub record Reopens (first now : ℕ) (s t : StationValue) : Type 0 where
   -- each layer is as newly opened
-  pub left : inside t.end ≡ (reopens first now (inside s.end)).left
+  pub left : inside t.end ≡ (reopening_turn first now (inside s.end)).left
   -- the end's time is that of the call
   pub called : t.end.time ≡ now
   -- the old datagrams are gone, and those that the end sends at once are appended or counted
-  pub datagrams : Posted (cleared (outbox_of s)) (reopens first now (inside s.end)).sent (outbox_of t)
+  pub datagrams : Posted (clear_outgoing (outbox_of s)) (reopening_turn first now (inside s.end)).sent (outbox_of t)
   -- no telegram waits, and none is lost
   pub inbox : t.inbox ≡ record s.inbox { lost = false }
   -- the station's time is that of the call

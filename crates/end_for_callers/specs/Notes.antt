@@ -1,6 +1,6 @@
 -- The notes of an end that wait for the caller.
 use Rattle.std.specs.Prelude.{ℕ, ◌+◌, ◌==◌, ◌&&◌, Bool, false, not, nat_lt, Option, Some, None, List, [], ◌∷◌, ◌++◌, length, if◌then◌else◌}
-use Rattle.channels.specs.Told.{counted}
+use Rattle.channels.specs.Told.{count_failure}
 use Rattle.channels.specs.declared.note.Note.{Note}
 use Rattle.channels.specs.declared.note.Note.TheVariants as note
 use Rattle.end_for_callers.specs.declared.notes.StationNote.{StationNote}
@@ -33,7 +33,7 @@ abbrev pub with_note : StationNote → NoteQueue → NoteQueue
 with_note x q =
     if not q.hears then q
     else if (q.left_out == 0) && nat_lt (length q.waiting) NOTES_MAX then record q { waiting = q.waiting ++ x ∷ [] }
-    else record q { left_out = counted false q.left_out }
+    else record q { left_out = count_failure false q.left_out }
 
 -- the note that says how many had no room, if any
 abbrev pub gap_of : ℕ → Option StationNote

@@ -21,8 +21,8 @@ bytes_of [] = 0
 bytes_of (p ∷ ps) = length p.1 + bytes_of ps
 
 -- the queue without its pieces: all places and all room are free
-abbrev pub emptied : {T : Type 0} → Queued T → Queued T
-emptied q = new_queue (q.places + length q.waiting) (q.room + bytes_of q.waiting)
+abbrev pub empty_queue : {T : Type 0} → Queued T → Queued T
+empty_queue q = new_queue (q.places + length q.waiting) (q.room + bytes_of q.waiting)
 
 -- a place is free, and the room for this number of bytes
 abbrev pub fits : {T : Type 0} → ℕ → Queued T → Bool

@@ -4,7 +4,7 @@
 ghost use Rattle.octets.specs.declared.limits.TheConstants.{CHANNELS_MAX, RED_PDU_MAX};
 ghost use Rattle.std.specs.Prelude.{◌≡◌, ◌*◌, ◌<◌, ◌^◌, ◌≤◌, false, is_ok, IfOk, IfSome, length};
 ghost use Rattle.channels.specs.Told.{Sends, after_receive};
-ghost use Rattle.end_for_callers.specs.Boxes.{cleared, leaves_free, new_outgoing, shared, shares_of, spent_on, told_in, with_posting};
+ghost use Rattle.end_for_callers.specs.Boxes.{clear_outgoing, leaves_free, new_outgoing, sum_of_shares, shares_of, spent_on, told_in, with_posting};
 ghost use Rattle.end_for_callers.specs.Loads.{each_aside};
 ghost use Rattle.end_for_callers.specs.Notes.{heard_anew, next_of, note_of, rest_of, with_note};
 ghost use Rattle.end_for_callers.specs.Queues.{Popped};
@@ -46,9 +46,9 @@ impl Shares {
 
     /// Returns the places of all channels.
     fn total(&self) -> usize
-        requires small { shared self.now < 2 ^ 64 }
+        requires small { sum_of_shares self.now < 2 ^ 64 }
         // The result is the number of places set aside for all channels.
-        ensures { result ≡ shared self.now }
+        ensures { result ≡ sum_of_shares self.now }
     {
         self.first + self.second + self.third + self.fourth
     }
@@ -83,13 +83,13 @@ pub struct Outbox {
 impl Model for Outbox {
     ghost use Rattle.std.specs.Prelude.{◌≤◌, ◌*◌};
     ghost use Rattle.octets.specs.declared.limits.TheConstants.{RED_PDU_MAX};
-    ghost use Rattle.end_for_callers.specs.Boxes.{Posting, shared};
+    ghost use Rattle.end_for_callers.specs.Boxes.{Posting, sum_of_shares};
 
     ghost Value = { Posting };
 
     ghost view = { λ o. record { out = record { queue = o.queue; unsent = o.unsent; notes = o.notes }; shares = o.shares } };
 
-    ghost invariant = { λ o. (shared o.shares ≤ o.queue.places) × (shared o.shares * RED_PDU_MAX ≤ o.queue.room) };
+    ghost invariant = { λ o. (sum_of_shares o.shares ≤ o.queue.places) × (sum_of_shares o.shares * RED_PDU_MAX ≤ o.queue.room) };
 }
 
 impl Outbox {
@@ -132,7 +132,7 @@ impl Outbox {
     /// Drops the datagrams that wait, and counts unsent ones from 0 on. The notes stay.
     pub(crate) fn clear(&mut self)
         // No datagram waits, all places and room are free, and none is counted as unsent. The notes stay.
-        ensures { self.new.out ≡ cleared self.old.out }
+        ensures { self.new.out ≡ clear_outgoing self.old.out }
     {
         self.queue.clear();
         self.unsent = 0;
@@ -199,7 +199,7 @@ impl Channels for Outbox {
     /// - `Room` if it does not fit; it is counted then.
     fn send(&mut self, channel: usize, datagram: &[u8]) -> Result<(), ChannelFault>
         // A send succeeds if and only if the datagram leaves the places free that are set aside for others.
-        ensures ok { is_ok result ≡ leaves_free (shared (spent_on channel self.old.shares)) (length datagram.now) self.old.out.queue }
+        ensures ok { is_ok result ≡ leaves_free (sum_of_shares (spent_on channel self.old.shares)) (length datagram.now) self.old.out.queue }
         // A datagram that may go becomes the last one of the queue; any other adds 1 to the unsent ones.
         ensures kept { self.new ≡ with_posting (channel, datagram.now) self.old }
         // To the end's contracts this is a send like that of any channels: sent and recorded last, or failed and

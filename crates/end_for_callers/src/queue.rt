@@ -1,7 +1,7 @@
 //! A queue of byte strings in memory that is allocated once.
 
 ghost use Rattle.std.specs.Prelude.{◌≡◌, [], is_ok, IfOk, length, ◌&&◌, ◌==◌, nat_le, if◌then◌else◌};
-ghost use Rattle.end_for_callers.specs.Queues.{Popped, emptied, fits, new_queue, with_piece};
+ghost use Rattle.end_for_callers.specs.Queues.{Popped, empty_queue, fits, new_queue, with_piece};
 
 use circular_buffer::HeapCircularBuffer;
 use std::alloc::{AllocError, Allocator, Global};
@@ -75,8 +75,8 @@ impl<T: Copy + Drop, A: Allocator + Copy> Queue<T, A> {
 impl<T: Copy + Drop, A: Allocator> Queue<T, A> {
     /// Drops every piece. Their places and their room are free again.
     pub fn clear(&mut self)
-        // After `clear` nothing waits, and all places and all room are free (`emptied`).
-        ensures { self.new ≡ emptied self.old }
+        // After `clear` nothing waits, and all places and all room are free (`empty_queue`).
+        ensures { self.new ≡ empty_queue self.old }
     {
         self.heads.clear();
         self.octets.clear();

@@ -6,7 +6,7 @@ use linked_list_allocator::LocalHeap;
 use pdi_session::Phase;
 use red_layer::RedEvent;
 use safe_machine::{ConnectionState, Step};
-use stack_engine::{ApplyFault, Call, Doing, Event, NoteView, Pair};
+use stack_engine::{Action, ApplyFault, Call, Event, NoteView, Pair};
 use std::alloc::Allocator;
 use std::process::Abort;
 use std::test::Fail;
@@ -16,7 +16,7 @@ fn tick<A: Allocator + Copy>(pair: &mut Pair<A>, time: u64) -> Result<(), ApplyF
     pair.apply(&Event {
         side: Side::FieldElement,
         time,
-        doing: Doing::Call(Call::Tick),
+        doing: Action::Call(Call::Tick),
     })
 }
 
@@ -30,7 +30,7 @@ fn open<A: Allocator + Copy>(
     pair.apply(&Event {
         side,
         time: 10,
-        doing: Doing::Open {
+        doing: Action::Open {
             config: *config,
             first_sn,
         },
@@ -42,7 +42,7 @@ fn deliver(pair: &mut Pair, octets: &[u8]) -> Result<(), ApplyFault> {
     pair.apply(&Event {
         side: Side::FieldElement,
         time: 10,
-        doing: Doing::Call(Call::Deliver { channel: 1, octets }),
+        doing: Action::Call(Call::Deliver { channel: 1, octets }),
     })
 }
 
@@ -77,7 +77,7 @@ fn ticking<'a>(time: u64) -> Event<'a> {
     Event {
         side: Side::FieldElement,
         time,
-        doing: Doing::Call(Call::Tick),
+        doing: Action::Call(Call::Tick),
     }
 }
 
@@ -86,7 +86,7 @@ fn run(pair: &mut Pair, config: &EndConfig) -> Option<usize> {
     let opening = Event {
         side: Side::FieldElement,
         time: 10,
-        doing: Doing::Open {
+        doing: Action::Open {
             config: *config,
             first_sn: 500,
         },
@@ -229,7 +229,7 @@ fn comes(pair: &mut Pair, side: Side, channel: usize, octets: &[u8]) -> Option<u
     let event = Event {
         side,
         time: 10,
-        doing: Doing::Call(Call::Deliver { channel, octets }),
+        doing: Action::Call(Call::Deliver { channel, octets }),
     };
     pair.run(&[event]).ok()
 }
@@ -239,7 +239,7 @@ fn opens_both(pair: &mut Pair, il: &EndConfig, fe: &EndConfig) -> Option<usize> 
     let opening = |side, config: &EndConfig, first_sn| Event {
         side,
         time: 10,
-        doing: Doing::Open {
+        doing: Action::Open {
             config: *config,
             first_sn,
         },

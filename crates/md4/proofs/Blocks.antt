@@ -7,24 +7,24 @@ use Rattle.std.specs.Simd.{first_chunks}
 use Rattle.byteorder.specs.Endian.{little_number, little_bytes, IsRead}
 use Rattle.byteorder.specs.Numbers.{little_from-take}
 use Rattle.md4.specs.Rows.{HasAdded}
-use Rattle.md4.specs.Digest.{Round, stepped, four_steps, words_of, spelled}
+use Rattle.md4.specs.Digest.{Round, rotate_sum, four_steps, words_of, octets_of_words}
 
 -- four steps, from the words that each step read
 pub four_steps_are : (round : Round) (v row : List ℕ) {fa a fd d fc c fb b : ℕ}
     → fa ≡ round.mixed (slice_index v 1) (slice_index v 2) (slice_index v 3)
-    → a ≡ stepped (slice_index v 0) fa (slice_index row 0) round.added (slice_index round.shifts 0)
+    → a ≡ rotate_sum (slice_index v 0) fa (slice_index row 0) round.added (slice_index round.shifts 0)
     → fd ≡ round.mixed a (slice_index v 1) (slice_index v 2)
-    → d ≡ stepped (slice_index v 3) fd (slice_index row 1) round.added (slice_index round.shifts 1)
+    → d ≡ rotate_sum (slice_index v 3) fd (slice_index row 1) round.added (slice_index round.shifts 1)
     → fc ≡ round.mixed d a (slice_index v 1)
-    → c ≡ stepped (slice_index v 2) fc (slice_index row 2) round.added (slice_index round.shifts 2)
+    → c ≡ rotate_sum (slice_index v 2) fc (slice_index row 2) round.added (slice_index round.shifts 2)
     → fb ≡ round.mixed c d a
-    → b ≡ stepped (slice_index v 1) fb (slice_index row 3) round.added (slice_index round.shifts 3)
+    → b ≡ rotate_sum (slice_index v 1) fb (slice_index row 3) round.added (slice_index round.shifts 3)
     → a ∷ b ∷ c ∷ d ∷ [] ≡ four_steps round v row
 unfolding four_steps
 four_steps_are round v row efa ea efd ed efc ec efb eb = rw (eb, efb, ec, efc, ed, efd, ea, efa) refl
 
 -- a step with the constant added to the word before
-stepped-added : (a mixed word added sum shift : ℕ) → sum ≡ (word + added) % 2 ^ 32 → stepped a mixed sum 0 shift ≡ stepped a mixed word added shift
+stepped-added : (a mixed word added sum shift : ℕ) → sum ≡ (word + added) % 2 ^ 32 → rotate_sum a mixed sum 0 shift ≡ rotate_sum a mixed word added shift
 stepped-added a mixed word added sum shift e =
     let same : (a + mixed + sum + 0) % 2 ^ 32 ≡ (a + mixed + word + added) % 2 ^ 32 = omega arith in
     ap (λ (n : ℕ). rotate_left w32 n shift) same
@@ -32,13 +32,13 @@ stepped-added a mixed word added sum shift e =
 -- four steps on words with the constant added before
 pub added_steps_are : (round : Round) (v words row : List ℕ) {fa a fd d fc c fb b : ℕ} → HasAdded round words row
     → fa ≡ round.mixed (slice_index v 1) (slice_index v 2) (slice_index v 3)
-    → a ≡ stepped (slice_index v 0) fa (slice_index row 0) 0 (slice_index round.shifts 0)
+    → a ≡ rotate_sum (slice_index v 0) fa (slice_index row 0) 0 (slice_index round.shifts 0)
     → fd ≡ round.mixed a (slice_index v 1) (slice_index v 2)
-    → d ≡ stepped (slice_index v 3) fd (slice_index row 1) 0 (slice_index round.shifts 1)
+    → d ≡ rotate_sum (slice_index v 3) fd (slice_index row 1) 0 (slice_index round.shifts 1)
     → fc ≡ round.mixed d a (slice_index v 1)
-    → c ≡ stepped (slice_index v 2) fc (slice_index row 2) 0 (slice_index round.shifts 2)
+    → c ≡ rotate_sum (slice_index v 2) fc (slice_index row 2) 0 (slice_index round.shifts 2)
     → fb ≡ round.mixed c d a
-    → b ≡ stepped (slice_index v 1) fb (slice_index row 3) 0 (slice_index round.shifts 3)
+    → b ≡ rotate_sum (slice_index v 1) fb (slice_index row 3) 0 (slice_index round.shifts 3)
     → a ∷ b ∷ c ∷ d ∷ [] ≡ four_steps round v words
 added_steps_are round v words row {fa} {a} {fd} {d} {fc} {c} {fb} {b} sums efa ea efd ed efc ec efb eb =
     four_steps_are round v words
@@ -85,7 +85,7 @@ pub spelled_are : (words one two three four : List ℕ) → take 4 one ≡ littl
     → take 8 two ≡ take 4 one ++ little_bytes 4 (slice_index words 1)
     → take 12 three ≡ take 8 two ++ little_bytes 4 (slice_index words 2)
     → take 16 four ≡ take 12 three ++ little_bytes 4 (slice_index words 3)
-    → take 16 four ≡ spelled words
+    → take 16 four ≡ octets_of_words words
 spelled_are words one two three four e1 e2 e3 e4 =
     let two_words : take 8 two ≡ little_bytes 4 (slice_index words 0) ++ little_bytes 4 (slice_index words 1) =
     e2 ∙ ap (λ (xs : List ℕ). xs ++ little_bytes 4 (slice_index words 1)) e1 in

@@ -3,7 +3,7 @@ use Rattle.std.proofs.Common.{◌≡◌, ℕ, suc, ◌+◌, ◌-◌, ◌*◌, �
 use Rattle.std.specs.Prelude.{fold}
 use Rattle.std.proofs.Math.Seq.{set-append_seam}
 use Rattle.std.proofs.lemmas.List.{take_all, append_assoc, take_at, drop-replicate, length-replicate, replicate-append-replicate}
-use Rattle.md4.specs.Digest.{after_block, blocks_of, padded, filling, bit_count, digest, spelled}
+use Rattle.md4.specs.Digest.{after_block, blocks_of, pad, filling, bit_count, digest, octets_of_words}
 use Rattle.md4.specs.Md4.{HasTaken}
 use Rattle.md4.proofs.Feeding.{words_after, HasTaken-full}
 
@@ -41,7 +41,7 @@ all_taken iv octets words behind taken rest =
 
 -- if the last bytes and the number of bits fit into one block, one more block gives the digest
 pub digest_by_one : (iv octets words behind block : List ℕ) → words ≡ words_after iv (length octets / 64) octets → behind ≡ drop (length octets / 64 * 64) octets
-    → length behind < 56 → block ≡ take 56 (begun behind) ++ bit_count (length octets) → spelled (after_block words block) ≡ digest iv octets
+    → length behind < 56 → block ≡ take 56 (begun behind) ++ bit_count (length octets) → octets_of_words (after_block words block) ≡ digest iv octets
 unfolding digest
 digest_by_one iv octets words behind block taken rest short last =
     let many : length behind ≡ length octets % 64 = omega (arith, length-drop (length octets / 64 * 64) octets, ap length rest) in
@@ -52,16 +52,16 @@ digest_by_one iv octets words behind block taken rest short last =
     last ∙ ap (λ (xs : List ℕ). xs ++ bit_count (length octets)) (take-begun behind short) ∙ append_assoc behind fill (bit_count (length octets))
     ∙ ap (λ (xs : List ℕ). xs ++ tail) (sym (take_all (length octets % 64) behind (omega (arith, many)))) in
     let size : length octets % 64 + length tail ≡ 64 = omega (arith, many, length-append fill (bit_count (length octets)), length-replicate {A = ℕ} (55 - length behind) 0) in
-    let whole : padded octets ≡ octets ++ tail =
+    let whole : pad octets ≡ octets ++ tail =
     ap (λ (n : ℕ). (octets ++ 0x80 ∷ replicate n 0) ++ bit_count (length octets)) zeros ∙ append_assoc octets fill (bit_count (length octets)) in
     let all : HasTaken (after_block words block) [] iv (octets ++ tail) =
     HasTaken-full words behind [] iv octets tail block (all_taken iv octets words behind taken rest) size parts in
-    ap spelled (all.blocks ∙ ap (λ (xs : List ℕ). fold after_block iv (blocks_of xs)) (sym whole))
+    ap octets_of_words (all.blocks ∙ ap (λ (xs : List ℕ). fold after_block iv (blocks_of xs)) (sym whole))
 
 -- if they do not, two more blocks give the digest
 pub digest_by_two : (iv octets words behind block last : List ℕ) → words ≡ words_after iv (length octets / 64) octets
     → behind ≡ drop (length octets / 64 * 64) octets → 56 ≤ length behind → block ≡ begun behind → last ≡ replicate 56 0 ++ bit_count (length octets)
-    → spelled (after_block (after_block words block) last) ≡ digest iv octets
+    → octets_of_words (after_block (after_block words block) last) ≡ digest iv octets
 unfolding digest
 digest_by_two iv octets words behind block last taken rest long first second =
     let many : length behind ≡ length octets % 64 = omega (arith, length-drop (length octets / 64 * 64) octets, ap length rest) in
@@ -78,8 +78,8 @@ digest_by_two iv octets words behind block last taken rest long first second =
     let wide : length last ≡ 64 = ap length second in
     let two : HasTaken (after_block (after_block words block) last) [] iv ((octets ++ head) ++ last) =
     HasTaken-full (after_block words block) [] [] iv (octets ++ head) last last one (omega (arith, edge, wide)) (rw edge refl) in
-    let whole : padded octets ≡ (octets ++ head) ++ last =
+    let whole : pad octets ≡ (octets ++ head) ++ last =
     ap (λ (xs : List ℕ). (octets ++ xs) ++ bit_count (length octets)) fill
     ∙ ap (λ (xs : List ℕ). xs ++ bit_count (length octets)) (sym (append_assoc octets head (replicate 56 0)))
     ∙ append_assoc (octets ++ head) (replicate 56 0) (bit_count (length octets)) ∙ ap (λ (xs : List ℕ). (octets ++ head) ++ xs) (sym second) in
-    ap spelled (two.blocks ∙ ap (λ (xs : List ℕ). fold after_block iv (blocks_of xs)) (sym whole))
+    ap octets_of_words (two.blocks ∙ ap (λ (xs : List ℕ). fold after_block iv (blocks_of xs)) (sym whole))

@@ -4,7 +4,7 @@
 //! registers.
 
 ghost use Rattle.std.specs.Prelude.{◌≡◌, ℕ, ◌+◌, ◌%◌, ◌^◌, ◌<◌, List, [], ◌∷◌, length, slice_index};
-ghost use Rattle.md4.specs.Digest.{conditional, majority, parity, stepped, first_round, second_round, third_round, four_steps, after_round, after_block, spelled};
+ghost use Rattle.md4.specs.Digest.{conditional, majority, parity, rotate_sum, first_round, second_round, third_round, four_steps, after_round, after_block, octets_of_words};
 ghost use Rattle.md4.specs.Rows.{HasAdded};
 
 use byteorder::{ByteOrder, LittleEndian};
@@ -48,7 +48,7 @@ fn parity(x: u32, y: u32, z: u32) -> u32
 #[inline(always)]
 fn stepped(a: u32, mixed: u32, word: u32, shift: u32) -> u32
     // The result of `stepped` is the sum of `a`, `mixed` and `word` modulo 2^32, rotated left by `shift`.
-    ensures { result ≡ stepped a mixed word 0 shift }
+    ensures { result ≡ rotate_sum a mixed word 0 shift }
 {
     // `mixed` waits for the previous step, so it is added last.
     a.wrapping_add(word).wrapping_add(mixed).rotate_left(shift)
@@ -171,7 +171,7 @@ pub fn take_in(words: &mut [u32; 4], block: &[u8])
 /// Returns the four words as bytes.
 pub fn spelled(words: [u32; 4]) -> [u8; 16]
     // The result is the four words in order, each least significant byte first.
-    ensures { result ≡ spelled words }
+    ensures { result ≡ octets_of_words words }
 {
     let mut octets = [0; 16];
     put_u32(&mut octets, 0, words[0]);

@@ -1,7 +1,7 @@
 -- Laws of the chain of steps along a list: the effect of calls of one method, one for each item in order, on a value.
 use Rattle.std.proofs.Common.{◌≡◌, List, [], ◌∷◌, ◌++◌, fold, sym, ap, subst, ◌∙◌}
 use Rattle.std.specs.List.{FoldsTo}
-use Rattle.octets.specs.Steps.{outs}
+use Rattle.octets.specs.Steps.{outputs}
 
 -- if each step moves a view by a function, the steps move it by the fold
 pub FoldsTo-view : {S A V : Type 0} (view : S → V) (next : V → A → V) (R : S → A → S → Type 0) → ((s : S) (x : A) (t : S) → R s x t → view t ≡ next (view s) x)
@@ -30,9 +30,9 @@ FoldsTo-part part R Q step (x ∷ xs) s t (mid, first, rest) = (part mid, step s
 -- if each step moves a view by a function and takes a part through steps of its own, the steps take the part through all of these
 pub FoldsTo-inner : {S A V P B : Type 0} (part : S → P) (view : S → V) (next : V → A → V) (out : V → A → List B) (R : S → A → S → Type 0) (Q : P → B → P → Type 0)
     → ((s : S) (x : A) (t : S) → R s x t → (view t ≡ next (view s) x) × FoldsTo Q (part s) (out (view s) x) (part t))
-    → (xs : List A) (s t : S) → FoldsTo R s xs t → FoldsTo Q (part s) (outs next out (view s) xs) (part t)
+    → (xs : List A) (s t : S) → FoldsTo R s xs t → FoldsTo Q (part s) (outputs next out (view s) xs) (part t)
 FoldsTo-inner part view next out R Q each [] s t e = ap part e
 FoldsTo-inner part view next out R Q each (x ∷ xs) s t (mid, first, rest) =
     let one = each s x mid first in
-    FoldsTo-append Q (out (view s) x) (outs next out (next (view s) x) xs) (part s) (part mid) (part t) one.1
-    (subst (λ v. FoldsTo Q (part mid) (outs next out v xs) (part t)) one.0 (FoldsTo-inner part view next out R Q each xs mid t rest))
+    FoldsTo-append Q (out (view s) x) (outputs next out (next (view s) x) xs) (part s) (part mid) (part t) one.1
+    (subst (λ v. FoldsTo Q (part mid) (outputs next out v xs) (part t)) one.0 (FoldsTo-inner part view next out R Q each xs mid t rest))

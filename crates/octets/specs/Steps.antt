@@ -2,6 +2,6 @@
 use Rattle.std.specs.Prelude.{List, [], ◌∷◌, ◌++◌}
 
 -- the lists that all items make, concatenated in order; each is made in the state that the items before it leave
-abbrev pub outs : {V X Y : Type 0} → (V → X → V) → (V → X → List Y) → V → List X → List Y
-outs next out v [] = []
-outs next out v (x ∷ xs) = out v x ++ outs next out (next v x) xs
+abbrev pub outputs : {V X Y : Type 0} → (V → X → V) → (V → X → List Y) → V → List X → List Y
+outputs next out v [] = []
+outputs next out v (x ∷ xs) = out v x ++ outputs next out (next v x) xs

@@ -9,7 +9,7 @@ use Rattle.std.specs.List.{count_by, list_all}
 use Rattle.std.specs.Result.{result_ok}
 use Rattle.octets.specs.declared.limits.TheConstants.{NAME_LENGTH, FILLING}
 use Rattle.pdi_session.specs.declared.telegram.NameFault.{NameFault}
-use Rattle.pdi_session.specs.telegram.Names.{HasCharacters, IsName, filled, is_character, name_read}
+use Rattle.pdi_session.specs.telegram.Names.{HasCharacters, IsName, fill_name, is_character, name_read}
 use Rattle.pdi_session.specs.telegram.Places.{name_seen}
 use Rattle.pdi_session.proofs.NameLemmas.{character_plain, filled_seen, name_read-ok, read_cases, seen_spelled, spelled_at}
 
@@ -32,7 +32,7 @@ count-filling : (n : ℕ) → count (replicate n FILLING) ≡ 0
 count-filling zero = refl
 count-filling (suc n) = omega (arith, sum_by-cons counts FILLING (replicate n FILLING), count-filling n)
 
-count-filled : (name : List ℕ) → HasCharacters name → count (filled name) ≡ length name
+count-filled : (name : List ℕ) → HasCharacters name → count (fill_name name) ≡ length name
 count-filled name h =
     let filling : List ℕ = replicate (NAME_LENGTH - length name) FILLING in
     omega (arith, sum_by-append counts name filling, count-characters name h, count-filling (NAME_LENGTH - length name))
@@ -47,7 +47,7 @@ none_counts (x ∷ xs) h =
     ]
 
 -- if as many characters as counted come first, they are a name with its filling
-front_named : (field : List ℕ) → length field ≡ NAME_LENGTH → IsName (take (count field) field) → field ≡ filled (take (count field) field)
+front_named : (field : List ℕ) → length field ≡ NAME_LENGTH → IsName (take (count field) field) → field ≡ fill_name (take (count field) field)
 front_named field long is =
     let front : List ℕ = take (count field) field in
     let size : length front ≡ count field = omega (arith, length-take (count field) field, count_by-le-length (λ (octet : ℕ). not (octet == FILLING)) field) in

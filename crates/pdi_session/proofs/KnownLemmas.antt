@@ -10,34 +10,34 @@ use Rattle.octets.specs.declared.limits.TheConstants.{MESSAGE_MAX, MESSAGE_MIN, 
 use Rattle.pdi_session.specs.declared.telegram.TheConstants.{KIND}
 use Rattle.pdi_session.specs.telegram.Known.{IsField, IsPair, first_name, second_name}
 use Rattle.octets.proofs.Fields.{FitOctets, field_at}
-use Rattle.pdi_session.specs.telegram.Names.{IsName, filled}
+use Rattle.pdi_session.specs.telegram.Names.{IsName, fill_name}
 use Rattle.pdi_session.specs.telegram.Places.{name_seen, receiver_field, sender_field, tele_seen}
 use Rattle.pdi_session.specs.telegram.Tele.{Tele}
 use Rattle.pdi_session.proofs.NameLemmas.{filled_seen}
 use Rattle.pdi_session.proofs.TeleLemmas.{length-filled, same_tele}
 
-field_made : (field name : List ℕ) → IsName name → field ≡ filled name → IsField (length name) field
+field_made : (field name : List ℕ) → IsName name → field ≡ fill_name name → IsField (length name) field
 field_made field name is e =
     let front : take (length name) field ≡ name = rw e (take-append_seam name (replicate (NAME_LENGTH - length name) FILLING)) in
-    (rw front is, e ∙ ap filled (sym front), ap length front)
+    (rw front is, e ∙ ap fill_name (sym front), ap length front)
 
 -- the names written one after the other
 pub record Written (octets one other : List ℕ) : Type 0 where
-  pub front : take NAME_LENGTH octets ≡ filled one
-  pub behind : drop NAME_LENGTH octets ≡ filled other
+  pub front : take NAME_LENGTH octets ≡ fill_name one
+  pub behind : drop NAME_LENGTH octets ≡ fill_name other
 
-pub written : (octets first none one other : List ℕ) → IsName one → length octets ≡ 40 → take 20 first ≡ none ++ filled one → none ≡ []
-    → take 40 octets ≡ take 20 first ++ filled other → Written octets one other
+pub written : (octets first none one other : List ℕ) → IsName one → length octets ≡ 40 → take 20 first ≡ none ++ fill_name one → none ≡ []
+    → take 40 octets ≡ take 20 first ++ fill_name other → Written octets one other
 written octets first none one other is long before nothing after =
-    let whole : octets ≡ filled one ++ filled other =
+    let whole : octets ≡ fill_name one ++ fill_name other =
     sym (take_all 40 octets (omega (arith, long)))
     ∙ after
-    ∙ ap (λ (front : List ℕ). front ++ filled other) (before ∙ ap (λ (xs : List ℕ). xs ++ filled one) nothing)
+    ∙ ap (λ (front : List ℕ). front ++ fill_name other) (before ∙ ap (λ (xs : List ℕ). xs ++ fill_name one) nothing)
     in
     let size = length-filled one is in
     record {
-      front = ap (take NAME_LENGTH) whole ∙ ap (λ (n : ℕ). take n (filled one ++ filled other)) (sym size) ∙ take-append_seam (filled one) (filled other);
-      behind = ap (drop NAME_LENGTH) whole ∙ ap (λ (n : ℕ). drop n (filled one ++ filled other)) (sym size) ∙ drop-append_seam (filled one) (filled other);
+      front = ap (take NAME_LENGTH) whole ∙ ap (λ (n : ℕ). take n (fill_name one ++ fill_name other)) (sym size) ∙ take-append_seam (fill_name one) (fill_name other);
+      behind = ap (drop NAME_LENGTH) whole ∙ ap (λ (n : ℕ). drop n (fill_name one ++ fill_name other)) (sym size) ∙ drop-append_seam (fill_name one) (fill_name other);
     }
 
 pub pair_made : (octets one other : List ℕ) → IsName one → IsName other → length octets ≡ 40 → Written octets one other → IsPair octets (length one) (length other)

@@ -11,7 +11,7 @@ use Rattle.std.specs.Str.{IsAscii}
 use Rattle.pdi_session.specs.declared.telegram.NameFault.{NameFault}
 use Rattle.pdi_session.specs.declared.telegram.NameFault.TheVariants.{Empty, Long, Character}
 use Rattle.octets.specs.declared.limits.TheConstants.{NAME_LENGTH, FILLING}
-use Rattle.pdi_session.specs.telegram.Names.{HasCharacters, IsName, filled, is_character, name_read}
+use Rattle.pdi_session.specs.telegram.Names.{HasCharacters, IsName, fill_name, is_character, name_read}
 use Rattle.pdi_session.specs.telegram.Places.{HoldsNoName, name_at, name_seen, name_size}
 
 -- a character is not filling, and is ASCII
@@ -78,7 +78,7 @@ name_at-some : (size : ℕ) (field name : List ℕ) → take size field ≡ name
 name_at-some size field name front filling reads = rw (filling, front, reads) refl
 
 -- a name with its filling is read as that name
-pub filled_seen : (name field : List ℕ) → IsName name → field ≡ filled name → name_seen field ≡ Some name
+pub filled_seen : (name field : List ℕ) → IsName name → field ≡ fill_name name → name_seen field ≡ Some name
 filled_seen name field is e =
     let filling : List ℕ = replicate (NAME_LENGTH - length name) FILLING in
     let size : name_size field ≡ length name = ap name_size e ∙ name_size-append name filling is.2 (name_size-replicate (NAME_LENGTH - length name)) in
@@ -93,7 +93,7 @@ holds_none field none name is e = let some = filled_seen name field is e in cc
 -- a place that is read as a name has it with its filling
 pub record Spelled (field name : List ℕ) : Type 0 where
   pub is : IsName name
-  pub spelled : field ≡ filled name
+  pub spelled : field ≡ fill_name name
 
 pub spelled_at : (size : ℕ) (field : List ℕ) → length field ≡ NAME_LENGTH → IsName (take size field)
     → list_all (λ octet. octet == FILLING) (drop size field) ≡ true → Spelled field (take size field)

@@ -8,7 +8,7 @@ use Rattle.byteorder.specs.Endian.{little_number}
 use Rattle.octets.proofs.Fields.{FitOctets, Splits, Splits-then, field_at, field_below, field_reads}
 use Rattle.octets.specs.declared.limits.TheConstants.{MESSAGE_MIN, MESSAGE_MAX, NAME_LENGTH, FILLING}
 use Rattle.pdi_session.specs.declared.telegram.TheConstants.{KIND, RECEIVER, SENDER}
-use Rattle.pdi_session.specs.telegram.Names.{IsName, filled}
+use Rattle.pdi_session.specs.telegram.Names.{IsName, fill_name}
 use Rattle.pdi_session.specs.telegram.Places.{IsSized, name_seen, receiver_field, sender_field, tele_seen}
 use Rattle.pdi_session.specs.telegram.Tele.{Tele}
 use Rattle.pdi_session.specs.telegram.TeleText.{TeleText}
@@ -18,11 +18,11 @@ use Rattle.pdi_session.proofs.NameLemmas.{filled_seen}
 pub record Reads (t : Tele) (octets : List ℕ) : Type 0 where
   pub protocol : t.protocol ≡ slice_index octets 0
   pub kind : t.kind ≡ little_number 2 (drop KIND octets)
-  pub sender : sender_field octets ≡ filled t.sender
-  pub receiver : receiver_field octets ≡ filled t.receiver
+  pub sender : sender_field octets ≡ fill_name t.sender
+  pub receiver : receiver_field octets ≡ fill_name t.receiver
   pub payload : t.payload ≡ drop MESSAGE_MIN octets
 
-pub length-filled : (name : List ℕ) → IsName name → length (filled name) ≡ NAME_LENGTH
+pub length-filled : (name : List ℕ) → IsName name → length (fill_name name) ≡ NAME_LENGTH
 length-filled name is = omega (arith, is.1, length-append name (replicate (NAME_LENGTH - length name) FILLING), length-replicate (NAME_LENGTH - length name) FILLING)
 
 first_octet : (xs : List ℕ) → 0 < length xs → Splits xs (slice_index xs 0 ∷ []) (drop 1 xs)
@@ -59,8 +59,8 @@ rest_of n a b xs e long = rw (e, ← long) (drop-append_seam a b)
 -- in an encoding the fields are at their places
 pub text_reads : (t : Tele) (octets : List ℕ) → TeleText t octets → Reads t octets
 text_reads t octets text =
-    let s : List ℕ = filled t.sender in
-    let r : List ℕ = filled t.receiver in
+    let s : List ℕ = fill_name t.sender in
+    let r : List ℕ = fill_name t.receiver in
     let long-s : length s ≡ NAME_LENGTH = length-filled t.sender text.sender in
     let long-r : length r ≡ NAME_LENGTH = length-filled t.receiver text.receiver in
     let behind-kind : drop SENDER octets ≡ s ++ (r ++ t.payload) = ap (drop 3) text.spelled ∙ append_assoc s r t.payload in
@@ -91,7 +91,7 @@ unfolding made_of
 same_tele p q protocol kind sender receiver payload = same_made p q protocol kind sender receiver payload
 
 -- a name read at a place is the name encoded there
-same_name : (field read name : List ℕ) → Some read ≡ name_seen field → IsName name → field ≡ filled name → read ≡ name
+same_name : (field read name : List ℕ) → Some read ≡ name_seen field → IsName name → field ≡ fill_name name → read ≡ name
 same_name field read name seen is spelled = let again = filled_seen name field is spelled in cc
 
 -- an encoding is read as its telegram

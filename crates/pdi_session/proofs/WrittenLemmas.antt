@@ -4,7 +4,7 @@ use Rattle.std.proofs.Math.ListN.{replicate}
 use Rattle.std.proofs.Math.Seq.{take-add}
 use Rattle.std.proofs.lemmas.List.{length-take, length-append, length-replicate, drop-drop, drop-replicate, drop-take}
 use Rattle.octets.specs.declared.limits.TheConstants.{NAME_LENGTH, FILLING}
-use Rattle.pdi_session.specs.telegram.Names.{IsName, filled}
+use Rattle.pdi_session.specs.telegram.Names.{IsName, fill_name}
 use Rattle.pdi_session.proofs.TeleLemmas.{front_of, rest_of}
 
 -- the place after filling was written
@@ -42,7 +42,7 @@ left_blank place n mid short blank =
 pub named_front : (place : ℕ) (name old mid new : List ℕ) → IsName name → place + NAME_LENGTH ≤ length old
     → take (place + NAME_LENGTH) mid ≡ take place old ++ replicate NAME_LENGTH FILLING
     → take (place + length name) new ≡ take place mid ++ name → drop (place + length name) new ≡ drop (place + length name) mid
-    → take (place + NAME_LENGTH) new ≡ take place old ++ filled name
+    → take (place + NAME_LENGTH) new ≡ take place old ++ fill_name name
 named_front place name old mid new is room written named rest =
     let under = blank place old mid room written in
     let left : ℕ = NAME_LENGTH - length name in

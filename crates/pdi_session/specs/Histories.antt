@@ -4,7 +4,7 @@ use Rattle.pdi_session.specs.telegram.Tele.{Tele}
 use Rattle.pdi_session.specs.declared.Phase.{Phase}
 use Rattle.pdi_session.specs.declared.Phase.TheVariants.{Idle, Ended}
 use Rattle.pdi_session.specs.Settings.{Addressing, Role}
-use Rattle.pdi_session.specs.SessionStep.{Event, Arrives, Puts, Item, SessionState, added_by, after, end_of, judged, opened, phase_after, put_refusal, taken_by, texts}
+use Rattle.pdi_session.specs.SessionStep.{Event, Arrives, Puts, Item, SessionState, added_by, after, end_of, judge_telegram, new_session, phase_after, put_refusal, taken_by, texts}
 
 -- what a session has done, from its creation on
 pub record History : Type 0 where
@@ -24,9 +24,9 @@ pub record History : Type 0 where
   pub ended_in : Option Phase
 
 -- the history of a new session
-abbrev pub begun : Addressing → Role → History
-begun addressing role =
-    record { state = opened addressing role; phases = Idle ∷ []; queue = []; judged = []; put = []; taken = []; ended_in = None }
+abbrev pub new_history : Addressing → Role → History
+new_history addressing role =
+    record { state = new_session addressing role; phases = Idle ∷ []; queue = []; judged = []; put = []; taken = []; ended_in = None }
 
 -- the telegram that arrives with an event, if any
 abbrev pub handed_by : Event → List Tele
@@ -45,12 +45,12 @@ is_ended phase = false
 
 -- an arriving telegram ends a session that is not over
 abbrev pub ends_by : Event → SessionState → Bool
-ends_by (Arrives t) s = not (is_ended s.phase) && not (is_none (end_of (judged s t)))
+ends_by (Arrives t) s = not (is_ended s.phase) && not (is_none (end_of (judge_telegram s t)))
 ends_by e s = false
 
 -- the history after one more event
-abbrev pub grown : Event → History → History
-grown e h =
+abbrev pub add_event : Event → History → History
+add_event e h =
     record {
       state = after e h.state;
       phases = h.phases ++ phase_after e h.state ∷ [];
@@ -62,9 +62,9 @@ grown e h =
     }
 
 -- the history after a list of events
-abbrev pub grown_along : List Event → History → History
-grown_along [] h = h
-grown_along (e ∷ es) h = grown_along es (grown e h)
+abbrev pub add_events : List Event → History → History
+add_events [] h = h
+add_events (e ∷ es) h = add_events es (add_event e h)
 
 -- a session and its waiting messages fit a history: it has this state, and the waiting messages are the last ones of its queue
 pub record StandsFor (s : SessionState) (waiting : List (List ℕ)) (h : History) : Type 0 where

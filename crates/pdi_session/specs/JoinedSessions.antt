@@ -8,7 +8,7 @@ use Rattle.pdi_session.specs.declared.Phase.TheVariants.{Idle, Initialising, Est
 use Rattle.pdi_session.specs.Settings.{Addressing, Interlocking, Field}
 use Rattle.pdi_session.specs.Tables.{is_early}
 use Rattle.pdi_session.specs.SessionStep.{Event, Arrives}
-use Rattle.pdi_session.specs.Histories.{History, begun, grown, grown_along, is_ended}
+use Rattle.pdi_session.specs.Histories.{History, new_history, add_event, add_events, is_ended}
 use Rattle.pdi_session.specs.Laws.{was_established}
 
 -- the histories of both sessions
@@ -24,14 +24,14 @@ pub data JoinedEvent : Type 0 where
   AtFe : (event : Event) → JoinedEvent
 
 -- the histories after an event
-abbrev pub happens : JoinedEvent → Joined → Joined
-happens (AtIl e) j = record { il = grown e j.il; fe = j.fe }
-happens (AtFe e) j = record { il = j.il; fe = grown e j.fe }
+abbrev pub apply_event : JoinedEvent → Joined → Joined
+apply_event (AtIl e) j = record { il = add_event e j.il; fe = j.fe }
+apply_event (AtFe e) j = record { il = j.il; fe = add_event e j.fe }
 
 -- the histories after a list of events
-abbrev pub happen : List JoinedEvent → Joined → Joined
-happen [] j = j
-happen (e ∷ es) j = happen es (happens e j)
+abbrev pub apply_events : List JoinedEvent → Joined → Joined
+apply_events [] j = j
+apply_events (e ∷ es) j = apply_events es (apply_event e j)
 
 -- a telegram that arrives is the next one of the peer's queue, and the session is not over; other events are always possible
 abbrev pub IsNext : Event → History → History → Type 0
@@ -46,15 +46,15 @@ IsNextAt (AtFe e) j = IsNext e j.fe j.il
 -- two sessions are in turn: every event of the list is the next one when it happens
 abbrev pub InTurn : List JoinedEvent → Joined → Type 0
 InTurn [] j = ⊤
-InTurn (e ∷ es) j = IsNextAt e j × InTurn es (happens e j)
+InTurn (e ∷ es) j = IsNextAt e j × InTurn es (apply_event e j)
 
 -- if a telegram ended the session, it was in a phase before Initialising, and the peer has put nothing
 abbrev pub EndsEarly : History → History → Type 0
 EndsEarly h peer = (phase : Phase) → h.ended_in ≡ Some phase → (is_early phase ≡ true) × (peer.put ≡ [])
 
 -- two new sessions, an interlocking and a field element
-abbrev pub joined : Addressing → ℕ → Addressing → List ℕ → List ℕ → Joined
-joined il version fe versions checksum = record { il = begun il (Interlocking version); fe = begun fe (Field versions checksum) }
+abbrev pub new_sessions : Addressing → ℕ → Addressing → List ℕ → List ℕ → Joined
+new_sessions il version fe versions checksum = record { il = new_history il (Interlocking version); fe = new_history fe (Field versions checksum) }
 
 -- this holds of both sessions
 abbrev pub EndEarly : Joined → Type 0
@@ -63,19 +63,19 @@ EndEarly j = EndsEarly j.il j.fe × EndsEarly j.fe j.il
 -- of two sessions in turn, a telegram ends one only before Initialising, and then its peer has put nothing; settings need not match
 abbrev pub PhaseLaw : Type 0
 PhaseLaw = (il fe : Addressing) (version : ℕ) (versions checksum : List ℕ) → length checksum ≤ CHECKSUM_MAX → (es : List JoinedEvent)
-    → InTurn es (joined il version fe versions checksum) → EndEarly (happen es (joined il version fe versions checksum))
+    → InTurn es (new_sessions il version fe versions checksum) → EndEarly (apply_events es (new_sessions il version fe versions checksum))
 
 -- of two sessions in turn, what each application takes is a prefix of what the other has put
 abbrev pub TakesFrontLaw : Type 0
 TakesFrontLaw = (il fe : Addressing) (version : ℕ) (versions checksum : List ℕ) → length checksum ≤ CHECKSUM_MAX → (es : List JoinedEvent)
-    → InTurn es (joined il version fe versions checksum) → let end = happen es (joined il version fe versions checksum) in
+    → InTurn es (new_sessions il version fe versions checksum) → let end = apply_events es (new_sessions il version fe versions checksum) in
     IsBeginning end.il.taken end.fe.put × IsBeginning end.fe.taken end.il.put
 
 -- an event appended to a list extends the history by it; sessions in turn stay in turn if it is the next one
 abbrev pub OneMoreLaw : Type 0
-OneMoreLaw = ((es : List Event) (e : Event) (h : History) → grown_along (es ++ e ∷ []) h ≡ grown e (grown_along es h))
-    × ((es : List JoinedEvent) (e : JoinedEvent) (j : Joined) → happen (es ++ e ∷ []) j ≡ happens e (happen es j))
-    × ((es : List JoinedEvent) (e : JoinedEvent) (j : Joined) → InTurn es j → IsNextAt e (happen es j) → InTurn (es ++ e ∷ []) j)
+OneMoreLaw = ((es : List Event) (e : Event) (h : History) → add_events (es ++ e ∷ []) h ≡ add_event e (add_events es h))
+    × ((es : List JoinedEvent) (e : JoinedEvent) (j : Joined) → apply_events (es ++ e ∷ []) j ≡ apply_event e (apply_events es j))
+    × ((es : List JoinedEvent) (e : JoinedEvent) (j : Joined) → InTurn es j → IsNextAt e (apply_events es j) → InTurn (es ++ e ∷ []) j)
 
 -- the settings of two sessions match: protocol type, names, and a version that the field element has
 pub record Fits (il : Addressing) (version : ℕ) (fe : Addressing) (versions : List ℕ) : Type 0 where
@@ -91,7 +91,7 @@ pub record Fits (il : Addressing) (version : ℕ) (fe : Addressing) (versions : 
 -- if the settings match, no telegram ends either session, except one that reaches the field element while it is Idle
 abbrev pub MatchingLaw : Type 0
 MatchingLaw = (il fe : Addressing) (version : ℕ) (versions checksum : List ℕ) → length checksum ≤ CHECKSUM_MAX → Fits il version fe versions → (es : List JoinedEvent)
-    → InTurn es (joined il version fe versions checksum) → let end = happen es (joined il version fe versions checksum) in
+    → InTurn es (new_sessions il version fe versions checksum) → let end = apply_events es (new_sessions il version fe versions checksum) in
     (end.il.ended_in ≡ None) × ((phase : Phase) → end.fe.ended_in ≡ Some phase → phase ≡ Idle)
 
 -- both are Initialising, or both are Established; the latter if the field element was Established before
@@ -110,5 +110,5 @@ pub record IsRunning (h : History) : Type 0 where
 -- two sessions in turn that run and have judged all of each other's queue are in step
 abbrev pub InStepLaw : Type 0
 InStepLaw = (il fe : Addressing) (version : ℕ) (versions checksum : List ℕ) → length checksum ≤ CHECKSUM_MAX → (es : List JoinedEvent)
-    → InTurn es (joined il version fe versions checksum) → let end = happen es (joined il version fe versions checksum) in
+    → InTurn es (new_sessions il version fe versions checksum) → let end = apply_events es (new_sessions il version fe versions checksum) in
     IsRunning end.il → IsRunning end.fe → end.il.judged ≡ end.fe.queue → end.fe.judged ≡ end.il.queue → AreInStep end.il end.fe

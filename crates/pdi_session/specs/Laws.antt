@@ -13,8 +13,8 @@ use Rattle.pdi_session.specs.declared.Notice.TheVariants as notice
 use Rattle.pdi_session.specs.Settings.{Addressing, AreSettings, Role, Interlocking, Field}
 use Rattle.pdi_session.specs.Telegrams.{is_reserved, telegram}
 use Rattle.pdi_session.specs.Tables.{is_early}
-use Rattle.pdi_session.specs.SessionStep.{Event, Up, Arrives, Puts, InitDone, Closes, FewWait, HasRoom, Item, SessionState, added_by, after, end_of, item_of, judged, notice_tele, opened, phase_after, put_refusal, taken_by, texts}
-use Rattle.pdi_session.specs.Histories.{History, StandsFor, begun, ends_by, grown, grown_along, is_ended}
+use Rattle.pdi_session.specs.SessionStep.{Event, Up, Arrives, Puts, InitDone, Closes, FewWait, HasRoom, Item, SessionState, added_by, after, end_of, item_of, judge_telegram, notice_tele, new_session, phase_after, put_refusal, taken_by, texts}
+use Rattle.pdi_session.specs.Histories.{History, StandsFor, new_history, ends_by, add_event, add_events, is_ended}
 
 -- every telegram has a message type of the establishment
 abbrev pub AreReserved : List Tele → Type 0
@@ -33,7 +33,7 @@ TakesLaw = (s : SessionState) (t : Tele) → taken_by (Arrives t) s ≢ [] → (
 
 -- if the session goes on without taking a telegram, that telegram is of the establishment, and so is any reply
 abbrev pub GoesLaw : Type 0
-GoesLaw = (s : SessionState) (t : Tele) → end_of (judged s t) ≡ None → taken_by (Arrives t) s ≡ []
+GoesLaw = (s : SessionState) (t : Tele) → end_of (judge_telegram s t) ≡ None → taken_by (Arrives t) s ≡ []
     → (is_reserved t.kind ≡ true) × AreReserved (added_by (Arrives t) s)
 
 -- what a session adds at `Up`, `InitDone` or an arrival is of the establishment
@@ -57,14 +57,14 @@ MessageLaw = (s : SessionState) (e : Event) → AreSettings s.addressing s.role 
 
 -- the bound on waiting messages holds for a new session while nothing waits, gives the room that calls require, and stays when messages leave
 abbrev pub RoomLaw : Type 0
-RoomLaw = ((addressing : Addressing) (role : Role) → FewWait (opened addressing role) [])
+RoomLaw = ((addressing : Addressing) (role : Role) → FewWait (new_session addressing role) [])
     × ((s : SessionState) (waiting : List (List ℕ)) → FewWait s waiting → HasRoom s waiting)
     × ((s : SessionState) (gone waiting : List (List ℕ)) → FewWait s (gone ++ waiting) → FewWait s waiting)
 
 -- if a call leaves the state and appends the messages of an event, they fit the history with that event appended
 abbrev pub StandsLaw : Type 0
 StandsLaw = (e : Event) (s left : SessionState) (old new : List (List ℕ)) (h : History) → left ≡ after e s → new ≡ old ++ texts (added_by e s)
-    → StandsFor s old h → StandsFor left new (grown e h)
+    → StandsFor s old h → StandsFor left new (add_event e h)
 
 -- the commands or status among telegrams
 abbrev pub items_of : List Tele → List Item
@@ -73,12 +73,12 @@ items_of (t ∷ ts) = if is_reserved t.kind then items_of ts else item_of t ∷ 
 
 -- what is taken is a prefix of the commands or status judged, and all of them while the session is not over
 abbrev pub TakenLaw : Type 0
-TakenLaw = (addressing : Addressing) (role : Role) (es : List Event) → let h = grown_along es (begun addressing role) in
+TakenLaw = (addressing : Addressing) (role : Role) (es : List Event) → let h = add_events es (new_history addressing role) in
     IsBeginning h.taken (items_of h.judged) × (is_ended h.state.phase ≡ false → h.taken ≡ items_of h.judged)
 
 -- the commands or status in the queue are exactly those that were put, in order
 abbrev pub QueueLaw : Type 0
-QueueLaw = (addressing : Addressing) (role : Role) (es : List Event) → let h = grown_along es (begun addressing role) in
+QueueLaw = (addressing : Addressing) (role : Role) (es : List Event) → let h = add_events es (new_history addressing role) in
     items_of h.queue ≡ h.put
 
 -- a command or status from this session to its peer
@@ -107,7 +107,7 @@ IsInterlockingQueue version h =
 -- every list of events leads an interlocking to such a queue
 abbrev pub InterlockingLaw : Type 0
 InterlockingLaw = (addressing : Addressing) (version : ℕ) (es : List Event)
-    → IsInterlockingQueue version (grown_along es (begun addressing (Interlocking version)))
+    → IsInterlockingQueue version (add_events es (new_history addressing (Interlocking version)))
 
 -- the number of InitialisationCompleted among telegrams
 abbrev pub completions : List Tele → ℕ
@@ -132,11 +132,11 @@ IsFieldQueue h =
 -- every list of events leads a field element to such a queue
 abbrev pub FieldLaw : Type 0
 FieldLaw = (addressing : Addressing) (versions checksum : List ℕ) (es : List Event)
-    → IsFieldQueue (grown_along es (begun addressing (Field versions checksum)))
+    → IsFieldQueue (add_events es (new_history addressing (Field versions checksum)))
 
 -- a session that a telegram ends before Initialising has put nothing
 abbrev pub OwnEarlyLaw : Type 0
-OwnEarlyLaw = (addressing : Addressing) (role : Role) (es : List Event) → let h = grown_along es (begun addressing role) in
+OwnEarlyLaw = (addressing : Addressing) (role : Role) (es : List Event) → let h = add_events es (new_history addressing role) in
     (phase : Phase) → h.ended_in ≡ Some phase → is_early phase ≡ true → h.put ≡ []
 
 -- a session becomes Ended only by a telegram that ends it, or by a closing

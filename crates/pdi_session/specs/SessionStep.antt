@@ -30,8 +30,8 @@ pub record SessionState : Type 0 where
   pub phase : Phase
 
 -- a new session
-abbrev pub opened : Addressing → Role → SessionState
-opened addressing role = record { addressing = addressing; role = role; phase = Idle }
+abbrev pub new_session : Addressing → Role → SessionState
+new_session addressing role = record { addressing = addressing; role = role; phase = Idle }
 
 -- a command or status: message type and payload
 abbrev pub Item : Type 0
@@ -50,8 +50,8 @@ pub data Event : Type 0 where
   Closes : Event
 
 -- the decision on a telegram: protocol type and names are compared before the phase
-abbrev pub judged : SessionState → Tele → Verdict
-judged s t = if is_addressed s.addressing t then table s.role s.phase (form_of t.kind t.payload) else Ends detail.NotOfThisPair
+abbrev pub judge_telegram : SessionState → Tele → Verdict
+judge_telegram s t = if is_addressed s.addressing t then table s.role s.phase (form_of t.kind t.payload) else Ends detail.NotOfThisPair
 
 -- the first reason to refuse a put, if any
 abbrev pub put_refusal : SessionState → ℕ → List ℕ → ℕ → Option PutFault
@@ -102,7 +102,7 @@ at_init_done = Answers Established notice.InitialisationCompleted
 -- the phase after an event
 abbrev pub phase_after : Event → SessionState → Phase
 phase_after Up s = phase_by s.phase (at_up s.role s.phase)
-phase_after (Arrives t) s = phase_by s.phase (judged s t)
+phase_after (Arrives t) s = phase_by s.phase (judge_telegram s t)
 phase_after (Puts kind payload waits) s = s.phase
 phase_after (InitDone waits) s = if is_none (init_refusal s waits) then phase_by s.phase at_init_done else s.phase
 phase_after Closes s = Ended
@@ -118,14 +118,14 @@ after e s = with_phase (phase_after e s) s
 -- the telegrams that an event adds to the waiting ones
 abbrev pub added_by : Event → SessionState → List Tele
 added_by Up s = sent_by s (at_up s.role s.phase)
-added_by (Arrives t) s = sent_by s (judged s t)
+added_by (Arrives t) s = sent_by s (judge_telegram s t)
 added_by (Puts kind payload waits) s = if is_none (put_refusal s kind payload waits) then telegram s.addressing kind payload ∷ [] else []
 added_by (InitDone waits) s = if is_none (init_refusal s waits) then sent_by s at_init_done else []
 added_by Closes s = []
 
 -- the command or status that the application takes at an event, if any
 abbrev pub taken_by : Event → SessionState → List Item
-taken_by (Arrives t) s = taken_as t (judged s t)
+taken_by (Arrives t) s = taken_as t (judge_telegram s t)
 taken_by e s = []
 
 -- the encodings of telegrams

@@ -10,8 +10,8 @@ ghost use Rattle.octets.specs.declared.limits.TheConstants.{WAITING_MAX};
 ghost use Rattle.pdi_session.specs.Settings.{AreSettings, AreVersions, Interlocking, Field, addressing_of, are_different, are_versions};
 ghost use Rattle.pdi_session.specs.Tables.{may_put, is_initialising, table};
 ghost use Rattle.pdi_session.specs.Telegrams.{form_of, is_addressed, IsNamed};
-ghost use Rattle.pdi_session.specs.Histories.{History, StandsFor, grown};
-ghost use Rattle.pdi_session.specs.SessionStep.{Event, FewWait, HasRoom, added_by, after, end_of, init_refusal, judged, notice_tele, opened, phase_by, put_refusal, sent_by, taken_by, texts, with_phase};
+ghost use Rattle.pdi_session.specs.Histories.{History, StandsFor, add_event};
+ghost use Rattle.pdi_session.specs.SessionStep.{Event, FewWait, HasRoom, added_by, after, end_of, init_refusal, judge_telegram, notice_tele, new_session, phase_by, put_refusal, sent_by, taken_by, texts, with_phase};
 
 use super::{
     FieldConfig, InitFault, InterlockingConfig, Notice, OwnSide, Parties, Phase, PutFault,
@@ -70,7 +70,7 @@ impl Session {
     /// Creates the session of an interlocking.
     pub fn interlocking(config: InterlockingConfig) -> Self
         // A new interlocking session is Idle, and has the protocol type, names and version of `config`.
-        ensures opened { result ≡ opened (addressing_of config.parties) (Interlocking config.version) }
+        ensures opened { result ≡ new_session (addressing_of config.parties) (Interlocking config.version) }
         // The settings of an interlocking are in range (`AreSettings`): a protocol type below 256, two valid
         // names, and an empty checksum.
         ensures settings { AreSettings result.addressing result.role }
@@ -89,7 +89,7 @@ impl Session {
         requires { AreVersions config.versions.items }
         // A new field element session is Idle, and has the protocol type, names, versions and checksum of
         // `config`.
-        ensures opened { result ≡ opened (addressing_of config.parties)
+        ensures opened { result ≡ new_session (addressing_of config.parties)
             (Field config.versions.items config.checksum.items) }
         // The settings of a field element are in range (`AreSettings`): a protocol type below 256, two valid
         // names, and a checksum of at most 16 bytes.
@@ -106,7 +106,7 @@ impl Session {
     /// Begins again with the same settings, as a session just created.
     pub fn reopen(&mut self)
         // After `reopen` the session is Idle, with the protocol type, names and role that it has.
-        ensures { self.new ≡ opened self.old.addressing self.old.role }
+        ensures { self.new ≡ new_session self.old.addressing self.old.role }
     {
         self.phase = Phase::Idle;
     }
@@ -143,7 +143,7 @@ impl Session {
         // If session and waiting messages fit a history (`StandsFor`), they fit it with `Up` appended when the
         // call returns.
         ensures stands { (h : History) → StandsFor self.old waiting.old h
-            → StandsFor self.new waiting.new (grown Event.Up h) }
+            → StandsFor self.new waiting.new (add_event Event.Up h) }
         // If the waiting messages are within the bound of the old phase before `up`, they are within that of the
         // new one (`FewWait`).
         ensures few { FewWait self.old waiting.old → FewWait self.new waiting.new }
@@ -174,9 +174,9 @@ impl Session {
     ) -> Result<(), SessionEnd>
         requires room { HasRoom self.old waiting.old }
         // `arrive` fails if and only if the telegram ends the session, and then returns the detail that the rules
-        // give (`judged`).
-        ensures answer { MatchResult result (λ _. end_of (judged self.old (tele_of telegram.now)) ≡ None)
-            (λ end. end_of (judged self.old (tele_of telegram.now)) ≡ Some end.detail) }
+        // give (`judge_telegram`).
+        ensures answer { MatchResult result (λ _. end_of (judge_telegram self.old (tele_of telegram.now)) ≡ None)
+            (λ end. end_of (judge_telegram self.old (tele_of telegram.now)) ≡ Some end.detail) }
         // `arrive` changes only the phase: it goes to the next one of the table's row, stays if the telegram is
         // taken, and is Ended if the session ends.
         ensures left { self.new ≡ after (Event.Arrives (tele_of telegram.now)) self.old }
@@ -186,7 +186,7 @@ impl Session {
         // If session and waiting messages fit a history (`StandsFor`), they fit it with the arrival of this
         // telegram appended when the call returns.
         ensures stands { (h : History) → StandsFor self.old waiting.old h
-            → StandsFor self.new waiting.new (grown (Event.Arrives (tele_of telegram.now)) h) }
+            → StandsFor self.new waiting.new (add_event (Event.Arrives (tele_of telegram.now)) h) }
         // The taker receives this telegram's message type and payload if the table takes it, and otherwise
         // nothing.
         ensures taken { FoldsTo T.takes taker.old (taken_by (Event.Arrives (tele_of telegram.now)) self.old) taker.new }
@@ -233,9 +233,9 @@ impl Session {
         requires named { IsNamed self.old.addressing (tele_of telegram.now) }
         requires room { HasRoom self.old waiting.old }
         // `arrive_known` fails if and only if the rules end the session at this telegram, and returns their detail
-        // (`judged`).
-        ensures answer { MatchResult result (λ _. end_of (judged self.old (tele_of telegram.now)) ≡ None)
-            (λ end. end_of (judged self.old (tele_of telegram.now)) ≡ Some end.detail) }
+        // (`judge_telegram`).
+        ensures answer { MatchResult result (λ _. end_of (judge_telegram self.old (tele_of telegram.now)) ≡ None)
+            (λ end. end_of (judge_telegram self.old (tele_of telegram.now)) ≡ Some end.detail) }
         // `arrive_known` changes only the phase, to the one that the rules give for a telegram with these names
         // (`after`).
         ensures left { self.new ≡ after (Event.Arrives (tele_of telegram.now)) self.old }
@@ -244,7 +244,7 @@ impl Session {
         // If session and waiting messages fit a history before `arrive_known` (`StandsFor`), they fit it with this
         // arrival appended afterwards.
         ensures stands { (h : History) → StandsFor self.old waiting.old h
-            → StandsFor self.new waiting.new (grown (Event.Arrives (tele_of telegram.now)) h) }
+            → StandsFor self.new waiting.new (add_event (Event.Arrives (tele_of telegram.now)) h) }
         // If the table takes the telegram, `arrive_known` passes its message type and payload to the taker, and
         // otherwise nothing.
         ensures taken { FoldsTo T.takes taker.old (taken_by (Event.Arrives (tele_of telegram.now)) self.old) taker.new }
@@ -299,7 +299,7 @@ impl Session {
         // If session and waiting messages fit a history (`StandsFor`), they fit it with this put appended when the
         // call returns, even if it is refused.
         ensures stands { (h : History) → StandsFor self.now waiting.old h
-            → StandsFor self.now waiting.new (grown (Event.Puts kind payload.now (length waiting.old)) h) }
+            → StandsFor self.now waiting.new (add_event (Event.Puts kind payload.now (length waiting.old)) h) }
         // The bound on waiting messages of the phase still holds after `put` if it held before (`FewWait`).
         ensures few { FewWait self.now waiting.old → FewWait self.now waiting.new }
     {
@@ -342,7 +342,7 @@ impl Session {
         // If session and waiting messages fit a history (`StandsFor`), they fit it with `InitDone` appended when
         // the call returns.
         ensures stands { (h : History) → StandsFor self.old waiting.old h
-            → StandsFor self.new waiting.new (grown (Event.InitDone (length waiting.old)) h) }
+            → StandsFor self.new waiting.new (add_event (Event.InitDone (length waiting.old)) h) }
         // If the bound on waiting messages holds before `init_done`, it holds after it: at most 64 in Established
         // (`FewWait`).
         ensures few { FewWait self.old waiting.old → FewWait self.new waiting.new }
@@ -366,7 +366,7 @@ impl Session {
         // If session and waiting messages fit a history (`StandsFor`), they fit it with `Closes` appended when
         // `end` returns.
         ensures stands { (waiting : List (List ℕ)) (h : History) → StandsFor self.old waiting h
-            → StandsFor self.new waiting (grown Event.Closes h) }
+            → StandsFor self.new waiting (add_event Event.Closes h) }
         // Waiting messages within the bound before `end` are within that of Ended, 64 (`FewWait`).
         ensures few { (waiting : List (List ℕ)) → FewWait self.old waiting → FewWait self.new waiting }
     {
@@ -377,7 +377,7 @@ impl Session {
     fn judge(&self, telegram: &Telegram<'_>) -> Verdict
         // A telegram with another protocol type, sender or receiver gets `NotOfThisPair`; any other gets the
         // table's verdict.
-        ensures { result ≡ judged self.now (tele_of telegram.now) }
+        ensures { result ≡ judge_telegram self.now (tele_of telegram.now) }
     {
         if !is_addressed(&self.parties, telegram) {
             return Verdict::Ends(SessionDetail::NotOfThisPair);
@@ -389,8 +389,8 @@ impl Session {
     #[inline(always)]
     fn judge_known(&self, telegram: &Telegram<'_>) -> Verdict
         requires { IsNamed self.now.addressing (tele_of telegram.now) }
-        // With the names known, only the protocol type remains to compare; the verdict is that of `judged`.
-        ensures { result ≡ judged self.now (tele_of telegram.now) }
+        // With the names known, only the protocol type remains to compare; the verdict is that of `judge_telegram`.
+        ensures { result ≡ judge_telegram self.now (tele_of telegram.now) }
     {
         if telegram.protocol != self.parties.protocol {
             return Verdict::Ends(SessionDetail::NotOfThisPair);

@@ -1,7 +1,7 @@
 -- Why a datagram was dropped, in words, with what may have caused it.
 use Rattle.std.specs.Prelude.{ℕ, List, ◌∷◌, [], codes}
 use Rattle.std.specs.Fmt.{decimal}
-use Rattle.pdu_text.specs.Lines.{joined}
+use Rattle.pdu_text.specs.Lines.{join_pieces}
 use Rattle.red_layer.specs.declared.RedEvent.{RedEvent}
 use Rattle.red_layer.specs.declared.RedEvent.TheVariants as event
 use Rattle.safe_machine.specs.declared.DropCause.{DropCause}
@@ -42,14 +42,14 @@ part_text cause.Below = codes "a retransmission request that confirms less than 
 -- the words for a PDU of other ends, with the identifiers of its sender and receiver, and those of the peer and this end
 unfoldable pub stranger_text : (sender receiver peer_id id : ℕ) → List ℕ
 stranger_text sender receiver peer_id id =
-    joined
+    join_pieces
     (codes "a stranger's: from id " ∷ decimal sender ∷ codes " for id " ∷ decimal receiver
     ∷ codes ", not from " ∷ decimal peer_id ∷ codes " (peer_id) for " ∷ decimal id ∷ codes " (id)" ∷ [])
 
 -- the words for a PDU with another safety code, with its length in bytes and that of this end
 unfoldable pub other_code_text : (found own : ℕ) → List ℕ
 other_code_text found own =
-    joined
+    join_pieces
     (codes "its length is that of a PDU with a safety code of " ∷ decimal found ∷ codes " bytes, not " ∷ decimal own
     ∷ codes " (code): another code, or damage" ∷ [])
 

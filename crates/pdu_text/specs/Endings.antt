@@ -1,14 +1,14 @@
 -- The last line of an end: its state at the end of a run, and why.
 use Rattle.std.specs.Prelude.{ℕ, nat_eq, List, [], ◌∷◌, ◌++◌, codes, Option, Some, None, if◌then◌else◌}
 use Rattle.std.specs.Fmt.{decimal}
-use Rattle.pdu_text.specs.Lines.{joined}
+use Rattle.pdu_text.specs.Lines.{join_pieces}
 use Rattle.pdu_text.specs.Names.{state_name, phase_name}
 use Rattle.pdu_text.specs.Causes.{cause_text}
 use Rattle.pdu_text.specs.Leavings.{leaving_text}
 use Rattle.pdu_text.specs.declared.causes.Cause.{Cause}
 use Rattle.pdu_text.specs.declared.endings.Departure.{Departure}
 use Rattle.pdu_text.specs.declared.endings.Departure.TheVariants.{Own, Peer}
-use Rattle.pdu_text.specs.declared.endings.Ending.{Ending}
+use Rattle.pdu_text.specs.declared.endings.FinalState.{FinalState}
 
 -- who disconnected, and why; empty if nobody did
 abbrev pub departure_text : Option Departure → List ℕ
@@ -23,7 +23,7 @@ last_text (Some cause) = cause_text cause
 
 -- how many datagrams came, none of them the peer's
 unfoldable pub came_text : ℕ → List ℕ
-came_text came = joined (codes "; none of " ∷ decimal came ∷ codes " datagrams was the peer's, the last one: " ∷ [])
+came_text came = join_pieces (codes "; none of " ∷ decimal came ∷ codes " datagrams was the peer's, the last one: " ∷ [])
 
 -- how many datagrams came, and why the last one was dropped
 unfoldable pub untaken_text : ℕ → Option Cause → List ℕ
@@ -37,9 +37,9 @@ heard_text came taken last =
     else []
 
 -- the state of the connection and the phase of the session
-unfoldable pub standing_text : Ending → List ℕ
-standing_text e = joined (codes "ends " ∷ state_name e.state ∷ codes " " ∷ phase_name e.phase ∷ [])
+unfoldable pub standing_text : FinalState → List ℕ
+standing_text e = join_pieces (codes "ends " ∷ state_name e.state ∷ codes " " ∷ phase_name e.phase ∷ [])
 
 -- the text of the last line: state and phase, who disconnected, and what came
-unfoldable pub ending_text : Ending → List ℕ
-ending_text e = joined (standing_text e ∷ departure_text e.departure ∷ heard_text e.came e.taken e.last ∷ [])
+unfoldable pub ending_text : FinalState → List ℕ
+ending_text e = join_pieces (standing_text e ∷ departure_text e.departure ∷ heard_text e.came e.taken e.last ∷ [])

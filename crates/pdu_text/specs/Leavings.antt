@@ -2,7 +2,7 @@
 use Rattle.std.specs.Prelude.{ℕ, nat_eq, List, [], ◌∷◌, codes, if◌then◌else◌}
 use Rattle.std.specs.Fmt.{decimal}
 use Rattle.safe_pdu.specs.declared.Leaving.{Leaving}
-use Rattle.pdu_text.specs.Lines.{joined}
+use Rattle.pdu_text.specs.Lines.{join_pieces}
 
 -- the words for a detail of reason 4, a refusal by the session
 abbrev pub session_words : ℕ → List ℕ
@@ -37,4 +37,4 @@ leaving_words reason detail =
 -- a front that says who disconnected, reason and detail in decimal, and their words
 unfoldable pub leaving_text : List ℕ → Leaving → List ℕ
 leaving_text front l =
-    joined (front ∷ codes "reason " ∷ decimal l.reason ∷ codes " detail " ∷ decimal l.detail ∷ leaving_words l.reason l.detail ∷ [])
+    join_pieces (front ∷ codes "reason " ∷ decimal l.reason ∷ codes " detail " ∷ decimal l.detail ∷ leaving_words l.reason l.detail ∷ [])

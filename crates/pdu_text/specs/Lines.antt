@@ -4,9 +4,9 @@ use Rattle.std.specs.Fmt.{decimal}
 use Rattle.hex.specs.Hex.{encode_lower}
 
 -- the pieces, concatenated
-abbrev pub joined : List (List ℕ) → List ℕ
-joined [] = []
-joined (piece ∷ pieces) = piece ++ joined pieces
+abbrev pub join_pieces : List (List ℕ) → List ℕ
+join_pieces [] = []
+join_pieces (piece ∷ pieces) = piece ++ join_pieces pieces
 
 -- a byte in two lowercase hex digits
 abbrev pub octet_text : ℕ → List ℕ
@@ -19,4 +19,4 @@ octets_text (octet ∷ octets) = encode_lower (octet ∷ octets)
 
 -- LAYER fault NUMBER NAME
 abbrev pub fault_line : List ℕ → ℕ → List ℕ → List ℕ
-fault_line layer number name = joined (layer ∷ codes " fault " ∷ decimal number ∷ codes " " ∷ name ∷ codes "\n" ∷ [])
+fault_line layer number name = join_pieces (layer ∷ codes " fault " ∷ decimal number ∷ codes " " ∷ name ∷ codes "\n" ∷ [])

@@ -1,46 +1,46 @@
 -- The log of an end: one line for each thing that happened to it.
 use Rattle.std.specs.Prelude.{ℕ, nat_eq, List, [], ◌∷◌, ◌++◌, codes, if◌then◌else◌}
 use Rattle.std.specs.Fmt.{decimal}
-use Rattle.pdu_text.specs.Lines.{joined}
+use Rattle.pdu_text.specs.Lines.{join_pieces}
 use Rattle.pdu_text.specs.Names.{state_name, phase_name}
 use Rattle.pdi_session.specs.FaultNames.{put_fault_name, init_fault_name}
 use Rattle.pdu_text.specs.Causes.{cause_text}
 use Rattle.pdu_text.specs.Leavings.{leaving_text}
 use Rattle.pdu_text.specs.declared.causes.Cause.{Cause}
-use Rattle.pdu_text.specs.declared.lines.Happening.{Happening}
-use Rattle.pdu_text.specs.declared.lines.Happening.TheVariants.{State, Phase, Anew, Left, PeerLeft, Asked, Resent, PutRefused, InitRefused, Silent, Heard, Dropped}
+use Rattle.pdu_text.specs.declared.lines.EndEvent.{EndEvent}
+use Rattle.pdu_text.specs.declared.lines.EndEvent.TheVariants.{State, Phase, Anew, Left, PeerLeft, Asked, Resent, PutRefused, InitRefused, Silent, Heard, Dropped}
 
 -- the connection has entered the state of this name
 unfoldable pub state_text : List ℕ → List ℕ
-state_text name = joined (codes "connection " ∷ name ∷ [])
+state_text name = join_pieces (codes "connection " ∷ name ∷ [])
 
 -- the session has entered the phase of this name
 unfoldable pub phase_text : List ℕ → List ℕ
-phase_text name = joined (codes "session " ∷ name ∷ [])
+phase_text name = join_pieces (codes "session " ∷ name ∷ [])
 
 -- the end was opened again, with this first sequence number
 unfoldable pub anew_text : ℕ → List ℕ
-anew_text number = joined (codes "reopened, first sequence number " ∷ decimal number ∷ [])
+anew_text number = join_pieces (codes "reopened, first sequence number " ∷ decimal number ∷ [])
 
 -- a telegram was not accepted, because of the fault of this name
 unfoldable pub refused_text : List ℕ → List ℕ
-refused_text name = joined (codes "telegram not accepted: " ∷ name ∷ [])
+refused_text name = join_pieces (codes "telegram not accepted: " ∷ name ∷ [])
 
 -- the end of the initialisation was not accepted, because of the fault of this name
 unfoldable pub not_ended_text : List ℕ → List ℕ
-not_ended_text name = joined (codes "end of initialisation not accepted: " ∷ name ∷ [])
+not_ended_text name = join_pieces (codes "end of initialisation not accepted: " ∷ name ∷ [])
 
 -- nothing came on this channel for longer than T_max
 unfoldable pub silent_text : ℕ → List ℕ
-silent_text channel = joined (codes "channel " ∷ decimal channel ∷ codes " is silent: nothing received for longer than T_max" ∷ [])
+silent_text channel = join_pieces (codes "channel " ∷ decimal channel ∷ codes " is silent: nothing received for longer than T_max" ∷ [])
 
 -- something came on this channel again
 unfoldable pub heard_text : ℕ → List ℕ
-heard_text channel = joined (codes "channel " ∷ decimal channel ∷ codes " receives again" ∷ [])
+heard_text channel = join_pieces (codes "channel " ∷ decimal channel ∷ codes " receives again" ∷ [])
 
 -- a datagram of this channel was dropped
 unfoldable pub channel_front : ℕ → List ℕ
-channel_front channel = joined (codes "dropped a datagram of channel " ∷ decimal channel ∷ codes ": " ∷ [])
+channel_front channel = join_pieces (codes "dropped a datagram of channel " ∷ decimal channel ∷ codes ": " ∷ [])
 
 -- a datagram of this channel, counted from 1, was dropped; 0 for a deferred datagram, whose channel is unknown
 unfoldable pub drop_front : ℕ → List ℕ
@@ -51,7 +51,7 @@ unfoldable pub dropped_text : ℕ → Cause → List ℕ
 dropped_text channel cause = drop_front channel ++ cause_text cause
 
 -- the text of an event
-abbrev pub happening_text : Happening → List ℕ
+abbrev pub happening_text : EndEvent → List ℕ
 happening_text (State state) = state_text (state_name state)
 happening_text (Phase phase) = phase_text (phase_name phase)
 happening_text (Anew number) = anew_text number
@@ -68,8 +68,8 @@ happening_text (Dropped channel cause) = dropped_text channel cause
 -- a channel of an end that is opened: own address, and the peer's
 unfoldable pub channel_text : ℕ → List ℕ → List ℕ → List ℕ
 channel_text channel local remote =
-    joined (codes "opens channel " ∷ decimal channel ∷ codes ": own " ∷ local ∷ codes ", peer " ∷ remote ∷ [])
+    join_pieces (codes "opens channel " ∷ decimal channel ∷ codes ": own " ∷ local ∷ codes ", peer " ∷ remote ∷ [])
 
 -- how many lines were left out of the log
 unfoldable pub missed_text : ℕ → List ℕ
-missed_text count = joined (codes "log: " ∷ decimal count ∷ codes " lines left out, too many events in one turn" ∷ [])
+missed_text count = join_pieces (codes "log: " ∷ decimal count ∷ codes " lines left out, too many events in one turn" ∷ [])

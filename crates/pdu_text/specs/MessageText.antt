@@ -12,15 +12,15 @@ use Rattle.pdi_session.specs.declared.telegram.TeleFault.{TeleFault}
 use Rattle.pdi_session.specs.telegram.FaultNames.{telegram_name, telegram_number}
 use Rattle.pdi_session.specs.telegram.Places.{tele_seen}
 use Rattle.pdi_session.specs.telegram.Tele.{Tele}
-use Rattle.pdu_text.specs.Lines.{fault_line, joined, octets_text}
+use Rattle.pdu_text.specs.Lines.{fault_line, join_pieces, octets_text}
 
 -- message NUMBER
 abbrev pub message_label : ℕ → List ℕ
-message_label number = joined (codes "message " ∷ decimal number ∷ [])
+message_label number = join_pieces (codes "message " ∷ decimal number ∷ [])
 
 -- from SENDER to RECEIVER payload
 abbrev pub names_text : List ℕ → List ℕ → List ℕ
-names_text sender receiver = joined (codes " from " ∷ sender ∷ codes " to " ∷ receiver ∷ codes " payload " ∷ [])
+names_text sender receiver = join_pieces (codes " from " ∷ sender ∷ codes " to " ∷ receiver ∷ codes " payload " ∷ [])
 
 -- a label, and bytes in hex digits
 abbrev pub hex_field : List ℕ → List ℕ → List ℕ
@@ -29,12 +29,12 @@ hex_field label octets = label ++ encode_lower octets
 -- message NUMBER protocol HEX type HEX
 abbrev pub telegram_head : ℕ → Tele → List ℕ
 telegram_head number t =
-    joined (message_label number ∷ hex_field (codes " protocol ") (t.protocol ∷ []) ∷ hex_field (codes " type ") (to_be_bytes w16 t.kind) ∷ [])
+    join_pieces (message_label number ∷ hex_field (codes " protocol ") (t.protocol ∷ []) ∷ hex_field (codes " type ") (to_be_bytes w16 t.kind) ∷ [])
 
 -- the line of a telegram: head, names, and the payload in hex digits
 abbrev pub telegram_line : ℕ → Tele → List ℕ
 telegram_line number t =
-    joined (telegram_head number t ∷ names_text t.sender t.receiver ∷ octets_text t.payload ∷ codes "\n" ∷ [])
+    join_pieces (telegram_head number t ∷ names_text t.sender t.receiver ∷ octets_text t.payload ∷ codes "\n" ∷ [])
 
 -- the line of a decoded message, counted from 1 in its unit: that of the telegram or of the fault
 abbrev pub message_line : ℕ → Result Tele TeleFault → List ℕ

@@ -2,7 +2,7 @@
 use Rattle.std.specs.Prelude.{ℕ, ◌+◌, ◌/◌, ◌%◌, List, [], ◌∷◌, codes}
 use Rattle.std.specs.Fmt.{decimal}
 use Rattle.end_settings.specs.declared.Side.{Side}
-use Rattle.pdu_text.specs.Lines.{joined}
+use Rattle.pdu_text.specs.Lines.{join_pieces}
 use Rattle.pdu_text.specs.Names.{side_name}
 
 -- the ASCII decimal digit with this weight: 1 for the last, 10 for the one before it
@@ -15,12 +15,12 @@ three_digits n = digit 100 n ∷ digit 10 n ∷ digit 1 n ∷ []
 
 -- milliseconds as whole seconds, a point, three digits
 unfoldable pub time_text : ℕ → List ℕ
-time_text ms = joined (decimal (ms / 1000) ∷ codes "." ∷ three_digits (ms % 1000) ∷ [])
+time_text ms = join_pieces (decimal (ms / 1000) ∷ codes "." ∷ three_digits (ms % 1000) ∷ [])
 
 -- TIME END, at the start of a line
 unfoldable pub front_text : ℕ → Side → List ℕ
-front_text at side = joined (time_text at ∷ codes " " ∷ side_name side ∷ codes " " ∷ [])
+front_text at side = join_pieces (time_text at ∷ codes " " ∷ side_name side ∷ codes " " ∷ [])
 
 -- TIME END TEXT
 unfoldable pub log_line : ℕ → Side → List ℕ → List ℕ
-log_line at side text = joined (front_text at side ∷ text ∷ codes "\n" ∷ [])
+log_line at side text = join_pieces (front_text at side ∷ text ∷ codes "\n" ∷ [])

@@ -12,27 +12,27 @@ use Rattle.safe_pdu.specs.Pdu.{Pdu}
 use Rattle.safe_pdu.specs.Names.{kind_name, safe_name, safe_number}
 use Rattle.safe_pdu.specs.Bodies.{version_of, window_of, detail_of, reason_of}
 use Rattle.safe_pdu.specs.Places.{safe_seen}
-use Rattle.pdu_text.specs.Lines.{fault_line, joined}
+use Rattle.pdu_text.specs.Lines.{fault_line, join_pieces}
 use Rattle.pdu_text.specs.MessageText.{unit_lines, is_clean_body}
 
 -- red length N seq N
 abbrev pub red_line : ℕ → ℕ → List ℕ
-red_line size seq = joined (codes "red length " ∷ decimal size ∷ codes " seq " ∷ decimal seq ∷ codes "\n" ∷ [])
+red_line size seq = join_pieces (codes "red length " ∷ decimal size ∷ codes " seq " ∷ decimal seq ∷ codes "\n" ∷ [])
 
 -- the PDU type and the header fields of a safety PDU
 abbrev pub fields_text : Pdu → List ℕ
 fields_text p =
-    joined
+    join_pieces
     (kind_name p.kind ∷ codes " receiver " ∷ decimal p.receiver ∷ codes " sender " ∷ decimal p.sender ∷ codes " sn " ∷ decimal p.sn
     ∷ codes " cs " ∷ decimal p.cs ∷ codes " ts " ∷ decimal p.ts ∷ codes " cts " ∷ decimal p.cts ∷ [])
 
 -- the content of the body of a ConnReq or ConnResp: version and N_sendmax
 abbrev pub opening_text : List ℕ → List ℕ
-opening_text body = joined (codes " version " ∷ version_of body ∷ codes " nsendmax " ∷ decimal (window_of body) ∷ [])
+opening_text body = join_pieces (codes " version " ∷ version_of body ∷ codes " nsendmax " ∷ decimal (window_of body) ∷ [])
 
 -- the content of the body of a DiscReq: detail and reason
 abbrev pub leaving_text : List ℕ → List ℕ
-leaving_text body = joined (codes " detail " ∷ decimal (detail_of body) ∷ codes " reason " ∷ decimal (reason_of body) ∷ [])
+leaving_text body = join_pieces (codes " detail " ∷ decimal (detail_of body) ∷ codes " reason " ∷ decimal (reason_of body) ∷ [])
 
 -- the content of a body, on the line of its PDU; empty for the other PDU types
 abbrev pub body_text : Kind → List ℕ → List ℕ
@@ -43,7 +43,7 @@ body_text _ body = []
 
 -- the line of a safety PDU
 abbrev pub safe_line : Pdu → List ℕ
-safe_line p = joined (fields_text p ∷ body_text p.kind p.body ∷ codes "\n" ∷ [])
+safe_line p = join_pieces (fields_text p ∷ body_text p.kind p.body ∷ codes "\n" ∷ [])
 
 -- the lines of a decoded safety PDU, or of its fault
 abbrev pub upper_text : Result Pdu SafeFault → List ℕ

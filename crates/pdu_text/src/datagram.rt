@@ -7,7 +7,7 @@ ghost use Rattle.std.specs.Io.KnownBytes.{Appends};
 ghost use Rattle.safe_pdu.specs.Bodies.{IsBody};
 ghost use Rattle.safe_pdu.specs.Pdu.{pdu_of};
 ghost use Rattle.safe_pdu.specs.Places.{safe_seen};
-ghost use Rattle.pdu_text.specs.Lines.{joined};
+ghost use Rattle.pdu_text.specs.Lines.{join_pieces};
 ghost use Rattle.pdu_text.specs.ShowText.{body_text, fields_text, is_clean, is_clean_upper, red_line, safe_line, show_text, upper_text};
 
 use crate::messages::show_body;
@@ -130,7 +130,7 @@ fn write_opening<W: Write>(writer: &mut W, opening: &Opening<'_>) -> io::Result<
     // If it succeeds, `write_opening` has appended " version ", the version, " nsendmax " and N_sendmax in
     // decimal.
     ensures { OnOk result (Appends (W.contents writer.old) (W.contents writer.new)
-        (joined (codes " version " ∷ opening.now.version.now
+        (join_pieces (codes " version " ∷ opening.now.version.now
         ∷ codes " nsendmax " ∷ decimal opening.now.n_sendmax ∷ []))) }
 {
     write_text(writer, " version ")?;

@@ -28,7 +28,7 @@ pub enum Departure {
 
 /// The state of an end at the end of a run, and what may explain it.
 #[derive(Clone, Copy, Debug, PartialEq, Eq)]
-pub struct Ending {
+pub struct FinalState {
     /// The state of its connection.
     pub state: ConnectionState,
     /// The phase of its session.
@@ -54,7 +54,7 @@ pub fn write_ending<W: Write>(
     writer: &mut W,
     at: u64,
     side: Side,
-    ending: &Ending,
+    ending: &FinalState,
 ) -> io::Result<()>
     // If it succeeds, `write_ending` has appended a line: time, end, state and phase, who disconnected and
     // why, and, if no PDU was taken, what came.
@@ -70,7 +70,7 @@ pub fn write_ending<W: Write>(
 
 /// Writes the state and the phase.
 #[tactic(auto, unfolding(crate::specs::Endings::standing_text))]
-fn write_standing<W: Write>(writer: &mut W, ending: &Ending) -> io::Result<()>
+fn write_standing<W: Write>(writer: &mut W, ending: &FinalState) -> io::Result<()>
     // If it succeeds, `write_standing` has appended "ends", the name of the state and that of the phase.
     ensures { OnOk result (Appends (W.contents writer.old) (W.contents writer.new)
         (endings.standing_text ending.now)) }

@@ -21,10 +21,10 @@ mod texts;
 
 pub use causes::Cause;
 pub use datagram::show;
-pub use endings::{Departure, Ending, write_ending};
+pub use endings::{Departure, FinalState, write_ending};
 pub use hex_text::{HexFault, hex_octets, initial_value};
-pub use lines::{Happening, write_channel, write_happening, write_missed};
+pub use lines::{EndEvent, write_channel, write_happening, write_missed};
 pub use messages::show_body;
 pub use names::{phase_name, red_cause, side_letter, side_name, state_name, step_cause};
-pub use reports::{Standing, write_refusal, write_report, write_take};
+pub use reports::{EndReport, write_refusal, write_report, write_take};
 pub use texts::{write_hex, write_octets, write_text};

@@ -19,7 +19,7 @@ use std::io::Write;
 
 /// An event in the log of an end.
 #[derive(Clone, Copy, Debug, PartialEq, Eq)]
-pub enum Happening {
+pub enum EndEvent {
     /// The connection has entered this state.
     State(ConnectionState),
     /// The session has entered this phase.
@@ -56,7 +56,7 @@ pub fn write_happening<W: Write>(
     writer: &mut W,
     at: u64,
     side: Side,
-    happening: Happening,
+    happening: EndEvent,
 ) -> io::Result<()>
     // If it succeeds, `write_happening` has appended a line: the time in seconds with three decimals, the
     // name of the end, and the text of the event.
@@ -69,31 +69,29 @@ pub fn write_happening<W: Write>(
 }
 
 /// Writes the text of an event.
-fn write_what<W: Write>(writer: &mut W, happening: Happening) -> io::Result<()>
+fn write_what<W: Write>(writer: &mut W, happening: EndEvent) -> io::Result<()>
     // If it succeeds, `write_what` has appended the text of the event.
     ensures { OnOk result (Appends (W.contents writer.old) (W.contents writer.new)
         (lines.happening_text happening)) }
 {
     match happening {
-        Happening::State(state) => write_state(writer, state_name(state)),
-        Happening::Phase(phase) => write_phase(writer, phase_name(phase)),
-        Happening::Anew(number) => write_anew(writer, number),
-        Happening::Left(leaving) => write_leaving(writer, "disconnects with ", leaving),
-        Happening::PeerLeft(leaving) => {
-            write_leaving(writer, "peer disconnected with ", leaving)
-        }
-        Happening::Asked => {
+        EndEvent::State(state) => write_state(writer, state_name(state)),
+        EndEvent::Phase(phase) => write_phase(writer, phase_name(phase)),
+        EndEvent::Anew(number) => write_anew(writer, number),
+        EndEvent::Left(leaving) => write_leaving(writer, "disconnects with ", leaving),
+        EndEvent::PeerLeft(leaving) => { write_leaving(writer, "peer disconnected with ", leaving) }
+        EndEvent::Asked => {
             write_text(
                 writer,
                 "requests a retransmission: a PDU was lost on all channels",
             )
         }
-        Happening::Resent => write_text(writer, "resends what the peer has missed"),
-        Happening::PutRefused(fault) => write_refused(writer, fault.name()),
-        Happening::InitRefused(fault) => write_not_ended(writer, fault.name()),
-        Happening::Silent(channel) => write_silent(writer, channel),
-        Happening::Heard(channel) => write_heard(writer, channel),
-        Happening::Dropped(channel, cause) => write_dropped(writer, channel, cause),
+        EndEvent::Resent => write_text(writer, "resends what the peer has missed"),
+        EndEvent::PutRefused(fault) => write_refused(writer, fault.name()),
+        EndEvent::InitRefused(fault) => write_not_ended(writer, fault.name()),
+        EndEvent::Silent(channel) => write_silent(writer, channel),
+        EndEvent::Heard(channel) => write_heard(writer, channel),
+        EndEvent::Dropped(channel, cause) => write_dropped(writer, channel, cause),
     }
 }
 

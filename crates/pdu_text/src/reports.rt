@@ -14,7 +14,7 @@ use std::io::Write;
 
 /// The state of an end in its present incarnation.
 #[derive(Clone, Copy, Debug, PartialEq, Eq)]
-pub struct Standing {
+pub struct EndReport {
     /// The state of its connection.
     pub state: ConnectionState,
     /// The phase of its session.
@@ -53,7 +53,7 @@ pub fn write_refusal<W: Write>(writer: &mut W, name: &str) -> io::Result<()>
 pub fn write_report<W: Write>(
     writer: &mut W,
     side: Side,
-    standing: Option<Standing>,
+    standing: Option<EndReport>,
 ) -> io::Result<()>
     // If it succeeds, `write_report` has appended the line: the end with state, phase and both counts of
     // telegrams, or "none" if it was never opened.
@@ -66,7 +66,7 @@ pub fn write_report<W: Write>(
 }
 
 /// Writes the line of the state of an end.
-fn write_standing<W: Write>(writer: &mut W, side: &str, standing: &Standing) -> io::Result<()>
+fn write_standing<W: Write>(writer: &mut W, side: &str, standing: &EndReport) -> io::Result<()>
     // If it succeeds, `write_standing` has appended the line with state, phase, and the counts of telegrams
     // put and taken in decimal.
     ensures { OnOk result (Appends (W.contents writer.old) (W.contents writer.new)

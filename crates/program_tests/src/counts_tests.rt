@@ -1,6 +1,6 @@
 use crate::assertions::assert_equal;
 use channels::{Channels, MemChannels, Note};
-use rasta_run::{ChannelCounts, RecordedChannels, Totals, Wanted};
+use rasta_run::{ChannelCounts, ExpectedHeader, RecordedChannels, Totals};
 use safe_machine::{Detail, DropCause, Reason, Step};
 use safe_pdu::Kind;
 use stack_end::{MadeCounts, PartCounts, ReceptionCounts, Statistics};
@@ -17,7 +17,7 @@ fn datagram(number: u32, kind: Kind) -> [u8; 36] {
 
 /// Returns channels that record.
 fn recorded(alloc: Global) -> Result<RecordedChannels<MemChannels>, Fail> {
-    let wanted = Wanted {
+    let wanted = ExpectedHeader {
         peer_id: 1,
         id: 2,
         code: 8,

@@ -1,7 +1,7 @@
 use crate::assertions::{assert_equal, assert_true};
 use rasta_run::{Run, run_net};
 use rasta_words::{LogLevel, LogTime, RunLength, Status};
-use settings_file::Word;
+use settings_file::Subcommand;
 use std::io;
 use std::io::{ErrorKind, Write};
 use std::test::Fail;
@@ -62,7 +62,7 @@ impl Write for Counted {
 
 fn run_of(turns: u32) -> Run {
     Run {
-        word: Word::Pair,
+        word: Subcommand::Pair,
         length: RunLength::Turns(turns),
         time: LogTime::Run,
         log: LogLevel::Off,

@@ -2,11 +2,11 @@ use crate::assertions::{assert_equal, assert_true, assert_true_at};
 use capture::{Instant, Span, read_ports};
 use capture_text::{Remarkable, TimeForm};
 use rasta_words::{
-    Choice, CountsForm, FollowRequest, FollowTimes, LogLevel, LogTime, Rejection, Request,
-    RunLength, RunRequest, Telling, WordsFault, command,
+    Choice, CountsForm, CountsRequest, FollowRequest, FollowTimes, LogLevel, LogTime, Rejection,
+    Request, RunLength, RunRequest, WordsFault, command,
 };
 use safe_pdu::CodeLength;
-use settings_file::Word as Ends;
+use settings_file::Subcommand as Ends;
 use std::test::Fail;
 
 const HEARTBEAT: &str = "24000000000000001c004c18020000000100000065000000f40100000a00000005000000";
@@ -285,7 +285,7 @@ fn accepts_kept_ends_and_counts(rt: HostRuntime) -> Result<(), Fail> {
             let Ok(found) = command(rt.alloc(), &words) else {
                 return Err(Fail::from("refused"));
             };
-            let counts = Some(Telling {
+            let counts = Some(CountsRequest {
                 form,
                 every: Some(every),
             });
@@ -295,7 +295,7 @@ fn accepts_kept_ends_and_counts(rt: HostRuntime) -> Result<(), Fail> {
         let Ok(found) = command(rt.alloc(), &words) else {
             return Err(Fail::from("refused"));
         };
-        let counts = Some(Telling { form, every: None });
+        let counts = Some(CountsRequest { form, every: None });
         assert_equal(&rt, found, Request::Net(kept_until_end(false, counts)));
     }
     let lists: [&[&str]; 7] = [
@@ -349,7 +349,7 @@ fn accepts_kept_ends_and_counts(rt: HostRuntime) -> Result<(), Fail> {
     Ok(())
 }
 
-fn kept_until_end(keep: bool, counts: Option<Telling>) -> RunRequest<'static> {
+fn kept_until_end(keep: bool, counts: Option<CountsRequest>) -> RunRequest<'static> {
     RunRequest {
         word: Ends::Il,
         file: "ends.toml",

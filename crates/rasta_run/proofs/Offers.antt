@@ -1,7 +1,7 @@
 -- The telegrams that a turn puts, one by one.
 use Rattle.std.proofs.Common.{◌≡◌, ◌+◌, ℕ, Bool, true, false, List, [], ◌∷◌, ◌++◌, Option, Some, length, length-append, ap, sym, subst, ◌∙◌, refl, add-one, is_some, ◌==◌}
 use Rattle.std.specs.List.{FoldsTo}
-use Rattle.channels.specs.Told.{Told}
+use Rattle.channels.specs.Told.{ChannelHistory}
 use Rattle.octets.proofs.Steps.{FoldsTo-append}
 use Rattle.pdi_session.specs.declared.PutFault.TheVariants.{Full}
 use Rattle.settings_file.specs.declared.values.Put.{Put as Telegram}
@@ -13,8 +13,8 @@ use Rattle.rasta_run.specs.Standing.{ends_in, puts_in}
 use Rattle.rasta_run.specs.Turning.{Course, Hears, PutsIf, PutsNow, TakesTurn, deaf_after}
 use Rattle.pdi_session.specs.SessionStep.{Item}
 use Rattle.stack_end.specs.Turns.{is_over}
-use Rattle.rasta_run.specs.declared.putting.Offered.{Offered}
-use Rattle.rasta_run.specs.declared.putting.Offered.TheVariants as offered
+use Rattle.rasta_run.specs.declared.putting.PutOutcome.{PutOutcome}
+use Rattle.rasta_run.specs.declared.putting.PutOutcome.TheVariants as offered
 
 -- one more telegram is done with
 moved : {A : Type 0} (done rest : List A) (x : A) → done ++ (x ∷ rest) ≡ (done ++ x ∷ []) ++ rest
@@ -32,7 +32,7 @@ one-more R before left rest x s t u n h split step = (
 )
 
 -- the end is full for the next telegram, and nothing has changed
-pub stops : {C A T : Type 0} (told : C → Told) (refuses : T → List ℕ → T → Type 0) (now : ℕ) (before left after rest : List Telegram) (p : Telegram)
+pub stops : {C A T : Type 0} (told : C → ChannelHistory) (refuses : T → List ℕ → T → Type 0) (now : ℕ) (before left after rest : List Telegram) (p : Telegram)
     (s : Putting C A T) (v w : EndValue C A) (n m : ℕ) (x y : T) (r q : ℕ) (done : List Telegram)
     → before ≡ done ++ left → FoldsTo (Passes told refuses now) s done (v, n, x, r) → left ≡ p ∷ rest → Answers v p (Some Full)
     → after ≡ left → w ≡ v → m ≡ n → y ≡ x → q ≡ r → PutsBeginning told refuses now before s after (w, m, y, q)
@@ -46,35 +46,35 @@ stops told refuses now before left after rest p s v w n m x y r q done e along s
     (subst (λ z. PutsBeginning told refuses now before s left (v, n, x, z)) (sym same-refused) base))))
 
 -- one more line was taken
-pub line-more : {C A T : Type 0} (told : C → Told) (refuses : T → List ℕ → T → Type 0) (now : ℕ) (ended : Bool) (n : ℕ) (s mid t : Fed C A T)
+pub line-more : {C A T : Type 0} (told : C → ChannelHistory) (refuses : T → List ℕ → T → Type 0) (now : ℕ) (ended : Bool) (n : ℕ) (s mid t : Fed C A T)
     → TakesLines told refuses now ended n s mid → TakesLine told refuses now ended mid true t → TakesLines told refuses now ended (n + 1) s t
 line-more told refuses now ended n s mid t h step = subst (λ k. TakesLines told refuses now ended k s t) (sym (add-one n)) (mid, h, step)
 
 -- it is the time for lines, and they were taken
-pub when-ready : {C A T : Type 0} (told : C → Told) (refuses : T → List ℕ → T → Type 0) (now : ℕ) (ended ready : Bool) (s : Fed C A T) (found : Bool) (t : Fed C A T)
+pub when-ready : {C A T : Type 0} (told : C → ChannelHistory) (refuses : T → List ℕ → T → Type 0) (now : ℕ) (ended ready : Bool) (s : Fed C A T) (found : Bool) (t : Fed C A T)
     → ready ≡ true → TakesInput told refuses now ended s found t → TakesInputIf told refuses now ended ready s found t
 when-ready told refuses now ended ready s found t e h = subst (λ b. TakesInputIf told refuses now ended b s found t) (sym e) h
 
 -- it is not the time for lines, and nothing has changed
-pub not-ready : {C A T : Type 0} (told : C → Told) (refuses : T → List ℕ → T → Type 0) (now : ℕ) (ended ready : Bool) (s : Fed C A T) (found : Bool) (t : Fed C A T)
+pub not-ready : {C A T : Type 0} (told : C → ChannelHistory) (refuses : T → List ℕ → T → Type 0) (now : ℕ) (ended ready : Bool) (s : Fed C A T) (found : Bool) (t : Fed C A T)
     → ready ≡ false → found ≡ false → t ≡ s → TakesInputIf told refuses now ended ready s found t
 not-ready told refuses now ended ready s found t e f h = subst (λ b. TakesInputIf told refuses now ended b s found t) (sym e) (f, h)
 
 -- the end is full for the telegram that was offered
-pub full-offer : {C A T : Type 0} (told : C → Told) (refuses : T → List ℕ → T → Type 0) (now : ℕ) (s : Offering C A T) (p : Telegram) (o : Offered) (t : Offering C A T)
+pub full-offer : {C A T : Type 0} (told : C → ChannelHistory) (refuses : T → List ℕ → T → Type 0) (now : ℕ) (s : Offering C A T) (p : Telegram) (o : PutOutcome) (t : Offering C A T)
     → Offers told refuses now s p o t → is_full o ≡ true → Offers told refuses now s p offered.Full t
 full-offer told refuses now s p offered.Full t h e = h
 full-offer told refuses now s p offered.Put t h e = cc
 full-offer told refuses now s p offered.Refused t h e = cc
 
 -- a line was taken or not, of an input that is at its end or not
-pub line-as : {C A T : Type 0} (told : C → Told) (refuses : T → List ℕ → T → Type 0) (now : ℕ) (e f : Option ℕ) (s : Fed C A T) (d b : Bool) (t : Fed C A T)
+pub line-as : {C A T : Type 0} (told : C → ChannelHistory) (refuses : T → List ℕ → T → Type 0) (now : ℕ) (e f : Option ℕ) (s : Fed C A T) (d b : Bool) (t : Fed C A T)
     → e ≡ f → d ≡ b → TakesLine told refuses now (is_some e) s d t → TakesLine told refuses now (is_some f) s b t
 line-as told refuses now e f s d b t same is h =
     subst (λ x. TakesLine told refuses now (is_some f) s x t) is (subst (λ o. TakesLine told refuses now (is_some o) s d t) same h)
 
 -- an end put what it may, and ended its initialisation if it may
-pub puts-now : {C A T : Type 0} (told : C → Told) (refuses : T → List ℕ → T → Type 0) (now : ℕ) (side other : Side) (s mid t : Course C A T) (puts ends : Bool)
+pub puts-now : {C A T : Type 0} (told : C → ChannelHistory) (refuses : T → List ℕ → T → Type 0) (now : ℕ) (side other : Side) (s mid t : Course C A T) (puts ends : Bool)
     → puts ≡ puts_in side (inside s.end).upper.session.phase → PutsIf told refuses now puts s mid → other ≡ side
     → ends ≡ ends_in other (inside mid.end).upper.session.phase (length mid.left == 0)
     → CompletesIf told refuses now ends (mid.end, mid.app) (t.end, t.app) → t.left ≡ mid.left → t.put ≡ mid.put → t.refused ≡ mid.refused → t.deaf ≡ mid.deaf
@@ -92,7 +92,7 @@ puts-now told refuses now side other s mid t puts ends first puts_mid same secon
 )
 
 -- an end received, and then put what it may
-pub takes-turn : {C A T : Type 0} (told : C → Told) (takes : T → Item → T → Type 0) (lost : T → Bool) (refuses : T → List ℕ → T → Type 0) (now : ℕ) (side other : Side)
+pub takes-turn : {C A T : Type 0} (told : C → ChannelHistory) (takes : T → Item → T → Type 0) (lost : T → Bool) (refuses : T → List ℕ → T → Type 0) (now : ℕ) (side other : Side)
     (s t : Course C A T) (works : Bool) (from end near : EndValue C A) (app : T) (left : List Telegram) (put refused deaf : ℕ) (closed : Bool)
     → from ≡ s.end → Hears told takes works now (from, s.app) (end, app) → lost app ≡ false → other ≡ side → near ≡ end → left ≡ s.left → put ≡ s.put → refused ≡ s.refused
     → deaf ≡ deaf_after works s.deaf → closed ≡ is_over (inside end)

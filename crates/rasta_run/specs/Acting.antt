@@ -1,7 +1,7 @@
 -- One or two ends that run: what they leave undone, how they are at the end, and when they are over.
 use Rattle.std.specs.Prelude.{ℕ, ◌+◌, ◌-◌, ◌^◌, ◌==◌, ◌&&◌, ◌||◌, not, min, max, length, Bool, true, false, Option, Some, None}
 use Rattle.rasta_run.specs.Progress as progress
-use Rattle.rasta_run.specs.Standing.{meets}
+use Rattle.rasta_run.specs.Standing.{is_expected}
 use Rattle.rasta_run.specs.Undone as undone
 use Rattle.rasta_run.specs.declared.turns.Actor.{Actor}
 use Rattle.rasta_run.specs.declared.undone.Undone.{Undone}
@@ -22,13 +22,13 @@ left_by a lines =
     }
 
 -- an end is in the expected state
-abbrev pub stands : {C A : Type 0} → Option Expected → (lines : ℕ) → Actor C A → Bool
-stands expected lines a = meets expected (inside a.end).upper.session.phase (is_settled (inside a.end)) (undone.is_nothing (left_by a lines))
+abbrev pub is_as_expected : {C A : Type 0} → Option Expected → (lines : ℕ) → Actor C A → Bool
+is_as_expected expected lines a = is_expected expected (inside a.end).upper.session.phase (is_settled (inside a.end)) (undone.is_nothing (left_by a lines))
 
 -- the second end is, if there is one
-abbrev pub second_stands : {C A : Type 0} → Option Expected → Option (Actor C A) → Bool
-second_stands expected None = true
-second_stands expected (Some a) = stands expected 0 a
+abbrev pub is_second_as_expected : {C A : Type 0} → Option Expected → Option (Actor C A) → Bool
+is_second_as_expected expected None = true
+is_second_as_expected expected (Some a) = is_as_expected expected 0 a
 
 -- nothing is left undone by the second end, if there is one
 abbrev pub second_done : {C A : Type 0} → Option (Actor C A) → Bool

@@ -2,22 +2,22 @@
 use Rattle.std.specs.Prelude.{Option}
 use Rattle.end_settings.specs.declared.Side.{Side}
 use Rattle.pdu_text.specs.declared.causes.Cause.{Cause}
-use Rattle.pdu_text.specs.declared.endings.Ending.{Ending}
-use Rattle.rasta_run.specs.Counting.{accepted}
+use Rattle.pdu_text.specs.declared.endings.FinalState.{FinalState}
+use Rattle.rasta_run.specs.Counting.{accepted_count}
 use Rattle.rasta_run.specs.Telling.{departure_of}
 use Rattle.rasta_run.specs.Totals.{received_on}
-use Rattle.rasta_run.specs.declared.counts.Counted.{Counted}
+use Rattle.rasta_run.specs.declared.counts.RunCounts.{RunCounts}
 use Rattle.stack_end.specs.EndValue.{EndValue, inside}
 
 -- the state and phase of an end, how it came to be closed, the datagrams that came in all its openings, the PDUs accepted, and why the last datagram was
 -- dropped
-abbrev pub ending_of : {C A : Type 0} → Side → EndValue C A → Counted → Option Cause → Ending
+abbrev pub ending_of : {C A : Type 0} → Side → EndValue C A → RunCounts → Option Cause → FinalState
 ending_of side v counted last =
     record {
       state = (inside v).upper.machine.connection;
       phase = (inside v).upper.session.phase;
       departure = departure_of side (inside v).upper.request (inside v).upper.departed;
       came = received_on counted.sums.channels;
-      taken = accepted counted;
+      taken = accepted_count counted;
       last = last;
     }

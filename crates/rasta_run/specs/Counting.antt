@@ -6,7 +6,7 @@ use Rattle.safe_machine.specs.declared.DropCause.TheVariants as cause
 use Rattle.safe_machine.specs.declared.Step.{Step}
 use Rattle.safe_machine.specs.declared.Step.TheVariants as step
 use Rattle.rasta_run.specs.declared.counts.ChannelCounts.{ChannelCounts}
-use Rattle.rasta_run.specs.declared.counts.Counted.{Counted}
+use Rattle.rasta_run.specs.declared.counts.RunCounts.{RunCounts}
 use Rattle.rasta_run.specs.declared.header.Header.{Header}
 use Rattle.rasta_run.specs.declared.recorder.Recorder.{Recorder}
 use Rattle.rasta_run.specs.Totals.{plus, sum}
@@ -78,24 +78,24 @@ closing_after step.Gap n = n
 
 -- all that is counted of an end: its own counts added to those of its earlier openings, those of its recorder, the calls that failed on each channel,
 -- and the telegrams put and taken
-abbrev pub counted_of : (earlier own : Statistics) → Recorder → List Failures → (put taken : ℕ) → Counted
+abbrev pub counted_of : (earlier own : Statistics) → Recorder → List Failures → (put taken : ℕ) → RunCounts
 counted_of earlier own r failures put taken =
     record { sums = plus earlier own; channels = r.channels; failures = failures; closing = r.closing; put = put; taken = taken }
 
 -- the PDUs that the safety machine did not drop: taken, with a gap before them, or at the end of a connection or after it
-abbrev pub accepted : Counted → ℕ
-accepted c = sum (sum c.sums.parts.taken c.sums.parts.gaps) c.closing
+abbrev pub accepted_count : RunCounts → ℕ
+accepted_count c = sum (sum c.sums.parts.taken c.sums.parts.gaps) c.closing
 
 -- the PDUs that it dropped, for any of the seven causes
-abbrev pub dropped : Counted → ℕ
-dropped c =
+abbrev pub dropped_count : RunCounts → ℕ
+dropped_count c =
     let p = c.sums.parts in
     sum (sum (sum (sum (sum (sum p.damaged p.strangers) p.unopened) p.far) p.unrequested) p.answered) p.below
 
 -- the greatest age of a confirmed timestamp in milliseconds, if a PDU was taken
-abbrev pub oldest : Counted → Option ℕ
+abbrev pub oldest : RunCounts → Option ℕ
 oldest c = if nat_eq c.sums.parts.taken 0 then None else Some c.sums.parts.oldest
 
 -- the calls that failed on the channel at a place, from 0
-abbrev pub failures_in : Counted → (place : ℕ) → Failures
+abbrev pub failures_in : RunCounts → (place : ℕ) → Failures
 failures_in c place = slice_index_or c.failures place no_failures

@@ -4,16 +4,16 @@ use Rattle.std.specs.Fmt.{decimal}
 use Rattle.std.specs.List.{flat_map}
 use Rattle.end_settings.specs.declared.Side.{Side}
 use Rattle.rasta_run.specs.declared.counts.ChannelCounts.{ChannelCounts}
-use Rattle.rasta_run.specs.declared.counts.Counted.{Counted}
+use Rattle.rasta_run.specs.declared.counts.RunCounts.{RunCounts}
 use Rattle.rasta_run.specs.declared.counting.Teller.{Teller}
-use Rattle.rasta_run.specs.declared.logging.Listening.{Listening}
-use Rattle.rasta_run.specs.Counting.{accepted, dropped, failures_in, no_datagrams, oldest}
+use Rattle.rasta_run.specs.declared.logging.ChannelSilence.{ChannelSilence}
+use Rattle.rasta_run.specs.Counting.{accepted_count, dropped_count, failures_in, no_datagrams, oldest}
 use Rattle.rasta_run.specs.Silence.{hears_all}
 use Rattle.rasta_run.specs.Totals.{sum}
 use Rattle.stack_end.specs.Statistics.{none_received}
 use Rattle.stack_end.specs.declared.statistics.ReceptionCounts.{ReceptionCounts}
-use Rattle.rasta_words.specs.declared.status.Telling.{Telling}
-use Rattle.pdu_text.specs.Lines.{joined}
+use Rattle.rasta_words.specs.declared.status.CountsRequest.{CountsRequest}
+use Rattle.pdu_text.specs.Lines.{join_pieces}
 use Rattle.rasta_run.specs.declared.counting.LineForm.{LineForm}
 use Rattle.rasta_run.specs.declared.counting.LineForm.TheVariants.{Text, Json}
 use Rattle.rasta_words.specs.declared.status.CountsForm.{CountsForm}
@@ -22,11 +22,11 @@ use Rattle.pdu_text.specs.Names.{side_name}
 
 -- a number with its name, in words
 unfoldable pub worded_field : List ℕ → ℕ → List ℕ
-worded_field name number = joined (codes " " ∷ name ∷ codes " " ∷ decimal number ∷ [])
+worded_field name number = join_pieces (codes " " ∷ name ∷ codes " " ∷ decimal number ∷ [])
 
 -- a number with its name, in JSON
 unfoldable pub json_field : List ℕ → ℕ → List ℕ
-json_field name number = joined (codes ",\"" ∷ name ∷ codes "\":" ∷ decimal number ∷ [])
+json_field name number = join_pieces (codes ",\"" ∷ name ∷ codes "\":" ∷ decimal number ∷ [])
 
 -- a number with its name
 abbrev pub field_text : LineForm → List ℕ → ℕ → List ℕ
@@ -35,11 +35,11 @@ field_text Json name number = json_field name number
 
 -- that there is no number of this name, in words
 unfoldable pub worded_none : List ℕ → List ℕ
-worded_none name = joined (codes " " ∷ name ∷ codes " none" ∷ [])
+worded_none name = join_pieces (codes " " ∷ name ∷ codes " none" ∷ [])
 
 -- that there is no number of this name, in JSON
 unfoldable pub json_none : List ℕ → List ℕ
-json_none name = joined (codes ",\"" ∷ name ∷ codes "\":null" ∷ [])
+json_none name = join_pieces (codes ",\"" ∷ name ∷ codes "\":null" ∷ [])
 
 -- that there is no number of this name
 abbrev pub none_text : LineForm → List ℕ → List ℕ
@@ -53,11 +53,11 @@ some_text form name (Some number) = field_text form name number
 
 -- the start of a line in words: the end
 unfoldable pub worded_front : Side → List ℕ
-worded_front side = joined (side_name side ∷ codes " counts" ∷ [])
+worded_front side = join_pieces (side_name side ∷ codes " counts" ∷ [])
 
 -- the start of a line of JSON: the end
 unfoldable pub json_front : Side → List ℕ
-json_front side = joined (codes "{\"end\":\"" ∷ side_name side ∷ codes "\"" ∷ [])
+json_front side = join_pieces (codes "{\"end\":\"" ∷ side_name side ∷ codes "\"" ∷ [])
 
 -- the start of a line
 abbrev pub front_of : LineForm → Side → List ℕ
@@ -84,16 +84,16 @@ channel_fields at channel r c refused heard =
 -- the line of a channel
 unfoldable pub channel_text : LineForm → ℕ → Side → ℕ → ReceptionCounts → ChannelCounts → (refused heard : ℕ) → List ℕ
 channel_text form at side channel r c refused heard =
-    joined (front_of form side ∷ fields_text form (channel_fields at channel r c refused heard) ∷ end_of form ∷ [])
+    join_pieces (front_of form side ∷ fields_text form (channel_fields at channel r c refused heard) ∷ end_of form ∷ [])
 
 -- the time in milliseconds of the run, the PDUs that the end made, the retransmissions requested and granted, the PDUs accepted and dropped, and the
 -- units that the peer confirmed
-unfoldable pub pdus_text : LineForm → ℕ → Counted → List ℕ
+unfoldable pub pdus_text : LineForm → ℕ → RunCounts → List ℕ
 pdus_text form at c =
     let m = c.sums.made in
     fields_text form
     ((codes "time", at) ∷ (codes "units", m.units) ∷ (codes "resent", m.resent) ∷ (codes "heartbeats", m.heartbeats) ∷ (codes "asked", m.requests)
-    ∷ (codes "answered", m.answers) ∷ (codes "accepted", accepted c) ∷ (codes "dropped", dropped c) ∷ (codes "confirmed", c.sums.confirmed) ∷ [])
+    ∷ (codes "answered", m.answers) ∷ (codes "accepted_count", accepted_count c) ∷ (codes "dropped_count", dropped_count c) ∷ (codes "confirmed", c.sums.confirmed) ∷ [])
 
 -- the least time in milliseconds that was left to T_max when a PDU confirmed a timestamp: T_max minus the greatest age of a confirmed timestamp
 abbrev pub margin_of : Option ℕ → ℕ → Option ℕ
@@ -101,27 +101,27 @@ margin_of None t_max = None
 margin_of (Some oldest) t_max = Some (t_max - oldest)
 
 -- the line of the connection: PDUs, the greatest age and its margin, and the telegrams put and taken
-unfoldable pub connection_text : LineForm → ℕ → Side → Counted → (t_max : ℕ) → List ℕ
+unfoldable pub connection_text : LineForm → ℕ → Side → RunCounts → (t_max : ℕ) → List ℕ
 connection_text form at side c t_max =
-    joined
+    join_pieces
     (front_of form side ∷ pdus_text form at c ∷ some_text form (codes "oldest") (oldest c) ∷ some_text form (codes "margin") (margin_of (oldest c) t_max)
     ∷ fields_text form ((codes "put", c.put) ∷ (codes "taken", c.taken) ∷ []) ∷ end_of form ∷ [])
 
 -- when the channel at a place last received something
-abbrev pub heard_at : List Listening → ℕ → ℕ
+abbrev pub heard_at : List ChannelSilence → ℕ → ℕ
 heard_at heard place = (slice_index_or heard place (record { came = 0; at = 0; silent = false })).at
 
 -- the line of the channel at a place, from 0, if the end has it
-unfoldable pub place_text : Teller → LineForm → ℕ → Counted → ℕ → List ℕ
+unfoldable pub place_text : Teller → LineForm → ℕ → RunCounts → ℕ → List ℕ
 place_text t form at c place =
     if nat_le t.count place then []
     else channel_text form at t.side (place + 1) (slice_index_or c.sums.channels place none_received) (slice_index_or c.channels place no_datagrams)
     (failures_in c place).receives.count (heard_at t.heard place)
 
 -- the lines of the channels and of the connection
-unfoldable pub all_text : Teller → LineForm → ℕ → Counted → List ℕ
+unfoldable pub all_text : Teller → LineForm → ℕ → RunCounts → List ℕ
 all_text t form at c =
-    joined
+    join_pieces
     (place_text t form at c 0 ∷ place_text t form at c 1 ∷ place_text t form at c 2 ∷ place_text t form at c 3
     ∷ connection_text form at t.side c t.t_max ∷ [])
 
@@ -138,26 +138,26 @@ is_block counts.Json = false
 is_block counts.Prometheus = true
 
 -- the form of the lines, if there are any
-abbrev pub line_form : Option Telling → Option LineForm
+abbrev pub line_form : Option CountsRequest → Option LineForm
 line_form None = None
 line_form (Some telling) = form_of telling.form
 
 -- the counts of all ends are printed in one block
-abbrev pub has_block : Option Telling → Bool
+abbrev pub has_block : Option CountsRequest → Bool
 has_block None = false
 has_block (Some telling) = is_block telling.form
 
 -- these lines, if there is a form of lines
-abbrev pub text_by : Option LineForm → Teller → ℕ → Counted → List ℕ
+abbrev pub text_by : Option LineForm → Teller → ℕ → RunCounts → List ℕ
 text_by None t at c = []
 text_by (Some form) t at c = all_text t form at c
 
 -- what is printed of the counts at this time in milliseconds of the run
-abbrev pub told_text : Teller → ℕ → Counted → List ℕ
+abbrev pub told_text : Teller → ℕ → RunCounts → List ℕ
 told_text t at c = text_by (line_form t.telling) t at c
 
 -- nothing is printed
-abbrev pub is_off_by : Option Telling → Bool
+abbrev pub is_off_by : Option CountsRequest → Bool
 is_off_by None = true
 is_off_by (Some telling) = false
 
@@ -176,23 +176,23 @@ next_every None now = None
 next_every (Some seconds) now = Some (min (now + seconds * 1_000) (2 ^ 64 - 1))
 
 -- the time of the next counts
-abbrev pub next_after : Option Telling → ℕ → Option ℕ
+abbrev pub next_after : Option CountsRequest → ℕ → Option ℕ
 next_after None now = None
 next_after (Some telling) now = next_every telling.every now
 
 -- the time of the next counts after a look
-abbrev pub next_by : (due : Bool) → Option Telling → Option ℕ → ℕ → Option ℕ
+abbrev pub next_by : (due : Bool) → Option CountsRequest → Option ℕ → ℕ → Option ℕ
 next_by true telling next now = next_after telling now
 next_by false telling next now = next
 
 -- the printer after a look at what is counted: it records which channels received something
-abbrev pub looked_at : Teller → Counted → ℕ → Teller
-looked_at t c now =
+abbrev pub look_at : Teller → RunCounts → ℕ → Teller
+look_at t c now =
     record t { next = next_by (is_due t.next now) t.telling t.next now; heard = hears_all c.sums.channels t.count now (2 ^ 64 - 1) t.heard }
 
 -- the same, if counts are printed
-abbrev pub looked : Teller → Counted → ℕ → Teller
-looked t c now = if is_off t then t else looked_at t c now
+abbrev pub look : Teller → RunCounts → ℕ → Teller
+look t c now = if is_off t then t else look_at t c now
 
 -- counts are printed, and their time is reached
 abbrev pub is_telling_due : Teller → ℕ → Bool

@@ -2,12 +2,12 @@
 use Rattle.std.specs.Prelude.{ℕ, ◌+◌, ◌-◌, nat_eq, nat_le, nat_lt, not, ◌&&◌, Bool, true, false, List, [], ◌∷◌, slice_index_or, slice_set, Option, Some, None, ℤ, if◌then◌else◌}
 use Rattle.std.specs.Option.{option_map_or}
 use Rattle.rasta_run.specs.Counting.{failures_in, no_datagrams}
-use Rattle.rasta_run.specs.declared.counts.Counted.{Counted}
+use Rattle.rasta_run.specs.declared.counts.RunCounts.{RunCounts}
 use Rattle.rasta_run.specs.declared.noticing.Notice.{Notice}
 use Rattle.rasta_run.specs.declared.noticing.Notice.TheVariants.{CallsFail, CallsSucceed}
 use Rattle.rasta_run.specs.declared.failing.Call.{Call}
 use Rattle.rasta_run.specs.declared.failing.Call.TheVariants as call
-use Rattle.rasta_run.specs.declared.failing.Failing.{Failing}
+use Rattle.rasta_run.specs.declared.failing.CallFailures.{CallFailures}
 use Rattle.udp_channels.specs.Sockets.{ChannelState, failures_of, no_failures}
 use Rattle.udp_channels.specs.declared.sockets.CallFault.{CallFault}
 use Rattle.udp_channels.specs.declared.sockets.FailedCalls.{FailedCalls}
@@ -23,8 +23,8 @@ all_failures channels =
     failures_at channels 1 ∷ failures_at channels 2 ∷ failures_at channels 3 ∷ failures_at channels 4 ∷ []
 
 -- no call has succeeded or failed
-abbrev pub untried : ℕ → Failing
-untried at = record { done = None; failed = 0; at = at; before = 0; is_failing = false }
+abbrev pub new_failing : ℕ → CallFailures
+new_failing at = record { done = None; failed = 0; at = at; before = 0; is_failing = false }
 
 -- a call was made since this many had succeeded: each turn makes one, or the number is another
 abbrev pub is_tried : (done before : Option ℕ) → Bool
@@ -33,16 +33,16 @@ is_tried (Some done) None = true
 is_tried (Some done) (Some before) = not (nat_eq done before)
 
 -- calls no longer fail: one was tried, and none has failed for longer than T_max
-abbrev pub has_recovered : Failing → (done : Option ℕ) → (now t_max : ℕ) → Bool
+abbrev pub has_recovered : CallFailures → (done : Option ℕ) → (now t_max : ℕ) → Bool
 has_recovered s done now t_max = s.is_failing && (is_tried done s.done && nat_lt t_max (now - s.at))
 
 -- the number of calls that had failed before these began to fail
-abbrev pub failed_before : Failing → ℕ
+abbrev pub failed_before : CallFailures → ℕ
 failed_before s = if s.is_failing then s.before else s.failed
 
 -- the calls of a channel after a look at how many succeeded and how many failed: one more has failed, or they no longer fail, or neither
-abbrev pub seen : Failing → (done : Option ℕ) → (failed now t_max : ℕ) → Failing
-seen s done failed now t_max =
+abbrev pub look_at_calls : CallFailures → (done : Option ℕ) → (failed now t_max : ℕ) → CallFailures
+look_at_calls s done failed now t_max =
     if nat_eq failed s.failed
     then (if has_recovered s done now t_max then record s { is_failing = false } else s)
     else record { done = done; failed = failed; at = now; before = failed_before s; is_failing = true }
@@ -60,36 +60,36 @@ change_notice true true kind channel failed last = None
 change_notice false false kind channel failed last = None
 
 -- the notice of a channel, from 1, after a look
-abbrev pub notice_of : Failing → Failing → Call → (channel : ℕ) → Option CallFault → Option Notice
+abbrev pub notice_of : CallFailures → CallFailures → Call → (channel : ℕ) → Option CallFault → Option Notice
 notice_of s t kind channel last = change_notice s.is_failing t.is_failing kind channel (t.failed - t.before) last
 
 -- how many calls succeeded on the channel at a place; an end asks each channel in every turn
-abbrev pub done_at : Call → Counted → (place : ℕ) → Option ℕ
+abbrev pub done_at : Call → RunCounts → (place : ℕ) → Option ℕ
 done_at call.Send c place = Some (slice_index_or c.channels place no_datagrams).sent
 done_at call.Receive c place = None
 
 -- the calls that failed on the channel at a place
-abbrev pub failed_at : Call → Counted → (place : ℕ) → FailedCalls
+abbrev pub failed_at : Call → RunCounts → (place : ℕ) → FailedCalls
 failed_at call.Send c place = (failures_in c place).sends
 failed_at call.Receive c place = (failures_in c place).receives
 
 -- the calls of the channel at a place after a look at what is counted
-abbrev pub seen_now : Call → List Failing → Counted → (place now t_max : ℕ) → Failing
+abbrev pub seen_now : Call → List CallFailures → RunCounts → (place now t_max : ℕ) → CallFailures
 seen_now kind fs c place now t_max =
-    seen (slice_index_or fs place (untried 0)) (done_at kind c place) (failed_at kind c place).count now t_max
+    look_at_calls (slice_index_or fs place (new_failing 0)) (done_at kind c place) (failed_at kind c place).count now t_max
 
 -- the calls of the channels after a look at the one at a place, from 0, if the end has it
-abbrev pub seen_at : Call → Counted → (count now t_max place : ℕ) → List Failing → List Failing
+abbrev pub seen_at : Call → RunCounts → (count now t_max place : ℕ) → List CallFailures → List CallFailures
 seen_at kind c count now t_max place fs =
     if nat_le count place then fs else slice_set fs place (seen_now kind fs c place now t_max)
 
 -- the calls of the channels after a look at all of them
-abbrev pub all_seen : Call → Counted → (count now t_max : ℕ) → List Failing → List Failing
+abbrev pub all_seen : Call → RunCounts → (count now t_max : ℕ) → List CallFailures → List CallFailures
 all_seen kind c count now t_max fs =
     seen_at kind c count now t_max 3 (seen_at kind c count now t_max 2 (seen_at kind c count now t_max 1 (seen_at kind c count now t_max 0 fs)))
 
 -- the notice of the channel at a place, from 0, if the end has it
-abbrev pub notice_at : Call → List Failing → Counted → (count now t_max place : ℕ) → Option Notice
+abbrev pub notice_at : Call → List CallFailures → RunCounts → (count now t_max place : ℕ) → Option Notice
 notice_at kind fs c count now t_max place =
     if nat_le count place then None
-    else notice_of (slice_index_or fs place (untried 0)) (seen_now kind fs c place now t_max) kind (place + 1) (failed_at kind c place).last
+    else notice_of (slice_index_or fs place (new_failing 0)) (seen_now kind fs c place now t_max) kind (place + 1) (failed_at kind c place).last

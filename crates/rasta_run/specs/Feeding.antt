@@ -4,7 +4,7 @@ use Rattle.settings_file.specs.declared.values.Put.{Put as Telegram}
 use Rattle.std.specs.List.{position}
 use Rattle.std.specs.Fmt.{decimal}
 use Rattle.std.specs.Option.{option_map_or}
-use Rattle.pdu_text.specs.Lines.{joined}
+use Rattle.pdu_text.specs.Lines.{join_pieces}
 use Rattle.settings_file.specs.Groups.{put_seen}
 use Rattle.settings_file.specs.Readers.{put_of}
 use Rattle.rasta_run.specs.declared.input.Feed.{Feed}
@@ -57,7 +57,7 @@ IsNumbered l cut = ⊤
 
 -- the message for a line that is not a telegram
 unfoldable pub none_text : ℕ → List ℕ
-none_text number = joined (codes "line " ∷ decimal number ∷ codes ": not a telegram TYPE:HEX\n" ∷ [])
+none_text number = join_pieces (codes "line " ∷ decimal number ∷ codes ": not a telegram TYPE:HEX\n" ∷ [])
 
 -- there is a last byte, and it is not a line feed
 abbrev pub is_open : Option ℕ → Bool
@@ -113,8 +113,8 @@ count_of None = 0
 count_of (Some p) = 1
 
 -- the lines that were not put: those that are not telegrams, the one that is next, and those that are left
-abbrev pub unput : Input → ℕ
-unput s = min (min (s.unread + count_of s.next) (2 ^ 64 - 1) + lines_left s.octets) (2 ^ 64 - 1)
+abbrev pub unput_count : Input → ℕ
+unput_count s = min (min (s.unread + count_of s.next) (2 ^ 64 - 1) + lines_left s.octets) (2 ^ 64 - 1)
 
 -- the input is at its end, and every line was taken out of it
 abbrev pub is_done : Option ℕ → Input → Bool

@@ -1,6 +1,6 @@
 -- What `follow` reads of a capture, and how it ends.
 use Rattle.std.specs.Prelude.{ℕ, Bool, true, false, List, Option, Some, None}
-use Rattle.capture_text.specs.declared.course.Asked.{Asked}
+use Rattle.capture_text.specs.declared.course.FollowOptions.{FollowOptions}
 use Rattle.capture_text.specs.declared.course.OutputForm.{OutputForm}
 use Rattle.capture_text.specs.declared.course.OutputForm.TheVariants.{Lines, Json, Events}
 use Rattle.capture_text.specs.declared.running.FollowStatus.{FollowStatus}
@@ -16,7 +16,7 @@ form_of true false = Json
 form_of false false = Lines
 
 -- each choice of `follow`, with the words of the initial value
-abbrev pub asked_of : FollowRequest → List ℕ → Asked
+abbrev pub asked_of : FollowRequest → List ℕ → FollowOptions
 asked_of f words =
     record {
       rule = record { length = f.code; initial_value = words };
@@ -32,7 +32,7 @@ asked_of f words =
     }
 
 -- the same, if there are such words
-abbrev pub asked_under : FollowRequest → Option (List ℕ) → Option Asked
+abbrev pub asked_under : FollowRequest → Option (List ℕ) → Option FollowOptions
 asked_under f (Some words) = Some (asked_of f words)
 asked_under f None = None
 

@@ -16,8 +16,8 @@ row_of true fruitless = 0
 row_of false fruitless = fruitless
 
 -- the keeper of an end that is seen
-abbrev pub seen : (stale up : Bool) → ℕ → Keeper → Keeper
-seen stale up now k =
+abbrev pub see_end : (stale up : Bool) → ℕ → Keeper → Keeper
+see_end stale up now k =
     record k { left = left_by k.left stale now; had_session = k.had_session || up; fruitless = row_of up k.fruitless }
 
 -- the least time between two openings of an interlocking, in milliseconds: T_max/4, doubled after each opening in a row without a session, up to T_max
@@ -48,12 +48,12 @@ is_wait_over (Some rest) = nat_eq rest 0
 
 -- an end is opened again: it is kept, it is stale, and its wait is over
 abbrev pub opens_anew : (kept : Bool) → Side → (stale up : Bool) → Keeper → ℕ → Bool
-opens_anew kept side stale up k now = kept && is_wait_over (until_anew side (seen stale up now k) now)
+opens_anew kept side stale up k now = kept && is_wait_over (until_anew side (see_end stale up now k) now)
 
 -- the keeper after a look at an end, which is kept or not
-abbrev pub looked : (kept stale up : Bool) → ℕ → Keeper → Keeper
-looked true stale up now k = seen stale up now k
-looked false stale up now k = k
+abbrev pub look_at_end : (kept stale up : Bool) → ℕ → Keeper → Keeper
+look_at_end true stale up now k = see_end stale up now k
+look_at_end false stale up now k = k
 
 -- when a wait is over
 abbrev pub end_of_wait : Option ℕ → ℕ → Option ℕ
@@ -71,8 +71,8 @@ row_after true fruitless = 0
 row_after false fruitless = min (fruitless + 1) (2 ^ 64 - 1)
 
 -- the keeper of an end that is opened again
-abbrev pub reopened : ℕ → Keeper → Keeper
-reopened now k =
+abbrev pub reopen_keeper : ℕ → Keeper → Keeper
+reopen_keeper now k =
     record k { opened = now; left = None; had_session = false; fruitless = row_after k.had_session k.fruitless }
 
 -- from this number of openings in a row without a session, the log only counts them
@@ -104,5 +104,5 @@ count_by false fruitless = None
 -- the keeper of an end that was seen and then opened again
 abbrev pub kept_after : (stale up : Bool) → ℕ → Keeper → Keeper
 kept_after stale up now k =
-    let r = reopened now (seen stale up now k) in
+    let r = reopen_keeper now (see_end stale up now k) in
     counted_by (is_count_due r now) now r

@@ -2,9 +2,9 @@
 use Rattle.std.specs.Prelude.{ℕ, ◌+◌, nat_le, Bool, List, [], ◌∷◌, codes, slice_index_or, Option, Some, None, if◌then◌else◌}
 use Rattle.std.specs.Fmt.{decimal}
 use Rattle.end_settings.specs.declared.Side.{Side}
-use Rattle.pdu_text.specs.Lines.{joined}
+use Rattle.pdu_text.specs.Lines.{join_pieces}
 use Rattle.pdu_text.specs.Names.{side_name}
-use Rattle.rasta_run.specs.Counting.{accepted, failures_in, no_datagrams, oldest}
+use Rattle.rasta_run.specs.Counting.{accepted_count, failures_in, no_datagrams, oldest}
 use Rattle.rasta_run.specs.Counts.{margin_of}
 use Rattle.rasta_run.specs.Totals.{sum}
 use Rattle.rasta_run.specs.declared.counts.ChannelCounts.{ChannelCounts}
@@ -71,7 +71,7 @@ end_number end.Resent s = Some s.counted.sums.made.resent
 end_number end.Heartbeats s = Some s.counted.sums.made.heartbeats
 end_number end.Requested s = Some s.counted.sums.made.requests
 end_number end.Answered s = Some s.counted.sums.made.answers
-end_number end.Accepted s = Some (accepted s.counted)
+end_number end.Accepted s = Some (accepted_count s.counted)
 end_number end.Damaged s = Some s.counted.sums.parts.damaged
 end_number end.Stranger s = Some s.counted.sums.parts.strangers
 end_number end.Unopened s = Some s.counted.sums.parts.unopened
@@ -152,7 +152,7 @@ end_help end.Resent = codes "Units sent again."
 end_help end.Heartbeats = codes "Heartbeats sent."
 end_help end.Requested = codes "Retransmissions requested."
 end_help end.Answered = codes "Retransmissions carried out."
-end_help end.Accepted = codes "PDUs that the safety layer accepted."
+end_help end.Accepted = codes "PDUs that the safety layer accepted_count."
 end_help end.Damaged = codes "PDUs that the safety layer dropped, by cause."
 end_help end.Stranger = codes "PDUs that the safety layer dropped, by cause."
 end_help end.Unopened = codes "PDUs that the safety layer dropped, by cause."
@@ -191,20 +191,20 @@ end_kind end.Margin = codes "gauge"
 -- the help and the type of a metric
 unfoldable pub head_text : List ℕ → List ℕ → List ℕ → List ℕ
 head_text name type help =
-    joined
+    join_pieces
     (codes "# HELP rasta_" ∷ name ∷ codes " " ∷ help ∷ codes "\n# TYPE rasta_" ∷ name ∷ codes " " ∷ type ∷ codes "\n" ∷ [])
 
 -- the number of a channel, numbered from 1
 unfoldable pub channel_line : List ℕ → List ℕ → Side → (channel number : ℕ) → List ℕ
 channel_line name cause side number value =
-    joined
+    join_pieces
     (codes "rasta_" ∷ name ∷ codes "{side=\"" ∷ side_name side ∷ codes "\",channel=\"" ∷ decimal number ∷ codes "\"" ∷ cause ∷ codes "} " ∷ decimal value
     ∷ codes "\n" ∷ [])
 
 -- the number of an end
 unfoldable pub end_line : List ℕ → List ℕ → Side → ℕ → List ℕ
 end_line name cause side value =
-    joined (codes "rasta_" ∷ name ∷ codes "{side=\"" ∷ side_name side ∷ codes "\"" ∷ cause ∷ codes "} " ∷ decimal value ∷ codes "\n" ∷ [])
+    join_pieces (codes "rasta_" ∷ name ∷ codes "{side=\"" ∷ side_name side ∷ codes "\"" ∷ cause ∷ codes "} " ∷ decimal value ∷ codes "\n" ∷ [])
 
 -- the number of an end, if there is one
 abbrev pub end_line_of : Option ℕ → List ℕ → List ℕ → Side → List ℕ
@@ -221,7 +221,7 @@ place_text m s place =
 
 -- the lines of the channels of an end
 unfoldable pub channels_text : ChannelMetric → Sample → List ℕ
-channels_text m s = joined (place_text m s 0 ∷ place_text m s 1 ∷ place_text m s 2 ∷ place_text m s 3 ∷ [])
+channels_text m s = join_pieces (place_text m s 0 ∷ place_text m s 1 ∷ place_text m s 2 ∷ place_text m s 3 ∷ [])
 
 -- the lines of the second end, if there is one
 abbrev pub second_channels : ChannelMetric → Option Sample → List ℕ
@@ -230,7 +230,7 @@ second_channels m (Some s) = channels_text m s
 
 -- the lines of a metric of channels
 unfoldable pub channel_text : ChannelMetric → Samples → List ℕ
-channel_text m s = joined (channels_text m s.first ∷ second_channels m s.second ∷ [])
+channel_text m s = join_pieces (channels_text m s.first ∷ second_channels m s.second ∷ [])
 
 -- the line of an end
 abbrev pub sample_text : EndMetric → Sample → List ℕ
@@ -243,20 +243,20 @@ second_sample m (Some s) = sample_text m s
 
 -- the lines of a metric of ends
 unfoldable pub end_text : EndMetric → Samples → List ℕ
-end_text m s = joined (sample_text m s.first ∷ second_sample m s.second ∷ [])
+end_text m s = join_pieces (sample_text m s.first ∷ second_sample m s.second ∷ [])
 
 -- a metric of channels that only grows
 unfoldable pub channel_counter : ChannelMetric → Samples → List ℕ
-channel_counter m s = joined (head_text (channel_name m) (codes "counter") (channel_help m) ∷ channel_text m s ∷ [])
+channel_counter m s = join_pieces (head_text (channel_name m) (codes "counter") (channel_help m) ∷ channel_text m s ∷ [])
 
 -- a metric of ends
 unfoldable pub end_metric : EndMetric → Samples → List ℕ
-end_metric m s = joined (head_text (end_name m) (end_kind m) (end_help m) ∷ end_text m s ∷ [])
+end_metric m s = join_pieces (head_text (end_name m) (end_kind m) (end_help m) ∷ end_text m s ∷ [])
 
 -- what became of datagrams on channels
 unfoldable pub traffic_text : Samples → List ℕ
 traffic_text s =
-    joined
+    join_pieces
     (channel_counter channel.Sent s
     ∷ channel_counter channel.Failed s
     ∷ channel_counter channel.Refused s
@@ -267,14 +267,14 @@ traffic_text s =
 -- why datagrams were dropped
 unfoldable pub drops_text : Samples → List ℕ
 drops_text s =
-    joined
+    join_pieces
     (channel_counter channel.Old s ∷ channel_text channel.Repeated s ∷ channel_text channel.Far s
     ∷ channel_text channel.Full s ∷ channel_text channel.Damaged s ∷ channel_text channel.Stranger s ∷ [])
 
 -- the PDUs that ends made
 unfoldable pub made_text : Samples → List ℕ
 made_text s =
-    joined
+    join_pieces
     (end_metric end.Units s ∷ end_metric end.Resent s
     ∷ end_metric end.Heartbeats s
     ∷ end_metric end.Requested s
@@ -283,20 +283,20 @@ made_text s =
 
 -- the PDUs that ends dropped for their code, their identifiers or their state
 unfoldable pub rejected_text : Samples → List ℕ
-rejected_text s = joined (end_metric end.Damaged s ∷ end_text end.Stranger s ∷ end_text end.Unopened s ∷ [])
+rejected_text s = join_pieces (end_metric end.Damaged s ∷ end_text end.Stranger s ∷ end_text end.Unopened s ∷ [])
 
 -- the PDUs that ends dropped for their numbers
 unfoldable pub misplaced_text : Samples → List ℕ
-misplaced_text s = joined (end_text end.Far s ∷ end_text end.Unrequested s ∷ end_text end.Repeated s ∷ end_text end.Below s ∷ [])
+misplaced_text s = join_pieces (end_text end.Far s ∷ end_text end.Unrequested s ∷ end_text end.Repeated s ∷ end_text end.Below s ∷ [])
 
 -- the PDUs that ends received
 unfoldable pub parts_text : Samples → List ℕ
-parts_text s = joined (end_metric end.Accepted s ∷ rejected_text s ∷ misplaced_text s ∷ [])
+parts_text s = join_pieces (end_metric end.Accepted s ∷ rejected_text s ∷ misplaced_text s ∷ [])
 
 -- telegrams and times
 unfoldable pub telegrams_text : Samples → List ℕ
 telegrams_text s =
-    joined
+    join_pieces
     (end_metric end.Put s ∷ end_metric end.Taken s
     ∷ end_metric end.Oldest s
     ∷ end_metric end.Margin s
@@ -304,4 +304,4 @@ telegrams_text s =
 
 -- all metrics; the last line is a comment that ends them
 unfoldable pub block_text : Samples → List ℕ
-block_text s = joined (traffic_text s ∷ drops_text s ∷ made_text s ∷ parts_text s ∷ telegrams_text s ∷ codes "# EOF\n" ∷ [])
+block_text s = join_pieces (traffic_text s ∷ drops_text s ∷ made_text s ∷ parts_text s ∷ telegrams_text s ∷ codes "# EOF\n" ∷ [])

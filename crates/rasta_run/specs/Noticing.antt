@@ -2,7 +2,7 @@
 use Rattle.std.specs.Prelude.{ℕ, ℤ, ◌/◌, ◌%◌, List, [], ◌∷◌, Option, None, Some, codes}
 use Rattle.std.specs.Fmt.{decimal, signed_decimal}
 use Rattle.end_settings.specs.declared.Side.{Side}
-use Rattle.pdu_text.specs.Lines.{joined}
+use Rattle.pdu_text.specs.Lines.{join_pieces}
 use Rattle.pdu_text.specs.Names.{side_name}
 use Rattle.pdu_text.specs.Pieces.{three_digits}
 use Rattle.rasta_run.specs.declared.failing.Call.{Call}
@@ -12,20 +12,20 @@ use Rattle.rasta_run.specs.declared.noticing.Notice.TheVariants.{CallsFail, Call
 
 -- the connection is lost, and this many telegrams were put and not confirmed
 unfoldable pub in_doubt_text : ℕ → List ℕ
-in_doubt_text count = joined (codes "the connection is lost; " ∷ decimal count ∷ codes " telegrams are in doubt: put and not confirmed" ∷ [])
+in_doubt_text count = join_pieces (codes "the connection is lost; " ∷ decimal count ∷ codes " telegrams are in doubt: put and not confirmed" ∷ [])
 
 -- the end took no turn for this many milliseconds
 unfoldable pub no_turn_text : ℕ → List ℕ
-no_turn_text milliseconds = joined (codes "no turn for " ∷ decimal milliseconds ∷ codes " ms: the process was stopped, or had no processor" ∷ [])
+no_turn_text milliseconds = join_pieces (codes "no turn for " ∷ decimal milliseconds ∷ codes " ms: the process was stopped, or had no processor" ∷ [])
 
 -- this many openings in a row got no session
 unfoldable pub fruitless_text : ℕ → List ℕ
 fruitless_text count =
-    joined (codes "no session in the last " ∷ decimal count ∷ codes " openings; openings are only counted until there is one" ∷ [])
+    join_pieces (codes "no session in the last " ∷ decimal count ∷ codes " openings; openings are only counted until there is one" ∷ [])
 
 -- a session was established after this many openings in a row without one
 unfoldable pub session_text : ℕ → List ℕ
-session_text count = joined (codes "a session again, after " ∷ decimal count ∷ codes " openings without one" ∷ [])
+session_text count = join_pieces (codes "a session again, after " ∷ decimal count ∷ codes " openings without one" ∷ [])
 
 -- the name of calls of a kind
 abbrev pub call_name : Call → List ℕ
@@ -34,7 +34,7 @@ call_name Receive = codes "receptions"
 
 -- the system's number for a reason
 unfoldable pub number_text : ℤ → List ℕ
-number_text number = joined (codes " (error " ∷ signed_decimal number ∷ codes ")" ∷ [])
+number_text number = join_pieces (codes " (error " ∷ signed_decimal number ∷ codes ")" ∷ [])
 
 -- the same, if there is one
 abbrev pub error_text : Option ℤ → List ℕ
@@ -43,25 +43,25 @@ error_text (Some number) = number_text number
 
 -- calls on this channel, from 1, fail
 unfoldable pub refusal_text : Call → (channel : ℕ) → List ℕ
-refusal_text call channel = joined (call_name call ∷ codes " on channel " ∷ decimal channel ∷ codes " fail: the system refuses them" ∷ [])
+refusal_text call channel = join_pieces (call_name call ∷ codes " on channel " ∷ decimal channel ∷ codes " fail: the system refuses them" ∷ [])
 
 -- the same, for this reason
 unfoldable pub calls_fail_text : Call → (channel : ℕ) → Option ℤ → List ℕ
-calls_fail_text call channel error = joined (refusal_text call channel ∷ error_text error ∷ [])
+calls_fail_text call channel error = join_pieces (refusal_text call channel ∷ error_text error ∷ [])
 
 -- calls on this channel succeed again, after this many that failed
 unfoldable pub calls_succeed_text : Call → (channel failed : ℕ) → List ℕ
 calls_succeed_text call channel failed =
-    joined (call_name call ∷ codes " on channel " ∷ decimal channel ∷ codes " succeed again: none failed for T_max; " ∷ decimal failed ∷ codes " failed before" ∷ [])
+    join_pieces (call_name call ∷ codes " on channel " ∷ decimal channel ∷ codes " succeed again: none failed for T_max; " ∷ decimal failed ∷ codes " failed before" ∷ [])
 
 -- a requested retransmission did not come for this many milliseconds
 unfoldable pub unanswered_text : ℕ → List ℕ
 unanswered_text milliseconds =
-    joined (codes "the requested retransmission did not come: " ∷ decimal milliseconds ∷ codes " ms from the request to the end of the connection" ∷ [])
+    join_pieces (codes "the requested retransmission did not come: " ∷ decimal milliseconds ∷ codes " ms from the request to the end of the connection" ∷ [])
 
 -- this many more datagrams were dropped, for causes that are logged
 unfoldable pub drops_text : ℕ → List ℕ
-drops_text count = joined (codes "dropped " ∷ decimal count ∷ codes " more datagrams, for causes that are logged" ∷ [])
+drops_text count = join_pieces (codes "dropped " ∷ decimal count ∷ codes " more datagrams, for causes that are logged" ∷ [])
 
 -- the text of a notice
 abbrev pub notice_text : Notice → List ℕ
@@ -79,8 +79,8 @@ notice_text Unread = codes "leaves: nobody reads standard output"
 -- TIME END, at the start of a line, as in the log of an end
 unfoldable pub notice_front : ℕ → Side → List ℕ
 notice_front at side =
-    joined (decimal (at / 1000) ∷ codes "." ∷ three_digits (at % 1000) ∷ codes " " ∷ side_name side ∷ codes " " ∷ [])
+    join_pieces (decimal (at / 1000) ∷ codes "." ∷ three_digits (at % 1000) ∷ codes " " ∷ side_name side ∷ codes " " ∷ [])
 
 -- TIME END TEXT
 abbrev pub notice_line : ℕ → Side → Notice → List ℕ
-notice_line at side notice = joined (notice_front at side ∷ notice_text notice ∷ codes "\n" ∷ [])
+notice_line at side notice = join_pieces (notice_front at side ∷ notice_text notice ∷ codes "\n" ∷ [])

@@ -2,7 +2,7 @@
 use Rattle.std.specs.Prelude.{◌≡◌, ◌≢◌, ◌⊎◌, ℕ, zero, suc, ◌+◌, ◌-◌, ◌^◌, ◌≤◌, ◌<◌, ◌==◌, ◌||◌, ◌&&◌, not, nat_lt, nat_le, Bool, true, false, min, max, length, take, drop, reverse, slice_get, Option, None, Some, Result, Ok, Err, List, [], ◌∷◌, codes, if◌then◌else◌}
 use Rattle.std.specs.Fmt.{decimal}
 use Rattle.std.specs.Io.KnownBytes.{Appends}
-use Rattle.pdu_text.specs.Lines.{joined}
+use Rattle.pdu_text.specs.Lines.{join_pieces}
 use Rattle.rasta_run.specs.Feeding.{feed_place, is_open, lines_left}
 use Rattle.rasta_run.specs.declared.pending.Passing.{Passing}
 use Rattle.rasta_run.specs.declared.pending.Passing.TheVariants.{On, Over, Failed}
@@ -100,11 +100,11 @@ unread_lines left_out octets = min (left_out + lines_left octets) (2 ^ 64 - 1)
 
 -- the line of how many lines of the log were left out
 unfoldable pub left_out_text : ℕ → List ℕ
-left_out_text count = joined (codes "log: " ∷ decimal count ∷ codes " lines left out\n" ∷ [])
+left_out_text count = join_pieces (codes "log: " ∷ decimal count ∷ codes " lines left out\n" ∷ [])
 
 -- the line of how many lines of standard output were not printed
 unfoldable pub unread_text : ℕ → List ℕ
-unread_text count = joined (codes "output: " ∷ decimal count ∷ codes " lines not printed, nobody reads them\n" ∷ [])
+unread_text count = join_pieces (codes "output: " ∷ decimal count ∷ codes " lines not printed, nobody reads them\n" ∷ [])
 
 -- turns that end because a line of standard output had no room are no fault
 abbrev pub unless_unread : Result (Unit {0}) Fault → Bool → Result (Unit {0}) Fault

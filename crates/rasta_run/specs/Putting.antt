@@ -1,7 +1,7 @@
 -- What an end does with the telegrams that it is to put, one after the other.
 use Rattle.std.specs.Prelude.{⊤, ◌≡◌, ◌≢◌, ◌⊎◌, ℕ, zero, suc, ◌+◌, ◌-◌, ◌^◌, ◌%◌, ◌++◌, ◌∷◌, [], List, Bool, true, false, min, nat_lt, Option, Some, None}
 use Rattle.std.specs.List.{FoldsTo}
-use Rattle.channels.specs.Told.{Told}
+use Rattle.channels.specs.Told.{ChannelHistory}
 use Rattle.pdi_session.specs.FaultNames.{init_fault_name, put_fault_name}
 use Rattle.pdi_session.specs.declared.InitFault.{InitFault}
 use Rattle.pdi_session.specs.declared.InitFault.TheVariants as init
@@ -9,8 +9,8 @@ use Rattle.pdi_session.specs.declared.PutFault.{PutFault}
 use Rattle.pdi_session.specs.declared.PutFault.TheVariants.{Full}
 use Rattle.settings_file.specs.declared.values.Put.{Put as Telegram}
 use Rattle.rasta_run.specs.Feeding.{Input, Reads, line_read}
-use Rattle.rasta_run.specs.declared.putting.Offered.{Offered}
-use Rattle.rasta_run.specs.declared.putting.Offered.TheVariants as offered
+use Rattle.rasta_run.specs.declared.putting.PutOutcome.{PutOutcome}
+use Rattle.rasta_run.specs.declared.putting.PutOutcome.TheVariants as offered
 use Rattle.stack_end.specs.EndValue.{EndTurnsAlone, EndValue, inside}
 use Rattle.stack_end.specs.Turns.{above, completes, init_answer, put_answer, puts}
 
@@ -28,7 +28,7 @@ Offering C A T = EndValue C A × ℕ × T
 
 -- a telegram was offered to an end. It was put and counted; or it was refused for another reason than a full end, and the application learned that; or
 -- the end is full. What the end did not put leaves it as it was.
-abbrev pub Offers : {C A T : Type 0} → (C → Told) → (T → List ℕ → T → Type 0) → ℕ → Offering C A T → Telegram → Offered → Offering C A T → Type 0
+abbrev pub Offers : {C A T : Type 0} → (C → ChannelHistory) → (T → List ℕ → T → Type 0) → ℕ → Offering C A T → Telegram → PutOutcome → Offering C A T → Type 0
 Offers told refuses now s p offered.Put t =
     Answers s.0 p None × EndTurnsAlone told (above (puts p.kind p.payload.items now)) s.0 t.0 × (t.0.time ≡ now) × (t.1 ≡ (s.1 + 1) % 2 ^ 64) × (t.2 ≡ s.2)
 Offers told refuses now s p offered.Refused t =
@@ -36,21 +36,21 @@ Offers told refuses now s p offered.Refused t =
 Offers told refuses now s p offered.Full t = Answers s.0 p (Some Full) × (t.0 ≡ s.0) × (t.1 ≡ s.1) × (t.2 ≡ s.2)
 
 -- the end has no room for the telegram that was offered
-abbrev pub is_full : Offered → Bool
+abbrev pub is_full : PutOutcome → Bool
 is_full offered.Full = true
 is_full offered.Put = false
 is_full offered.Refused = false
 
 -- the number of telegrams refused after one more was offered
-abbrev pub refusals_after : Offered → ℕ → ℕ
+abbrev pub refusals_after : PutOutcome → ℕ → ℕ
 refusals_after offered.Refused count = min (count + 1) (2 ^ 64 - 1)
 refusals_after offered.Put count = count
 refusals_after offered.Full count = count
 
 -- a telegram was put, or it was refused and counted
-abbrev pub Passes : {C A T : Type 0} → (C → Told) → (T → List ℕ → T → Type 0) → ℕ → Putting C A T → Telegram → Putting C A T → Type 0
+abbrev pub Passes : {C A T : Type 0} → (C → ChannelHistory) → (T → List ℕ → T → Type 0) → ℕ → Putting C A T → Telegram → Putting C A T → Type 0
 Passes told refuses now s p t =
-    (result : Offered) × (is_full result ≡ false) × Offers told refuses now (s.0, s.1, s.2) p result (t.0, t.1, t.2) × (t.3 ≡ refusals_after result s.3)
+    (result : PutOutcome) × (is_full result ≡ false) × Offers told refuses now (s.0, s.1, s.2) p result (t.0, t.1, t.2) × (t.3 ≡ refusals_after result s.3)
 
 -- the end is full for the first telegram that is left, if one is
 abbrev pub IsFullFor : {C A : Type 0} → EndValue C A → List Telegram → Type 0
@@ -58,7 +58,7 @@ IsFullFor v [] = ⊤
 IsFullFor v (p ∷ ps) = Answers v p (Some Full)
 
 -- a prefix of the telegrams was put or refused in order, each once, up to the first for which the end is full
-abbrev pub PutsBeginning : {C A T : Type 0} → (C → Told) → (T → List ℕ → T → Type 0) → ℕ → List Telegram → Putting C A T → List Telegram → Putting C A T → Type 0
+abbrev pub PutsBeginning : {C A T : Type 0} → (C → ChannelHistory) → (T → List ℕ → T → Type 0) → ℕ → List Telegram → Putting C A T → List Telegram → Putting C A T → Type 0
 PutsBeginning told refuses now before s left t =
     (done : List Telegram) × (before ≡ done ++ left) × FoldsTo (Passes told refuses now) s done t × IsFullFor t.0 left
 
@@ -71,24 +71,24 @@ pub record Fed (C A T : Type 0) : Type 0 where
   pub input : Input
 
 -- the telegram that is next, if one is, was put or refused, and then none is next; or the end is full for it and keeps it
-abbrev pub TakesNext : {C A T : Type 0} → (C → Told) → (T → List ℕ → T → Type 0) → ℕ → Option Telegram → Fed C A T → Bool → Fed C A T → Type 0
+abbrev pub TakesNext : {C A T : Type 0} → (C → ChannelHistory) → (T → List ℕ → T → Type 0) → ℕ → Option Telegram → Fed C A T → Bool → Fed C A T → Type 0
 TakesNext told refuses now None s done t = (done ≡ true) × (t ≡ s)
 TakesNext told refuses now (Some p) s true t =
     Passes told refuses now (s.end, s.put, s.app, s.refused) p (t.end, t.put, t.app, t.refused) × (t.input ≡ record s.input { next = None })
 TakesNext told refuses now (Some p) s false t = Answers s.end p (Some Full) × (t ≡ s)
 
 -- what is done with the next line, if there is one: the telegram that it spells is put, refused, or kept until the end has room
-abbrev pub TakesFound : {C A T : Type 0} → (C → Told) → (T → List ℕ → T → Type 0) → ℕ → Bool → Fed C A T → Bool → Fed C A T → Type 0
+abbrev pub TakesFound : {C A T : Type 0} → (C → ChannelHistory) → (T → List ℕ → T → Type 0) → ℕ → Bool → Fed C A T → Bool → Fed C A T → Type 0
 TakesFound told refuses now false s done t = (done ≡ false) × (t ≡ s)
 TakesFound told refuses now true s done t = TakesNext told refuses now s.input.next s done t
 
 -- one line: it is read if no telegram is next, and then its telegram is offered
-abbrev pub TakesLine : {C A T : Type 0} → (C → Told) → (T → List ℕ → T → Type 0) → (now : ℕ) → (ended : Bool) → Fed C A T → Bool → Fed C A T → Type 0
+abbrev pub TakesLine : {C A T : Type 0} → (C → ChannelHistory) → (T → List ℕ → T → Type 0) → (now : ℕ) → (ended : Bool) → Fed C A T → Bool → Fed C A T → Type 0
 TakesLine told refuses now ended s done t =
     (has : Bool) × (input : Input) × Reads ended s.input has input × TakesFound told refuses now has (record s { input = input }) done t
 
 -- this many lines, one after the other
-abbrev pub TakesLines : {C A T : Type 0} → (C → Told) → (T → List ℕ → T → Type 0) → (now : ℕ) → (ended : Bool) → ℕ → Fed C A T → Fed C A T → Type 0
+abbrev pub TakesLines : {C A T : Type 0} → (C → ChannelHistory) → (T → List ℕ → T → Type 0) → (now : ℕ) → (ended : Bool) → ℕ → Fed C A T → Fed C A T → Type 0
 TakesLines told refuses now ended zero s t = t ≡ s
 TakesLines {C} {A} {T} told refuses now ended (suc n) s t =
     (mid : Fed C A T) × TakesLines told refuses now ended n s mid × TakesLine told refuses now ended mid true t
@@ -98,23 +98,23 @@ abbrev pub lines_most : ℕ
 lines_most = 256
 
 -- lines were taken until none was there, the end was full, or there were enough; `found`: there was one
-abbrev pub TakesInput : {C A T : Type 0} → (C → Told) → (T → List ℕ → T → Type 0) → (now : ℕ) → (ended : Bool) → Fed C A T → Bool → Fed C A T → Type 0
+abbrev pub TakesInput : {C A T : Type 0} → (C → ChannelHistory) → (T → List ℕ → T → Type 0) → (now : ℕ) → (ended : Bool) → Fed C A T → Bool → Fed C A T → Type 0
 TakesInput {C} {A} {T} told refuses now ended s found t =
     (count : ℕ) × (mid : Fed C A T) × TakesLines told refuses now ended count s mid
     × (((count ≡ lines_most) × (found ≡ true) × (t ≡ mid)) ⊎ ((found ≡ nat_lt 0 count) × TakesLine told refuses now ended mid false t))
 
 -- lines were taken, if it was the time for them; else nothing changed
-abbrev pub TakesInputIf : {C A T : Type 0} → (C → Told) → (T → List ℕ → T → Type 0) → (now : ℕ) → (ended ready : Bool) → Fed C A T → Bool → Fed C A T → Type 0
+abbrev pub TakesInputIf : {C A T : Type 0} → (C → ChannelHistory) → (T → List ℕ → T → Type 0) → (now : ℕ) → (ended ready : Bool) → Fed C A T → Bool → Fed C A T → Type 0
 TakesInputIf told refuses now ended true s found t = TakesInput told refuses now ended s found t
 TakesInputIf told refuses now ended false s found t = (found ≡ false) × (t ≡ s)
 
 -- what comes of the end of the initialisation: it is done, it has to wait for room, or it is refused and the application learns that
-abbrev pub CompletesBy : {C A T : Type 0} → (C → Told) → (T → List ℕ → T → Type 0) → ℕ → Option InitFault → EndValue C A × T → EndValue C A × T → Type 0
+abbrev pub CompletesBy : {C A T : Type 0} → (C → ChannelHistory) → (T → List ℕ → T → Type 0) → ℕ → Option InitFault → EndValue C A × T → EndValue C A × T → Type 0
 CompletesBy told refuses now None s t = EndTurnsAlone told (above (completes now)) s.0 t.0 × (t.0.time ≡ now) × (t.1 ≡ s.1)
 CompletesBy told refuses now (Some init.Full) s t = (t.0 ≡ s.0) × (t.1 ≡ s.1)
 CompletesBy told refuses now (Some init.NotInitialising) s t = (t.0 ≡ s.0) × refuses s.1 (init_fault_name init.NotInitialising) t.1
 
 -- the initialisation is ended, if it is the time for it; else nothing changes
-abbrev pub CompletesIf : {C A T : Type 0} → (C → Told) → (T → List ℕ → T → Type 0) → ℕ → Bool → EndValue C A × T → EndValue C A × T → Type 0
+abbrev pub CompletesIf : {C A T : Type 0} → (C → ChannelHistory) → (T → List ℕ → T → Type 0) → ℕ → Bool → EndValue C A × T → EndValue C A × T → Type 0
 CompletesIf told refuses now true s t = CompletesBy told refuses now (init_answer (inside s.0).upper) s t
 CompletesIf told refuses now false s t = (t.0 ≡ s.0) × (t.1 ≡ s.1)

@@ -1,8 +1,8 @@
 -- What the recorder of an end keeps of the datagrams that are sent and received, and of the end's notes.
 use Rattle.std.specs.Prelude.{ℕ, ◌%◌, ◌==◌, nat_eq, Bool, true, false, List, slice_set, Option, Some, None, if◌then◌else◌}
 use Rattle.pdu_text.specs.declared.causes.Cause.{Cause}
-use Rattle.pdu_text.specs.declared.lines.Happening.{Happening}
-use Rattle.pdu_text.specs.declared.lines.Happening.TheVariants as happening
+use Rattle.pdu_text.specs.declared.lines.EndEvent.{EndEvent}
+use Rattle.pdu_text.specs.declared.lines.EndEvent.TheVariants as happening
 use Rattle.red_layer.specs.declared.RedEvent.{RedEvent}
 use Rattle.safe_machine.specs.declared.DropCause.{DropCause}
 use Rattle.safe_pdu.specs.declared.Kind.{Kind}
@@ -14,11 +14,11 @@ use Rattle.rasta_run.specs.Headers.{header_seen, kind_seen}
 use Rattle.rasta_run.specs.Telling.{drop_cause, event_cause, last_of, made_told}
 use Rattle.rasta_run.specs.declared.header.Header.{Header}
 use Rattle.rasta_run.specs.declared.recorder.Recorder.{Recorder}
-use Rattle.rasta_run.specs.declared.recorder.Wanted.{Wanted}
+use Rattle.rasta_run.specs.declared.recorder.ExpectedHeader.{ExpectedHeader}
 use Rattle.end_settings.specs.declared.EndConfig.{EndConfig}
 
 -- what an end with these settings expects of its peer
-abbrev pub wanted_by : EndConfig → Wanted
+abbrev pub wanted_by : EndConfig → ExpectedHeader
 wanted_by c = record { peer_id = c.peer_id; id = c.id; code = c.code }
 
 -- a datagram of this type requests a connection
@@ -46,16 +46,16 @@ data_after (Some RetrData) datagram before = before
 data_after None datagram before = before
 
 -- an event is kept at the place of its number
-abbrev pub with_event : Happening → Recorder → Recorder
+abbrev pub with_event : EndEvent → Recorder → Recorder
 with_event h r = record r { kept = slice_set r.kept (r.happened % 256) h; happened = one_more r.happened }
 
 -- the same, if there is one
-abbrev pub with_some : Option Happening → Recorder → Recorder
+abbrev pub with_some : Option EndEvent → Recorder → Recorder
 with_some None r = r
 with_some (Some h) r = with_event h r
 
 -- the event of a datagram that was to be sent: only the first channel has one, since all carry the same
-abbrev pub sent_event : (channel : ℕ) → List ℕ → Option Happening
+abbrev pub sent_event : (channel : ℕ) → List ℕ → Option EndEvent
 sent_event channel datagram = if channel == 1 then made_told (kind_seen datagram) else None
 
 -- a datagram was to be sent on a channel, and was or was not

@@ -1,52 +1,52 @@
 -- When a channel is logged as silent, and when it receives again.
 use Rattle.std.specs.Prelude.{ℕ, ◌+◌, ◌-◌, nat_eq, nat_le, nat_lt, Bool, true, false, List, slice_index_or, slice_set, Option, Some, None, if◌then◌else◌}
-use Rattle.rasta_run.specs.declared.logging.Listening.{Listening}
-use Rattle.rasta_run.specs.declared.logging.Said.{Said}
-use Rattle.rasta_run.specs.declared.logging.Said.TheVariants.{Nothing, Silent, Heard}
-use Rattle.pdu_text.specs.declared.lines.Happening.{Happening}
-use Rattle.pdu_text.specs.declared.lines.Happening.TheVariants as happening
+use Rattle.rasta_run.specs.declared.logging.ChannelSilence.{ChannelSilence}
+use Rattle.rasta_run.specs.declared.logging.SilenceChange.{SilenceChange}
+use Rattle.rasta_run.specs.declared.logging.SilenceChange.TheVariants.{Nothing, Silent, Heard}
+use Rattle.pdu_text.specs.declared.lines.EndEvent.{EndEvent}
+use Rattle.pdu_text.specs.declared.lines.EndEvent.TheVariants as happening
 use Rattle.stack_end.specs.Statistics.{none_received}
 use Rattle.stack_end.specs.declared.statistics.ReceptionCounts.{ReceptionCounts}
 
 -- the channel after a look: a datagram came, or none for longer than T_max
-abbrev pub hears : Listening → ℕ → ℕ → ℕ → Listening
-hears l came now t_max =
+abbrev pub look_at_channel : ChannelSilence → ℕ → ℕ → ℕ → ChannelSilence
+look_at_channel l came now t_max =
     if nat_eq came l.came
     then (if nat_lt t_max (now - l.at) then record l { silent = true } else l)
     else record { came = came; at = now; silent = false }
 
 -- the change from silent or not to silent or not
-abbrev pub change_between : Bool → Bool → Said
+abbrev pub change_between : Bool → Bool → SilenceChange
 change_between false true = Silent
 change_between true false = Heard
 change_between true true = Nothing
 change_between false false = Nothing
 
 -- the change that is logged
-abbrev pub said_of : Listening → Listening → Said
+abbrev pub said_of : ChannelSilence → ChannelSilence → SilenceChange
 said_of l m = change_between l.silent m.silent
 
 -- a channel that has received nothing since a time
-abbrev pub unheard : ℕ → Listening
-unheard at = record { came = 0; at = at; silent = false }
+abbrev pub new_listening : ℕ → ChannelSilence
+new_listening at = record { came = 0; at = at; silent = false }
 
 -- the channel at a place after a look at the counts of all
-abbrev pub heard_now : List Listening → List ReceptionCounts → (place now t_max : ℕ) → Listening
+abbrev pub heard_now : List ChannelSilence → List ReceptionCounts → (place now t_max : ℕ) → ChannelSilence
 heard_now ls rs place now t_max =
-    hears (slice_index_or ls place (unheard 0)) (slice_index_or rs place none_received).received now t_max
+    look_at_channel (slice_index_or ls place (new_listening 0)) (slice_index_or rs place none_received).received now t_max
 
 -- the channels after a look at the one at a place, from 0, if the end has it
-abbrev pub hears_at : List ReceptionCounts → (count now t_max place : ℕ) → List Listening → List Listening
+abbrev pub hears_at : List ReceptionCounts → (count now t_max place : ℕ) → List ChannelSilence → List ChannelSilence
 hears_at rs count now t_max place ls =
     if nat_le count place then ls else slice_set ls place (heard_now ls rs place now t_max)
 
 -- the channels after a look at all of them
-abbrev pub hears_all : List ReceptionCounts → (count now t_max : ℕ) → List Listening → List Listening
+abbrev pub hears_all : List ReceptionCounts → (count now t_max : ℕ) → List ChannelSilence → List ChannelSilence
 hears_all rs count now t_max ls =
     hears_at rs count now t_max 3 (hears_at rs count now t_max 2 (hears_at rs count now t_max 1 (hears_at rs count now t_max 0 ls)))
 
 -- the event of a change of a channel, numbered from 1
-abbrev pub said_event : Said → (channel : ℕ) → Option Happening
+abbrev pub said_event : SilenceChange → (channel : ℕ) → Option EndEvent
 said_event Nothing channel = None
 said_event Silent channel = Some (happening.Silent channel)
 said_event Heard channel = Some (happening.Heard channel)

@@ -2,17 +2,17 @@
 use Rattle.std.specs.Prelude.{◌≡◌, ◌⊎◌, ℕ, ◌+◌, ◌/◌, ◌%◌, ◌≤◌, ◌++◌, ◌-◌, ◌^◌, ◌==◌, min, drop, List, [], ◌∷◌, codes, not, Bool, true, false, Option, Some, None}
 use Rattle.std.specs.List.{position}
 use Rattle.std.specs.Io.KnownBytes.{Appends}
-use Rattle.pdu_text.specs.Lines.{joined}
+use Rattle.pdu_text.specs.Lines.{join_pieces}
 use Rattle.pdu_text.specs.LogLines.{happening_text}
 use Rattle.pdu_text.specs.Pieces.{digit, log_line, three_digits}
-use Rattle.pdu_text.specs.declared.lines.Happening.{Happening}
+use Rattle.pdu_text.specs.declared.lines.EndEvent.{EndEvent}
 use Rattle.rasta_run.specs.Calendar.{IsDate, days_of_years, years_most}
 use Rattle.rasta_run.specs.Noticing.{notice_line}
 use Rattle.rasta_run.specs.Silence.{said_event}
 use Rattle.rasta_run.specs.Telling.{is_off}
 use Rattle.rasta_run.specs.declared.calendar.Date.{Date}
 use Rattle.rasta_run.specs.declared.logging.Log.{Log}
-use Rattle.rasta_run.specs.declared.logging.Said.{Said}
+use Rattle.rasta_run.specs.declared.logging.SilenceChange.{SilenceChange}
 use Rattle.rasta_run.specs.declared.noticing.Notice.{Notice}
 use Rattle.rasta_words.specs.declared.status.LogTime.{LogTime}
 use Rattle.rasta_words.specs.declared.status.LogTime.TheVariants.{Utc, Run}
@@ -32,22 +32,22 @@ four_digits n = digit 1000 n ∷ digit 100 n ∷ digit 10 n ∷ digit 1 n ∷ []
 -- YEAR-MONTH-DAY
 unfoldable pub date_text : Date → List ℕ
 date_text d =
-    joined (four_digits (1970 + d.years) ∷ codes "-" ∷ two_digits (d.months + 1) ∷ codes "-" ∷ two_digits (d.days + 1) ∷ [])
+    join_pieces (four_digits (1970 + d.years) ∷ codes "-" ∷ two_digits (d.months + 1) ∷ codes "-" ∷ two_digits (d.days + 1) ∷ [])
 
 -- two digits, and a text after them
 unfoldable pub pair_text : ℕ → List ℕ → List ℕ
-pair_text n text = joined (two_digits n ∷ text ∷ [])
+pair_text n text = join_pieces (two_digits n ∷ text ∷ [])
 
 -- HOUR:MINUTE:SECOND.MILLISECOND, of milliseconds of a day
 unfoldable pub clock_text : ℕ → List ℕ
 clock_text ms =
-    joined
+    join_pieces
     (pair_text (ms / 3_600_000) (codes ":") ∷ pair_text (ms / 60_000 % 60) (codes ":") ∷ pair_text (ms / 1_000 % 60) (codes ".")
     ∷ three_digits (ms % 1_000) ∷ [])
 
 -- the date and the time of day, in UTC
 unfoldable pub utc_text : Date → ℕ → List ℕ
-utc_text d ms = joined (date_text d ∷ codes "T" ∷ clock_text ms ∷ codes "Z" ∷ [])
+utc_text d ms = join_pieces (date_text d ∷ codes "T" ∷ clock_text ms ∷ codes "Z" ∷ [])
 
 -- a list from a place on, or all of it
 abbrev pub from_place : Option ℕ → List ℕ → List ℕ
@@ -83,7 +83,7 @@ LogsIf true log now line before after = Logs log now line before after
 LogsIf false log now line before after = Appends before after []
 
 -- an event was logged, if it is one that the log has
-abbrev pub LogsEvent : Bool → Log → ℕ → Happening → Option (List ℕ) → Option (List ℕ) → Type 0
+abbrev pub LogsEvent : Bool → Log → ℕ → EndEvent → Option (List ℕ) → Option (List ℕ) → Type 0
 LogsEvent told log now h before after = LogsIf told log now (log_line now log.side (happening_text h)) before after
 
 -- a notice was logged, if there is one and the log is not off
@@ -92,10 +92,10 @@ LogsNotice None log now before after = Appends before after []
 LogsNotice (Some notice) log now before after = LogsIf (not (is_off log.level)) log now (notice_line now log.side notice) before after
 
 -- an event of a channel was logged, if there is one and the log is not off
-abbrev pub LogsSome : Option Happening → Log → ℕ → Option (List ℕ) → Option (List ℕ) → Type 0
+abbrev pub LogsSome : Option EndEvent → Log → ℕ → Option (List ℕ) → Option (List ℕ) → Type 0
 LogsSome None log now before after = Appends before after []
 LogsSome (Some h) log now before after = LogsEvent (not (is_off log.level)) log now h before after
 
 -- the change of a channel, numbered from 1, was logged, if it is one and the log is not off
-abbrev pub LogsChange : Said → (channel : ℕ) → Log → ℕ → Option (List ℕ) → Option (List ℕ) → Type 0
+abbrev pub LogsChange : SilenceChange → (channel : ℕ) → Log → ℕ → Option (List ℕ) → Option (List ℕ) → Type 0
 LogsChange said channel log now before after = LogsSome (said_event said channel) log now before after

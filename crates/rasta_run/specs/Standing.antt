@@ -34,10 +34,10 @@ is_initialising phase.Established = false
 is_initialising phase.Ended = false
 
 -- the end is in the expected state; `settled`: everything put is confirmed; `done`: everything that was to be put was tried
-abbrev pub meets : Option Expected → Phase → (settled done : Bool) → Bool
-meets None phase settled done = true
-meets (Some Up) phase settled done = is_up phase
-meets (Some Settled) phase settled done = is_up phase && (settled && done)
+abbrev pub is_expected : Option Expected → Phase → (settled done : Bool) → Bool
+is_expected None phase settled done = true
+is_expected (Some Up) phase settled done = is_up phase
+is_expected (Some Settled) phase settled done = is_up phase && (settled && done)
 
 -- an end puts its list in this phase: an interlocking while the session is established, a field element while it initialises
 abbrev pub puts_in : Side → Phase → Bool

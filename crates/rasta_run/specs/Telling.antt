@@ -10,10 +10,10 @@ use Rattle.safe_pdu.specs.declared.Leaving.{Leaving}
 use Rattle.safe_pdu.specs.declared.SafeFault.{SafeFault}
 use Rattle.pdu_text.specs.declared.causes.Cause.{Cause}
 use Rattle.pdu_text.specs.declared.causes.Cause.TheVariants.{Early, OtherCode, Part, Stranger}
-use Rattle.pdu_text.specs.declared.lines.Happening.{Happening}
-use Rattle.pdu_text.specs.declared.lines.Happening.TheVariants.{State, Phase, Anew, Left, PeerLeft, Asked, Resent, PutRefused, InitRefused, Silent, Heard, Dropped}
+use Rattle.pdu_text.specs.declared.lines.EndEvent.{EndEvent}
+use Rattle.pdu_text.specs.declared.lines.EndEvent.TheVariants.{State, Phase, Anew, Left, PeerLeft, Asked, Resent, PutRefused, InitRefused, Silent, Heard, Dropped}
 use Rattle.end_settings.specs.EndSettings.{EndSettings}
-use Rattle.pdu_text.specs.Lines.{joined}
+use Rattle.pdu_text.specs.Lines.{join_pieces}
 use Rattle.pdu_text.specs.MessageText.{unit_lines}
 use Rattle.settings_text.specs.InForce.{expected_lines}
 use Rattle.rasta_run.specs.Headers.{body_seen}
@@ -31,7 +31,7 @@ use Rattle.stack_end.specs.declared.departure.Leaver.{Leaver}
 use Rattle.stack_end.specs.declared.departure.Leaver.TheVariants as by
 use Rattle.rasta_run.specs.declared.header.Header.{Header}
 use Rattle.rasta_run.specs.declared.noticing.Notice.{Notice}
-use Rattle.rasta_run.specs.declared.recorder.Wanted.{Wanted}
+use Rattle.rasta_run.specs.declared.recorder.ExpectedHeader.{ExpectedHeader}
 use Rattle.rasta_run.specs.declared.noticing.Notice.TheVariants.{Drops, Unanswered, WrongRequest}
 
 -- why the redundancy layer dropped a datagram; none if it did not
@@ -55,7 +55,7 @@ code_in None = None
 code_in (Some header) = header.code
 
 -- why the safety machine dropped a part, with what its datagram shows and what was expected, if that is known
-abbrev pub drop_cause : DropCause → Option Header → Wanted → Cause
+abbrev pub drop_cause : DropCause → Option Header → ExpectedHeader → Cause
 drop_cause cause.Stranger (Some header) wanted = Stranger header.sender header.receiver wanted.peer_id wanted.id
 drop_cause cause.Stranger None wanted = Part cause.Stranger
 drop_cause (cause.Fault why) header wanted = fault_cause why (code_in header) wanted.code
@@ -84,7 +84,7 @@ last_of None cause = cause
 last_of (Some before) cause = if is_repeat cause then before else cause
 
 -- the event of a PDU of this type that the end made
-abbrev pub made_told : Option Kind → Option Happening
+abbrev pub made_told : Option Kind → Option EndEvent
 made_told (Some RetrReq) = Some Asked
 made_told (Some RetrResp) = Some Resent
 made_told (Some ConnReq) = None
@@ -96,13 +96,13 @@ made_told (Some RetrData) = None
 made_told None = None
 
 -- the event of a departure: the end or its peer disconnects
-abbrev pub leaving_told : Option Departure → Option Happening
+abbrev pub leaving_told : Option Departure → Option EndEvent
 leaving_told None = None
 leaving_told (Some (Own leaving)) = Some (Left leaving)
 leaving_told (Some (Peer leaving)) = Some (PeerLeft leaving)
 
 -- the event that explains that a connection is in this state: the departure, if it is closed
-abbrev pub explained_state : ConnectionState → Option Departure → Option Happening
+abbrev pub explained_state : ConnectionState → Option Departure → Option EndEvent
 explained_state state.Closed d = leaving_told d
 explained_state state.Down d = None
 explained_state state.Start d = None
@@ -111,9 +111,9 @@ explained_state state.RetrReq d = None
 explained_state state.RetrRun d = None
 
 -- the event that explains another one: only that of a closed connection is explained
-abbrev pub explained : Happening → Option Departure → Option Happening
-explained (State s) d = explained_state s d
-explained _ d = None
+abbrev pub explain : EndEvent → Option Departure → Option EndEvent
+explain (State s) d = explained_state s d
+explain _ d = None
 
 -- a departure by this end or its peer, as the log states it
 abbrev pub told_by : Leaver → Leaving → Departure
@@ -132,14 +132,14 @@ departure_of FieldElement None d = None
 departure_of FieldElement (Some octets) d = departure_told d
 
 -- the event with this number, if it is one of the last 256, which are kept at the places of their numbers
-abbrev pub kept_as : List Happening → ℕ → ℕ → Option Happening
+abbrev pub kept_as : List EndEvent → ℕ → ℕ → Option EndEvent
 kept_as kept happened number =
     if nat_le happened number then None
     else if nat_lt 256 (happened - number) then None
     else Some (slice_index_or kept (number % 256) Asked)
 
 -- the cause of a drop, if the event is one
-abbrev pub dropped_cause : Happening → Option Cause
+abbrev pub dropped_cause : EndEvent → Option Cause
 dropped_cause (Dropped channel why) = Some why
 dropped_cause (State s) = None
 dropped_cause (Phase p) = None
@@ -154,7 +154,7 @@ dropped_cause (Silent channel) = None
 dropped_cause (Heard channel) = None
 
 -- the event is one of an opening that gets no session
-abbrev pub is_of_opening : Happening → Bool
+abbrev pub is_of_opening : EndEvent → Bool
 is_of_opening (State s) = true
 is_of_opening (Phase p) = true
 is_of_opening (Anew number) = true
@@ -169,7 +169,7 @@ is_of_opening (Heard channel) = false
 is_of_opening (Dropped channel why) = false
 
 -- the event is that the session is established
-abbrev pub is_session : Happening → Bool
+abbrev pub is_session : EndEvent → Bool
 is_session (Phase p) = is_up p
 is_session (State s) = false
 is_session (Anew number) = false
@@ -184,16 +184,16 @@ is_session (Heard channel) = false
 is_session (Dropped channel why) = false
 
 -- openings are only counted after this event; a session ends that
-abbrev pub quiet_after : Happening → Bool → Bool
+abbrev pub quiet_after : EndEvent → Bool → Bool
 quiet_after h quiet = quiet && not (is_session h)
 
 -- an event is logged at the level of states: a drop if its cause is new, and one of an opening unless openings are only counted
-abbrev pub is_told_by : Option Cause → (quiet new : Bool) → Happening → Bool
+abbrev pub is_told_by : Option Cause → (quiet new : Bool) → EndEvent → Bool
 is_told_by (Some why) quiet new h = new
 is_told_by None quiet new h = not (quiet && is_of_opening h)
 
 -- an event is logged
-abbrev pub is_told : LogLevel → (quiet new : Bool) → Happening → Bool
+abbrev pub is_told : LogLevel → (quiet new : Bool) → EndEvent → Bool
 is_told level.Off quiet new h = false
 is_told level.State quiet new h = is_told_by (dropped_cause h) quiet new h
 is_told level.All quiet new h = true
@@ -208,7 +208,7 @@ drops_with None new drops = drops
 drops_with (Some why) new drops = drops_after new why drops
 
 -- the same after any event: only the level of states leaves drops out
-abbrev pub drops_by : LogLevel → (new : Bool) → Happening → ℕ → ℕ
+abbrev pub drops_by : LogLevel → (new : Bool) → EndEvent → ℕ → ℕ
 drops_by level.State new h drops = drops_with (dropped_cause h) new drops
 drops_by level.Off new h drops = drops
 drops_by level.All new h drops = drops
@@ -261,7 +261,7 @@ wrong_request_notice true = Some WrongRequest
 wrong_request_notice false = None
 
 -- the end itself disconnects for a fault of the session
-abbrev pub is_session_fault : Happening → Bool
+abbrev pub is_session_fault : EndEvent → Bool
 is_session_fault (Left leaving) = nat_eq leaving.reason 4
 is_session_fault (State s) = false
 is_session_fault (Phase p) = false
@@ -277,7 +277,7 @@ is_session_fault (Dropped channel why) = false
 
 -- the messages in the body of a Data, and what an end of this side with these settings expects in them
 unfoldable pub mismatch_lines : (body : List ℕ) → Side → EndSettings → List ℕ
-mismatch_lines body side c = joined (unit_lines Data body ∷ expected_lines side c ∷ [])
+mismatch_lines body side c = join_pieces (unit_lines Data body ∷ expected_lines side c ∷ [])
 
 -- the same of a Data with a safety code of this length, if they are shown
 abbrev pub data_lines : (shown : Bool) → (octets : List ℕ) → (code : ℕ) → Side → EndSettings → List ℕ

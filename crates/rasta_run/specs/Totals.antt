@@ -16,8 +16,8 @@ later first None = first
 later first (Some time) = Some time
 
 -- the counts of a channel together
-abbrev pub receptions : ReceptionCounts → ReceptionCounts → ReceptionCounts
-receptions c d =
+abbrev pub add_receptions : ReceptionCounts → ReceptionCounts → ReceptionCounts
+add_receptions c d =
     record {
       received = sum c.received d.received;
       passed = sum c.passed d.passed;
@@ -36,15 +36,15 @@ counts_at cs place = slice_index_or cs place none_received
 
 -- those of the channel at a place together
 abbrev pub receptions_at : List ReceptionCounts → List ReceptionCounts → ℕ → ReceptionCounts
-receptions_at cs ds place = receptions (counts_at cs place) (counts_at ds place)
+receptions_at cs ds place = add_receptions (counts_at cs place) (counts_at ds place)
 
 -- those of each of the four channels together
-abbrev pub channels : List ReceptionCounts → List ReceptionCounts → List ReceptionCounts
-channels cs ds = receptions_at cs ds 0 ∷ receptions_at cs ds 1 ∷ receptions_at cs ds 2 ∷ receptions_at cs ds 3 ∷ []
+abbrev pub add_channels : List ReceptionCounts → List ReceptionCounts → List ReceptionCounts
+add_channels cs ds = receptions_at cs ds 0 ∷ receptions_at cs ds 1 ∷ receptions_at cs ds 2 ∷ receptions_at cs ds 3 ∷ []
 
 -- the counts of parts together: an age or a wait is the greater one
-abbrev pub parts : PartCounts → PartCounts → PartCounts
-parts c d =
+abbrev pub add_parts : PartCounts → PartCounts → PartCounts
+add_parts c d =
     record {
       taken = sum c.taken d.taken;
       gaps = sum c.gaps d.gaps;
@@ -60,8 +60,8 @@ parts c d =
     }
 
 -- the counts of PDUs made together
-abbrev pub made : MadeCounts → MadeCounts → MadeCounts
-made c d =
+abbrev pub add_made : MadeCounts → MadeCounts → MadeCounts
+add_made c d =
     record {
       units = sum c.units d.units;
       resent = sum c.resent d.resent;
@@ -84,9 +84,9 @@ none =
 abbrev pub plus : Statistics → Statistics → Statistics
 plus s t =
     record {
-      channels = channels s.channels t.channels;
-      parts = parts s.parts t.parts;
-      made = made s.made t.made;
+      channels = add_channels s.channels t.channels;
+      parts = add_parts s.parts t.parts;
+      made = add_made s.made t.made;
       confirmed = sum s.confirmed t.confirmed;
     }
 

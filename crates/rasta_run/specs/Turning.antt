@@ -1,6 +1,6 @@
 -- One turn of an end: it receives, then it puts telegrams of its list.
 use Rattle.std.specs.Prelude.{◌≡◌, ℕ, ◌+◌, ◌-◌, ◌^◌, ◌&&◌, not, min, nat_lt, length, ◌==◌, Bool, true, false, List, Option, Some, None, if◌then◌else◌}
-use Rattle.channels.specs.Told.{Told}
+use Rattle.channels.specs.Told.{ChannelHistory}
 use Rattle.end_settings.specs.declared.Side.{Side}
 use Rattle.pdi_session.specs.SessionStep.{Item}
 use Rattle.rasta_run.specs.Putting.{CompletesIf, PutsBeginning}
@@ -13,7 +13,7 @@ use Rattle.stack_end.specs.Polling.{HeardUntilFault, Polled, With, most_datagram
 use Rattle.stack_end.specs.Turns.{is_over, passes}
 
 -- an end was polled. If a reception failed, time passed all the same.
-abbrev pub Hears : {C A T : Type 0} → (C → Told) → (T → Item → T → Type 0) → (works : Bool) → ℕ → With C A T → With C A T → Type 0
+abbrev pub Hears : {C A T : Type 0} → (C → ChannelHistory) → (T → Item → T → Type 0) → (works : Bool) → ℕ → With C A T → With C A T → Type 0
 Hears told takes true now s t = Polled told takes most_datagrams now s t
 Hears {C} {A} {T} told takes false now s t =
     (mid : With C A T) × HeardUntilFault told takes most_datagrams now s mid × EndTurns told takes (passes now) mid.0 mid.1 t.0 t.1
@@ -31,13 +31,13 @@ pub record Course (C A T : Type 0) : Type 0 where
   pub closed : Bool
 
 -- the telegrams that are left are put until the end is full, if it is the time for them
-abbrev pub PutsIf : {C A T : Type 0} → (C → Told) → (T → List ℕ → T → Type 0) → ℕ → Bool → Course C A T → Course C A T → Type 0
+abbrev pub PutsIf : {C A T : Type 0} → (C → ChannelHistory) → (T → List ℕ → T → Type 0) → ℕ → Bool → Course C A T → Course C A T → Type 0
 PutsIf told refuses now true s t =
     PutsBeginning told refuses now s.left (s.end, s.put, s.app, s.refused) t.left (t.end, t.put, t.app, t.refused) × (t.deaf ≡ s.deaf) × (t.closed ≡ s.closed)
 PutsIf told refuses now false s t = t ≡ s
 
 -- an end puts what it may, and ends its initialisation once nothing is left
-abbrev pub PutsNow : {C A T : Type 0} → (C → Told) → (T → List ℕ → T → Type 0) → ℕ → Side → Course C A T → Course C A T → Type 0
+abbrev pub PutsNow : {C A T : Type 0} → (C → ChannelHistory) → (T → List ℕ → T → Type 0) → ℕ → Side → Course C A T → Course C A T → Type 0
 PutsNow {C} {A} {T} told refuses now side s t =
     (mid : Course C A T) × PutsIf told refuses now (puts_in side (inside s.end).upper.session.phase) s mid
     × CompletesIf told refuses now (ends_in side (inside mid.end).upper.session.phase (length mid.left == 0)) (mid.end, mid.app) (t.end, t.app)
@@ -49,7 +49,7 @@ deaf_after true count = 0
 deaf_after false count = min (count + 1) (2 ^ 64 - 1)
 
 -- a turn: the end receives, and the application loses nothing that it takes; then the end puts
-abbrev pub TakesTurn : {C A T : Type 0} → (C → Told) → (T → Item → T → Type 0) → (T → Bool) → (T → List ℕ → T → Type 0) → ℕ → Side → Course C A T → Course C A T → Type 0
+abbrev pub TakesTurn : {C A T : Type 0} → (C → ChannelHistory) → (T → Item → T → Type 0) → (T → Bool) → (T → List ℕ → T → Type 0) → ℕ → Side → Course C A T → Course C A T → Type 0
 TakesTurn {C} {A} {T} told takes lost refuses now side s t =
     (works : Bool) × (end : EndValue C A) × (app : T) × Hears told takes works now (s.end, s.app) (end, app) × (lost app ≡ false)
     × PutsNow told refuses now side

@@ -8,12 +8,12 @@ use Rattle.end_settings.specs.declared.Side.TheVariants as side
 use Rattle.settings_file.specs.declared.values.Ends.{Ends}
 use Rattle.settings_file.specs.declared.values.Ends.TheVariants as ends
 use Rattle.settings_file.specs.declared.values.Settings.{Settings as Entry}
-use Rattle.pdu_text.specs.Lines.{joined}
+use Rattle.pdu_text.specs.Lines.{join_pieces}
 use Rattle.pdu_text.specs.Names.{side_name}
 use Rattle.rasta_words.specs.declared.status.Fault.{Fault}
 use Rattle.rasta_words.specs.declared.status.Fault.TheVariants.{Memory, Settings, Network}
-use Rattle.rasta_run.specs.declared.unopened.Stopped.{Stopped}
-use Rattle.rasta_run.specs.declared.unopened.Stopped.TheVariants as stopped
+use Rattle.rasta_run.specs.declared.unopened.StopCause.{StopCause}
+use Rattle.rasta_run.specs.declared.unopened.StopCause.TheVariants as stopped
 use Rattle.stack_end.specs.declared.OpenFault.{OpenFault}
 use Rattle.stack_end.specs.declared.OpenFault.TheVariants as end
 
@@ -26,7 +26,7 @@ fault_of (udp.Bind refusal) = Network
 fault_of udp.Wait = Network
 
 -- the fault that ended a run
-abbrev pub fault_of_stop : Stopped → Fault
+abbrev pub fault_of_stop : StopCause → Fault
 fault_of_stop (stopped.Fault fault) = fault
 fault_of_stop (stopped.Unopened u) = fault_of u.fault
 
@@ -50,11 +50,11 @@ whose_text false = codes "peer's address "
 -- END channel N: WHOSE address TEXT; channels are numbered from 1
 unfoldable pub place_text : Side → ℕ → Bool → List ℕ → List ℕ
 place_text side channel is_own address =
-    joined (side_name side ∷ codes " channel " ∷ decimal channel ∷ codes ": " ∷ whose_text is_own ∷ address ∷ [])
+    join_pieces (side_name side ∷ codes " channel " ∷ decimal channel ∷ codes ": " ∷ whose_text is_own ∷ address ∷ [])
 
 -- the line of a text that is not an address
 unfoldable pub unread_text : Side → ℕ → Bool → List ℕ → List ℕ
-unread_text side channel is_own address = joined (place_text side channel is_own address ∷ codes ": not an IP address and a port\n" ∷ [])
+unread_text side channel is_own address = join_pieces (place_text side channel is_own address ∷ codes ": not an IP address and a port\n" ∷ [])
 
 -- words for the most frequent errors of the system
 abbrev pub error_words : ℕ → List ℕ
@@ -66,7 +66,7 @@ error_words error =
 
 -- the number of an error, and its words
 unfoldable pub numbered_text : ℕ → List ℕ
-numbered_text error = joined (codes ", error " ∷ decimal error ∷ error_words error ∷ [])
+numbered_text error = join_pieces (codes ", error " ∷ decimal error ∷ error_words error ∷ [])
 
 -- the error, if it has a number
 abbrev pub error_text : Option ℕ → List ℕ
@@ -75,8 +75,8 @@ error_text (Some error) = numbered_text error
 
 -- the channel, and that the system gives no socket at its own address
 unfoldable pub unbound_front : Side → ℕ → List ℕ → List ℕ
-unbound_front side channel address = joined (place_text side channel true address ∷ codes ": no socket there" ∷ [])
+unbound_front side channel address = join_pieces (place_text side channel true address ∷ codes ": no socket there" ∷ [])
 
 -- the line of a channel without a socket, with the system's error, if it has a number
 unfoldable pub unbound_text : Side → ℕ → List ℕ → Option ℕ → List ℕ
-unbound_text side channel address error = joined (unbound_front side channel address ∷ error_text error ∷ codes "\n" ∷ [])
+unbound_text side channel address error = join_pieces (unbound_front side channel address ∷ error_text error ∷ codes "\n" ∷ [])

@@ -8,16 +8,16 @@ ghost use Rattle.std.specs.List.{flat_map};
 ghost use Rattle.octets.specs.declared.limits.TheConstants.{CHANNELS_MAX};
 ghost use Rattle.rasta_run.specs.Counting as counting;
 ghost use Rattle.rasta_run.specs.Counts as counts;
-ghost use Rattle.rasta_run.specs.Silence.{hears_at, unheard};
+ghost use Rattle.rasta_run.specs.Silence.{hears_at, new_listening};
 
-use crate::logging::Listening;
+use crate::logging::ChannelSilence;
 use crate::metrics::Sample;
-use crate::{ChannelCounts, Counted};
+use crate::{ChannelCounts, RunCounts};
 use end_settings::Side;
 use octets::Milliseconds;
 use octets::limits::CHANNELS_MAX;
 use pdu_text::{side_name, write_text};
-use rasta_words::{CountsForm, Telling};
+use rasta_words::{CountsForm, CountsRequest};
 use stack_end::ReceptionCounts;
 use std::io;
 use std::io::Write;
@@ -39,18 +39,24 @@ pub struct Teller {
     /// T_max of the end, in milliseconds.
     t_max: u64,
     /// The form and the time between two times; `None` if nothing is printed.
-    telling: Option<Telling>,
+    telling: Option<CountsRequest>,
     /// When counts are printed next before the end, in milliseconds.
     pub next: Option<u64>,
     /// When each channel last received something.
-    heard: [Listening; CHANNELS_MAX],
+    heard: [ChannelSilence; CHANNELS_MAX],
     /// The number of channels.
     count: usize,
 }
 
 impl Teller {
     /// Returns the printer of counts for an end that is opened now.
-    pub fn new(side: Side, t_max: u64, telling: Option<Telling>, count: usize, now: u64) -> Self
+    pub fn new(
+        side: Side,
+        t_max: u64,
+        telling: Option<CountsRequest>,
+        count: usize,
+        now: u64,
+    ) -> Self
         // A new printer is of this end, has this form and number of channels, and prints next after the seconds of
         // the form. Nothing has come on any channel.
         ensures { result ≡ record {
@@ -58,11 +64,11 @@ impl Teller {
           t_max = t_max;
           telling = telling;
           next = counts.next_after telling now;
-          heard = unheard 0 ∷ unheard 0 ∷ unheard 0 ∷ unheard 0 ∷ [];
+          heard = new_listening 0 ∷ new_listening 0 ∷ new_listening 0 ∷ new_listening 0 ∷ [];
           count = count;
         } }
     {
-        let unheard = Listening {
+        let unheard = ChannelSilence {
             came: 0,
             at: 0,
             silent: false,
@@ -86,12 +92,12 @@ impl Teller {
     }
 
     /// Records which channels received something, and returns whether the counts are due.
-    pub fn look(&mut self, counted: &Counted, now: Milliseconds) -> bool
+    pub fn look(&mut self, counted: &RunCounts, now: Milliseconds) -> bool
         // `look` returns true if and only if there is a next time and it is reached.
         ensures due { result ≡ counts.is_due self.old.next now }
         // `look` records of each channel whether it received something since the last look. Counts that are due are
         // printed next after the seconds of the form.
-        ensures looked { self.new ≡ counts.looked_at self.old counted.now now }
+        ensures looked { self.new ≡ counts.look_at self.old counted.now now }
     {
         let is_due = is_due(self.next, now);
         self.next = next_by(is_due, self.telling, self.next, now);
@@ -103,7 +109,7 @@ impl Teller {
     }
 
     /// Records whether the channel at a place, from 0, received something, if the end has it.
-    fn look_at(&mut self, counted: &Counted, now: Milliseconds, place: usize)
+    fn look_at(&mut self, counted: &RunCounts, now: Milliseconds, place: usize)
         requires { place < CHANNELS_MAX }
         // `look_at` records whether this channel has received something, and looks at no other.
         ensures { self.new ≡ record self.old {
@@ -123,7 +129,7 @@ impl Teller {
     /// - The error of the writer; what it wrote before stays written.
     pub fn tell<E: Write>(
         &self,
-        counted: &Counted,
+        counted: &RunCounts,
         now: Milliseconds,
         err: &mut E,
     ) -> io::Result<()>
@@ -161,7 +167,7 @@ impl Teller {
     }
 
     /// Returns what is counted of the end at a time of the run, for that block.
-    pub fn sample(&self, counted: &Counted, at: Milliseconds) -> Sample
+    pub fn sample(&self, counted: &RunCounts, at: Milliseconds) -> Sample
         // `sample` returns what is counted, with the end, its number of channels, its T_max and the time.
         ensures { result ≡ record { side = self.now.side; count = self.now.count; t_max = self.now.t_max; at = at; counted = counted.now } }
     {
@@ -180,7 +186,7 @@ impl Teller {
         &self,
         writer: &mut W,
         form: LineForm,
-        counted: &Counted,
+        counted: &RunCounts,
         now: Milliseconds,
     ) -> io::Result<()>
         // If `write` succeeds, it has appended a line for each channel in order, and one for the connection.
@@ -200,7 +206,7 @@ impl Teller {
         &self,
         writer: &mut W,
         form: LineForm,
-        counted: &Counted,
+        counted: &RunCounts,
         now: Milliseconds,
         place: usize,
     ) -> io::Result<()>
@@ -231,7 +237,7 @@ impl Teller {
 }
 
 /// Returns when counts are printed next, in milliseconds.
-fn next_after(telling: Option<Telling>, now: u64) -> Option<u64>
+fn next_after(telling: Option<CountsRequest>, now: u64) -> Option<u64>
     // `next_after` returns the time after the seconds of the form, if there is a form that has some.
     ensures { result ≡ counts.next_after telling now }
 {
@@ -253,7 +259,7 @@ fn next_every(every: Option<u32>, now: u64) -> Option<u64>
 }
 
 /// Returns when counts are printed next, after a look.
-fn next_by(is_due: bool, telling: Option<Telling>, next: Option<u64>, now: u64) -> Option<u64>
+fn next_by(is_due: bool, telling: Option<CountsRequest>, next: Option<u64>, now: u64) -> Option<u64>
     // `next_by` returns a new time if counts are due, and else the time so far.
     ensures { result ≡ counts.next_by is_due telling next now }
 {
@@ -354,7 +360,7 @@ pub fn write_connection<W: Write>(
     form: LineForm,
     at: u64,
     side: Side,
-    counted: &Counted,
+    counted: &RunCounts,
     t_max: u64,
 ) -> io::Result<()>
     // If `write_connection` succeeds, it has appended the line of the connection with its PDUs made and received,
@@ -380,7 +386,7 @@ fn write_pdus<W: Write>(
     writer: &mut W,
     form: LineForm,
     at: u64,
-    counted: &Counted,
+    counted: &RunCounts,
 ) -> io::Result<()>
     // If `write_pdus` succeeds, it has appended the time, the PDUs made, accepted and dropped, and the confirmed units.
     ensures { OnOk result (Appends (W.contents writer.old) (W.contents writer.new)

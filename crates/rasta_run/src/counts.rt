@@ -23,7 +23,7 @@ pub struct ChannelCounts {
 
 /// All that is counted of an end since the start of a run.
 #[derive(Clone, Copy, Debug, PartialEq, Eq)]
-pub struct Counted {
+pub struct RunCounts {
     /// What the end itself counted, summed over its openings.
     pub sums: Statistics,
     /// What is counted of each channel beside, the first one first.
@@ -38,12 +38,12 @@ pub struct Counted {
     pub taken: u64,
 }
 
-impl Counted {
+impl RunCounts {
     /// Returns how many PDUs the safety machine did not drop.
     pub fn accepted(&self) -> u64
         // `accepted` returns the sum of the PDUs taken, those that revealed a gap, and those that ended a
         // connection or came after its end.
-        ensures { result ≡ counting.accepted self.now }
+        ensures { result ≡ counting.accepted_count self.now }
     {
         let parts = &self.sums.parts;
         parts
@@ -55,7 +55,7 @@ impl Counted {
     /// Returns how many PDUs the safety machine dropped.
     pub fn dropped(&self) -> u64
         // `dropped` returns the sum over the seven causes.
-        ensures { result ≡ counting.dropped self.now }
+        ensures { result ≡ counting.dropped_count self.now }
     {
         let parts = &self.sums.parts;
         parts

@@ -4,56 +4,56 @@ ghost use Rattle.std.specs.Prelude.{◌≡◌};
 ghost use Rattle.rasta_run.specs.Telling as telling;
 
 use pdi_session::Phase;
-use pdu_text::{Cause, Departure, Happening};
+use pdu_text::{Cause, Departure, EndEvent};
 use red_layer::RedEvent;
 use safe_machine::ConnectionState;
 use safe_pdu::Leaving;
 use stack_end::Leaver;
 
 /// Returns the cause of a drop, if the event is one.
-pub fn dropped_cause(happening: Happening) -> Option<Cause>
+pub fn dropped_cause(happening: EndEvent) -> Option<Cause>
     // `dropped_cause` returns the cause of a dropped datagram, and `None` for any other event.
     ensures { result ≡ telling.dropped_cause happening }
 {
     match happening {
-        Happening::Dropped(_, cause) => Some(cause),
+        EndEvent::Dropped(_, cause) => Some(cause),
         _ => None,
     }
 }
 
 /// Returns whether an event is one of an opening that gets no session.
-pub fn is_of_opening(happening: Happening) -> bool
+pub fn is_of_opening(happening: EndEvent) -> bool
     // `is_of_opening` is true for a state, a phase, an opening and a departure.
     ensures { result ≡ telling.is_of_opening happening }
 {
     match happening {
-        Happening::State(_)
-        | Happening::Phase(_)
-        | Happening::Anew(_)
-        | Happening::Left(_)
-        | Happening::PeerLeft(_) => true,
+        EndEvent::State(_)
+        | EndEvent::Phase(_)
+        | EndEvent::Anew(_)
+        | EndEvent::Left(_)
+        | EndEvent::PeerLeft(_) => true,
         _ => false,
     }
 }
 
 /// Returns whether an event is that the end disconnects for a fault of the session.
-pub fn is_session_fault(event: Happening) -> bool
+pub fn is_session_fault(event: EndEvent) -> bool
     // `is_session_fault` is true for a departure of the end itself with reason 4, and false for any other event.
     ensures { result ≡ telling.is_session_fault event }
 {
     match event {
-        Happening::Left(leaving) => leaving.reason == 4,
+        EndEvent::Left(leaving) => leaving.reason == 4,
         _ => false,
     }
 }
 
 /// Returns whether openings are only counted after an event.
-pub fn quiet_after(happening: Happening, is_quiet: bool) -> bool
+pub fn quiet_after(happening: EndEvent, is_quiet: bool) -> bool
     // `quiet_after` returns false if the session is established, and else what was before.
     ensures { result ≡ telling.quiet_after happening is_quiet }
 {
     match happening {
-        Happening::Phase(phase) => is_quiet && phase != Phase::Established,
+        EndEvent::Phase(phase) => is_quiet && phase != Phase::Established,
         _ => is_quiet,
     }
 }
@@ -81,16 +81,16 @@ pub fn drops_after(is_new: bool, cause: Cause, drops: u64) -> u64
 }
 
 /// Returns the event that explains another one: that of a closed connection, by how the end came to be closed.
-pub fn explanation_of(happening: Happening, departure: Option<Departure>) -> Option<Happening>
+pub fn explanation_of(happening: EndEvent, departure: Option<Departure>) -> Option<EndEvent>
     // `explanation_of` returns who disconnects for a connection that is closed, and `None` for any other event.
-    ensures { result ≡ telling.explained happening departure }
+    ensures { result ≡ telling.explain happening departure }
 {
     match (happening, departure) {
-        (Happening::State(ConnectionState::Closed), Some(Departure::Own(leaving))) => {
-            Some(Happening::Left(leaving))
+        (EndEvent::State(ConnectionState::Closed), Some(Departure::Own(leaving))) => {
+            Some(EndEvent::Left(leaving))
         }
-        (Happening::State(ConnectionState::Closed), Some(Departure::Peer(leaving))) => {
-            Some(Happening::PeerLeft(leaving))
+        (EndEvent::State(ConnectionState::Closed), Some(Departure::Peer(leaving))) => {
+            Some(EndEvent::PeerLeft(leaving))
         }
         _ => None,
     }

@@ -20,7 +20,7 @@ pub enum Call {
 
 /// Whether the calls of one kind fail on a channel.
 #[derive(Clone, Copy, Debug, PartialEq, Eq)]
-pub struct Failing {
+pub struct CallFailures {
     /// How many calls had succeeded when one was last found failed; `None` if each turn makes one.
     pub done: Option<u64>,
     /// How many calls had failed then.
@@ -33,13 +33,13 @@ pub struct Failing {
     pub is_failing: bool,
 }
 
-impl Failing {
+impl CallFailures {
     /// Returns that no call was made and none has failed.
     pub fn none(now: Milliseconds) -> Self
         // In `none` no call has succeeded or failed.
-        ensures { result ≡ failing.untried now }
+        ensures { result ≡ failing.new_failing now }
     {
-        Failing {
+        CallFailures {
             done: None,
             failed: 0,
             at: now,
@@ -61,14 +61,14 @@ impl Failing {
     ) -> Option<Notice>
         // After `look` the calls are failing if one more has failed. They no longer are once one was tried and none
         // has failed for longer than T_max.
-        ensures seen { self.new ≡ failing.seen self.old done failed.count now t_max }
+        ensures seen { self.new ≡ failing.look_at_calls self.old done failed.count now t_max }
         // `look` returns the notice of calls that begin to fail, with the system's number for the last failure, or
         // that succeed again, with the number of those that failed.
         ensures notice { result ≡ failing.notice_of self.old self.new call channel failed.last }
     {
         let was_failing = self.is_failing;
         if failed.count != self.failed {
-            *self = Failing {
+            *self = CallFailures {
                 done,
                 failed: failed.count,
                 at: now,

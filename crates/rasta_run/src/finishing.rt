@@ -8,7 +8,7 @@ ghost use Rattle.rasta_run.specs.Concluding.{ending_of};
 ghost use Rattle.rasta_run.specs.Counting.{counted_of};
 ghost use Rattle.rasta_run.specs.Counts as counts;
 ghost use Rattle.rasta_run.specs.Stamping.{Logs, LogsNotice};
-ghost use Rattle.rasta_run.specs.Standing.{meets};
+ghost use Rattle.rasta_run.specs.Standing.{is_expected};
 ghost use Rattle.rasta_run.specs.Undone as undone;
 ghost use Rattle.rasta_run.specs.Waiting.{IsDeadlineOf, again_at};
 ghost use Rattle.rasta_run.specs.declared.noticing.Notice.TheVariants as notice;
@@ -27,7 +27,7 @@ use crate::undone::Undone;
 use crate::waiting::{again_at, earlier};
 use channels::Channels;
 use octets::Milliseconds;
-use pdu_text::{Ending, Standing, write_report};
+use pdu_text::{EndReport, FinalState, write_report};
 use rasta_words::{Expected, Fault};
 use std::alloc::Allocator;
 use std::io;
@@ -39,7 +39,7 @@ impl<C: Channels, A: Allocator + Copy> Actor<'_, C, A> {
     pub fn stands_as(&self, expected: Option<Expected>, left: Undone) -> bool
         // `stands_as` is true if no state is expected; for `Up` if the session is established; for `Settled` if also
         // everything put is confirmed and nothing is left undone.
-        ensures meets { result ≡ meets expected (inside self.now.end).upper.session.phase (is_settled (inside self.now.end))
+        ensures meets { result ≡ is_expected expected (inside self.now.end).upper.session.phase (is_settled (inside self.now.end))
             (undone.is_nothing left) }
         // If no state is expected, `stands_as` returns true.
         ensures none { expected ≡ None → result ≡ true }
@@ -108,7 +108,7 @@ impl<C: Channels, A: Allocator + Copy> Actor<'_, C, A> {
             (channels_of self.now.end).recorder.value.last_cause))) (E.contents err.old) (E.contents err.new)) }
     {
         let counted = self.counted();
-        let ending = Ending {
+        let ending = FinalState {
             state: self.end.state(),
             phase: self.end.phase(),
             departure: self.log.departure(&self.end),
@@ -147,7 +147,7 @@ impl<C: Channels, A: Allocator + Copy> Actor<'_, C, A> {
               taken = self.now.taken;
             })))) }
     {
-        let standing = Standing {
+        let standing = EndReport {
             state: self.end.state(),
             phase: self.end.phase(),
             put: self.put,
@@ -195,7 +195,7 @@ impl<C: Channels, A: Allocator + Copy> Actor<'_, C, A> {
         // `tell_due` records which channels received something, if counts are printed, and when they are printed
         // next; it changes nothing else.
         ensures kept { self.new ≡ record self.old {
-          teller = counts.looked self.old.teller (counted_of self.old.earlier.sums
+          teller = counts.look self.old.teller (counted_of self.old.earlier.sums
               (statistics_of self.old.end) (channels_of self.old.end).recorder.value self.old.failures self.old.put self.old.taken) now;
         } }
     {

@@ -5,7 +5,7 @@ ghost use Rattle.std.specs.Option.{option_copied};
 ghost use Rattle.pdu_text.specs.HexText.{initial_value_of};
 ghost use Rattle.rasta_run.specs.Following.{asked_under, end_of, form_of};
 
-use capture_text::{Asked, FollowStatus, OutputForm};
+use capture_text::{FollowOptions, FollowStatus, OutputForm};
 use pdu_text::initial_value;
 use rasta_words::{Fault, FollowRequest, Status, report};
 use safe_pdu::CodeRule;
@@ -40,12 +40,12 @@ pub fn run_follow<R: Read + Drop, O: Write, E: Write>(
 
 /// Returns the choices of `follow` in the form that `capture_text` expects; `None` if the initial value is not 32
 /// hex digits.
-fn ask_for(following: &FollowRequest<'_>) -> Option<Asked>
+fn ask_for(following: &FollowRequest<'_>) -> Option<FollowOptions>
     // `ask_for` passes each choice on, with the words of the initial value, and returns `None` if there are none.
     ensures { result ≡ asked_under following.now (initial_value_of (option_copied following.now.iv)) }
 {
     let initial_value = initial_value(following.iv)?;
-    Some(Asked {
+    Some(FollowOptions {
         rule: CodeRule {
             length: following.code,
             initial_value,

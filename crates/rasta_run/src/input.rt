@@ -4,7 +4,7 @@
 
 ghost use Rattle.std.specs.Prelude.{◌≡◌, ◌⊎◌, ◌≤◌, ◌<◌, ◌++◌, [], Bool, List, ℕ, None, Some, false, true, is_some, length, nat_eq, nat_lt, IfErr, IfOk, OnErr, OnOk, IfSome};
 ghost use Rattle.std.specs.Io.KnownBytes.{Appends, Consumes, IsAtEnd};
-ghost use Rattle.rasta_run.specs.Feeding.{Reads, ReadsLine, ahead_most, cut_after, feed_place, input_of, is_done, is_open, is_wanted, IsNumbered, left_behind, line_read, line_seen, lines_left, next_line, none_text, one_more, unfed_line, unput};
+ghost use Rattle.rasta_run.specs.Feeding.{Reads, ReadsLine, ahead_most, cut_after, feed_place, input_of, is_done, is_open, is_wanted, IsNumbered, left_behind, line_read, line_seen, lines_left, next_line, none_text, one_more, unfed_line, unput_count};
 
 use crate::readiness::{Gate, Readiness, Stream};
 use octets::Milliseconds;
@@ -198,7 +198,7 @@ impl<I: Read + Drop> Feed<I> {
     /// Returns how many lines were not put: those that are not telegrams, and those that are left.
     pub fn unput(&self) -> u64
         // `unput` adds the lines that are not telegrams, the one that is next, and those that are left.
-        ensures { result ≡ unput (input_of self.now) }
+        ensures { result ≡ unput_count (input_of self.now) }
     {
         let next = match self.next {
             None => 0,

@@ -60,7 +60,7 @@ impl Keeper {
     ) -> Option<u64>
         // `look` records since when the end is stale, and whether it has got a session, which ends a row of openings
         // without one.
-        ensures seen { self.new ≡ keeping.seen is_stale is_up now self.old }
+        ensures seen { self.new ≡ keeping.see_end is_stale is_up now self.old }
         // `look` returns the wait until the end is opened again, if it is stale.
         ensures until { result ≡ keeping.until_anew side self.new now }
     {
@@ -95,7 +95,7 @@ impl Keeper {
     pub fn note(&mut self, now: Milliseconds)
         // `note` sets the time of the opening, forgets when the end was found stale, and counts the opening before if
         // that got no session.
-        ensures { self.new ≡ keeping.reopened now self.old }
+        ensures { self.new ≡ keeping.reopen_keeper now self.old }
     {
         self.opened = now;
         self.left = None;

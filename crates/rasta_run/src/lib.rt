@@ -46,13 +46,13 @@ mod waiting;
 
 pub use beside::run_beside;
 pub use check::run_check;
-pub use counts::{ChannelCounts, Counted};
+pub use counts::{ChannelCounts, RunCounts};
 pub use follow::run_follow;
 pub use header::{Header, header_of};
 pub use net::{Run, run_net};
 pub use program::{run, run_words};
 pub use recorded_channels::RecordedChannels;
-pub use recorder::{Recorder, Wanted};
+pub use recorder::{ExpectedHeader, Recorder};
 pub use scripts::run_sim;
 pub use settings::{SETTINGS_MAX, refuse_long};
 pub use show::{run_md4, run_show};

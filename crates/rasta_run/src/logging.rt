@@ -6,7 +6,7 @@
 ghost use Rattle.std.specs.Prelude.{◌≡◌, ◌+◌, ◌<◌, ◌&&◌, ◌||◌, not, Bool, None, Some, false, nat_le, slice_index_or, slice_set, true, OnOk, if◌then◌else◌};
 ghost use Rattle.octets.specs.declared.limits.TheConstants.{CHANNELS_MAX};
 ghost use Rattle.std.specs.Io.KnownBytes.{Appends};
-ghost use Rattle.rasta_run.specs.Silence.{heard_now, hears, hears_all, hears_at, said_of, unheard};
+ghost use Rattle.rasta_run.specs.Silence.{heard_now, look_at_channel, hears_all, hears_at, said_of, new_listening};
 ghost use Rattle.rasta_run.specs.Stamping.{Logs, LogsChange, LogsEvent, LogsNotice};
 ghost use Rattle.pdu_text.specs.Endings.{ending_text};
 ghost use Rattle.pdu_text.specs.LogLines.{channel_text, missed_text};
@@ -22,22 +22,22 @@ use crate::events::{
     departure_told, dropped_cause, drops_after, explanation_of, is_of_opening, is_repeat,
     is_session_fault, quiet_after,
 };
-use crate::failing::{Call, Failing};
+use crate::failing::{Call, CallFailures};
 use crate::header::body_of;
 use crate::noticing::{
     Notice, are_drops_due, asked_by, drops_notice, is_wrong_request, request_notice, write_notice,
     wrong_request_notice,
 };
 use crate::stamping::{write_stamped, zero_of};
-use crate::{Counted, Recorder};
+use crate::{Recorder, RunCounts};
 use arrayvec::ArrayVec;
 use channels::Channels;
 use end_settings::{EndConfig, Side};
 use octets::Milliseconds;
 use octets::limits::CHANNELS_MAX;
 use pdu_text::{
-    Cause, Departure, Ending, Happening, show_body, write_channel, write_ending, write_happening,
-    write_missed, write_text,
+    Cause, Departure, EndEvent, FinalState, show_body, write_channel, write_ending,
+    write_happening, write_missed, write_text,
 };
 use rasta_words::{LogLevel, LogTime};
 use safe_machine::ConnectionState;
@@ -58,7 +58,7 @@ const CAUSES_MAX: usize = 16;
 
 /// When a channel last received something.
 #[derive(Clone, Copy, Debug, PartialEq, Eq)]
-pub struct Listening {
+pub struct ChannelSilence {
     /// How many datagrams it had received then.
     pub came: u64,
     /// When it received the last one, in milliseconds.
@@ -69,7 +69,7 @@ pub struct Listening {
 
 /// The change of a channel that is logged.
 #[derive(Clone, Copy, Debug, PartialEq, Eq)]
-pub enum Said {
+pub enum SilenceChange {
     /// None.
     Nothing,
     /// It became silent.
@@ -78,19 +78,19 @@ pub enum Said {
     Heard,
 }
 
-impl Listening {
+impl ChannelSilence {
     /// Compares the number of datagrams received so far, and returns the change to be logged.
-    pub fn look(&mut self, came: u64, now: Milliseconds, t_max: Milliseconds) -> Said
+    pub fn look(&mut self, came: u64, now: Milliseconds, t_max: Milliseconds) -> SilenceChange
         // After `look` a channel with a new datagram is not silent, and one without any for longer than T_max is
         // silent.
-        ensures left { self.new ≡ hears self.old came now t_max }
+        ensures left { self.new ≡ look_at_channel self.old came now t_max }
         // `look` returns `Silent` if the channel has become silent, `Heard` if it no longer is, and else
         // `Nothing`.
         ensures said { result ≡ said_of self.old self.new }
     {
         let was_silent = self.silent;
         if came != self.came {
-            *self = Listening {
+            *self = ChannelSilence {
                 came,
                 at: now,
                 silent: false,
@@ -99,9 +99,9 @@ impl Listening {
             self.silent = true;
         }
         match (was_silent, self.silent) {
-            (false, true) => Said::Silent,
-            (true, false) => Said::Heard,
-            _ => Said::Nothing,
+            (false, true) => SilenceChange::Silent,
+            (true, false) => SilenceChange::Heard,
+            _ => SilenceChange::Nothing,
         }
     }
 }
@@ -122,7 +122,7 @@ pub struct Log {
     /// The number of events that were logged.
     told: u64,
     /// When each channel last received something.
-    channels: [Listening; CHANNELS_MAX],
+    channels: [ChannelSilence; CHANNELS_MAX],
     /// The number of channels.
     count: usize,
     /// The causes for which a datagram was dropped so far, as many as have room.
@@ -136,9 +136,9 @@ pub struct Log {
     /// When that was, in milliseconds.
     drops_at: Milliseconds,
     /// Whether the sends of each channel fail.
-    sends: [Failing; CHANNELS_MAX],
+    sends: [CallFailures; CHANNELS_MAX],
     /// Whether the receptions of each channel fail.
-    receptions: [Failing; CHANNELS_MAX],
+    receptions: [CallFailures; CHANNELS_MAX],
     /// Since when a retransmission is awaited, in milliseconds, if one is.
     asked: Option<u64>,
     /// Whether it was logged that a connection request came at an interlocking.
@@ -162,7 +162,7 @@ impl Log {
             × (result.drops ≡ 0) × (result.drops_at ≡ now) × (result.asked ≡ None)
             × (result.has_request ≡ false) × (result.code ≡ settings.now.config.code) }
     {
-        let unheard = Listening {
+        let unheard = ChannelSilence {
             came: 0,
             at: now,
             silent: false,
@@ -181,8 +181,8 @@ impl Log {
             is_quiet: false,
             drops: 0,
             drops_at: now,
-            sends: [Failing::none(now); CHANNELS_MAX],
-            receptions: [Failing::none(now); CHANNELS_MAX],
+            sends: [CallFailures::none(now); CHANNELS_MAX],
+            receptions: [CallFailures::none(now); CHANNELS_MAX],
             asked: None,
             has_request: false,
             code: settings.config.code as usize,
@@ -278,7 +278,7 @@ impl Log {
     /// follow, and what these settings expect in them.
     fn tell_explained<E: Write>(
         &mut self,
-        happening: Happening,
+        happening: EndEvent,
         departure: Option<Departure>,
         last: &[u8],
         config: &EndConfig,
@@ -308,7 +308,7 @@ impl Log {
     /// - The error of the writer; what it wrote before stays written.
     fn show_data<E: Write>(
         &self,
-        event: Happening,
+        event: EndEvent,
         last: &[u8],
         config: &EndConfig,
         err: &mut E,
@@ -333,7 +333,7 @@ impl Log {
     /// - The error of the writer; what it wrote before stays written.
     pub fn tell<E: Write>(
         &mut self,
-        happening: Happening,
+        happening: EndEvent,
         now: Milliseconds,
         err: &mut E,
     ) -> io::Result<()>
@@ -359,12 +359,7 @@ impl Log {
 
     /// Writes the line of an event.
     #[inline(never)]
-    fn write<E: Write>(
-        &self,
-        happening: Happening,
-        now: Milliseconds,
-        err: &mut E,
-    ) -> io::Result<()>
+    fn write<E: Write>(&self, happening: EndEvent, now: Milliseconds, err: &mut E) -> io::Result<()>
         // If `write` succeeds, it has appended the line of the event, with the time that the log has.
         ensures { OnOk result (LogsEvent true self.now now happening (E.contents err.old) (E.contents err.new)) }
     {
@@ -396,7 +391,7 @@ impl Log {
     }
 
     /// Returns whether an event is logged, and records its cause.
-    fn tells(&mut self, happening: Happening) -> bool
+    fn tells(&mut self, happening: EndEvent) -> bool
         // `tells` returns whether the level includes the event; at the level of states a drop is included only if its
         // cause is `new`, and else it is counted, unless it is a copy.
         ensures told { (new : Bool) × (result ≡ telling.is_told self.old.level self.new.is_quiet new happening)
@@ -531,8 +526,8 @@ impl Log {
         // `look_at` compares the count of this channel with the one before, and of no other.
         ensures channels { self.new.channels ≡ hears_at sums.now.channels self.old.count now self.old.t_max place self.old.channels }
         // If `look_at` succeeds, it has appended the line of the channel's change, or nothing.
-        ensures told { OnOk result (LogsChange (if nat_le self.old.count place then Said.Nothing
-            else said_of (slice_index_or self.old.channels place (unheard 0)) (heard_now self.old.channels sums.now.channels place now self.old.t_max))
+        ensures told { OnOk result (LogsChange (if nat_le self.old.count place then SilenceChange.Nothing
+            else said_of (slice_index_or self.old.channels place (new_listening 0)) (heard_now self.old.channels sums.now.channels place now self.old.t_max))
             (place + 1) self.new now (E.contents err.old) (E.contents err.new)) }
         // `look_at` changes neither the level, nor the events that are logged, nor the number of channels.
         ensures kept { (self.new.side ≡ self.old.side) × (self.new.level ≡ self.old.level) × (self.new.told ≡ self.old.told)
@@ -549,7 +544,7 @@ impl Log {
     /// Logs the change of a channel, numbered from 1.
     fn tell_change<E: Write>(
         &self,
-        said: Said,
+        said: SilenceChange,
         channel: usize,
         now: Milliseconds,
         err: &mut E,
@@ -562,14 +557,14 @@ impl Log {
             return write_text(err, "");
         }
         match said {
-            Said::Nothing => write_text(err, ""),
-            Said::Silent => self.write(Happening::Silent(channel), now, err),
-            Said::Heard => self.write(Happening::Heard(channel), now, err),
+            SilenceChange::Nothing => write_text(err, ""),
+            SilenceChange::Silent => self.write(EndEvent::Silent(channel), now, err),
+            SilenceChange::Heard => self.write(EndEvent::Heard(channel), now, err),
         }
     }
 
     /// Logs the channels on which sends or receptions begin to fail, and those on which they succeed again.
-    pub fn look_at_calls<E: Write>(&mut self, counted: &Counted, now: Milliseconds, err: &mut E)
+    pub fn look_at_calls<E: Write>(&mut self, counted: &RunCounts, now: Milliseconds, err: &mut E)
         // `look_at_calls` compares the calls of each channel of the end with those before; it changes nothing else.
         ensures { self.new ≡ record self.old {
           sends = all_seen Call.Send counted.now self.old.count now self.old.t_max self.old.sends;
@@ -593,7 +588,7 @@ impl Log {
     /// - The error of the writer; what it wrote before stays written.
     fn look_at_sends<E: Write>(
         &mut self,
-        counted: &Counted,
+        counted: &RunCounts,
         now: Milliseconds,
         place: usize,
         err: &mut E,
@@ -624,7 +619,7 @@ impl Log {
     /// - The error of the writer; what it wrote before stays written.
     fn look_at_receptions<E: Write>(
         &mut self,
-        counted: &Counted,
+        counted: &RunCounts,
         now: Milliseconds,
         place: usize,
         err: &mut E,
@@ -738,7 +733,12 @@ impl Log {
     ///
     /// - The error of the writer; what it wrote before stays written.
     #[inline(never)]
-    pub fn end<E: Write>(&self, ending: &Ending, now: Milliseconds, err: &mut E) -> io::Result<()>
+    pub fn end<E: Write>(
+        &self,
+        ending: &FinalState,
+        now: Milliseconds,
+        err: &mut E,
+    ) -> io::Result<()>
         // If `end` succeeds, it has appended the line of the ending, with the time that the log has.
         ensures { OnOk result (Logs self.now now (log_line now self.now.side (ending_text ending.now)) (E.contents err.old) (E.contents err.new)) }
     {

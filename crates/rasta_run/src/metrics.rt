@@ -9,7 +9,7 @@ ghost use Rattle.octets.specs.declared.limits.TheConstants.{CHANNELS_MAX};
 ghost use Rattle.rasta_run.specs.Metrics as metrics;
 
 use crate::counting::margin_of;
-use crate::{ChannelCounts, Counted};
+use crate::{ChannelCounts, RunCounts};
 use end_settings::Side;
 use octets::Milliseconds;
 use octets::limits::CHANNELS_MAX;
@@ -31,7 +31,7 @@ pub struct Sample {
     /// The time of the run, in milliseconds.
     pub at: Milliseconds,
     /// All that is counted.
-    pub counted: Counted,
+    pub counted: RunCounts,
 }
 
 /// What is counted of one or two ends.

@@ -18,18 +18,18 @@ use crate::counting::Teller;
 use crate::drawing::{Draw, Random, first_number};
 use crate::keeping::Keeper;
 use crate::logging::Log;
-use crate::recorder::Wanted;
-use crate::running::Running;
+use crate::recorder::ExpectedHeader;
+use crate::running::Runner;
 use crate::settings::{NoAddress, read_ends, warn};
 use crate::streams::Streams;
 use crate::ticking::RunClock;
 use crate::turns::Actor;
 use crate::undone::{Outcome, run_status};
-use crate::unopened::{Stopped, Unopened, fault_of, fault_of_end};
+use crate::unopened::{StopCause, Unopened, fault_of, fault_of_end};
 use end_settings::Side;
 use octets::Milliseconds;
-use rasta_words::{Expected, Fault, LogLevel, LogTime, RunLength, Status, Telling, report};
-use settings_file::{Ends, Settings, Word};
+use rasta_words::{CountsRequest, Expected, Fault, LogLevel, LogTime, RunLength, Status, report};
+use settings_file::{Ends, Settings, Subcommand};
 use stack_end::End;
 use std::alloc::Global;
 use std::io::{Input, Write};
@@ -42,7 +42,7 @@ use udp_channels::{UdpChannels, Watch, open_udp};
 #[derive(Clone, Copy, Debug, PartialEq, Eq)]
 pub struct Run {
     /// The ends that run.
-    pub word: Word,
+    pub word: Subcommand,
     /// How long they run.
     pub length: RunLength,
     /// The level of the log.
@@ -54,7 +54,7 @@ pub struct Run {
     /// Whether an end that has lost its connection is opened again.
     pub keep: bool,
     /// The form and times of counts on standard error, if they are printed.
-    pub counts: Option<Telling>,
+    pub counts: Option<CountsRequest>,
 }
 
 /// Runs `il`, `fe` or `pair` for its turns, or until standard input ends, over the sockets that the text of a
@@ -157,7 +157,7 @@ fn run_ends<R: Net + Clock + Input + Files, O: Write, E: Write>(
     ends: &Ends,
     run: &Run,
     streams: &mut Streams<O, E>,
-) -> Result<Outcome, Stopped>
+) -> Result<Outcome, StopCause>
     // If no state is expected, each end was in it when `run_ends` succeeds.
     ensures { run.now.expected ≡ None → IfOk result (λ outcome. outcome.is_met ≡ true) }
 {
@@ -170,7 +170,7 @@ fn run_ends<R: Net + Clock + Input + Files, O: Write, E: Write>(
 }
 
 /// Prints the fault that ended a run, followed by the channel that could not be opened, if that is why.
-fn stop<E: Write>(stopped: Stopped, ends: &Ends, file: &str, err: &mut E) -> Status
+fn stop<E: Write>(stopped: StopCause, ends: &Ends, file: &str, err: &mut E) -> Status
     // `stop` returns the status of the fault.
     ensures { result ≡ status_of (fault_of_stop stopped) }
 {
@@ -179,7 +179,7 @@ fn stop<E: Write>(stopped: Stopped, ends: &Ends, file: &str, err: &mut E) -> Sta
     if fault == Fault::Settings {
         let _ = writeln!(err, "{file}: {NoAddress}");
     }
-    if let Stopped::Unopened(unopened) = stopped {
+    if let StopCause::Unopened(unopened) = stopped {
         unopened.tell(ends, err);
     }
     status
@@ -195,7 +195,7 @@ fn run_sides<R: Net + Clock + Input + Files, O: Write, E: Write>(
     second: Option<&Settings>,
     run: &Run,
     streams: &mut Streams<O, E>,
-) -> Result<Outcome, Stopped>
+) -> Result<Outcome, StopCause>
     // If no state is expected, each end was in it when `run_sides` succeeds.
     ensures { run.now.expected ≡ None → IfOk result (λ outcome. outcome.is_met ≡ true) }
 {
@@ -204,7 +204,7 @@ fn run_sides<R: Net + Clock + Input + Files, O: Write, E: Write>(
     let now = clock.read(rt)?;
     let second = open_second(rt, alloc, &watch, second, run, now, &mut streams.err)?;
     let first = open_side(rt, alloc, &watch, side, first, run, now, &mut streams.err)?;
-    let mut running = Running {
+    let mut running = Runner {
         first,
         second,
         turns: 0,
@@ -250,7 +250,7 @@ fn open_second<'a, R: Net + Clock + Files, E: Write>(
     run: &Run,
     now: Milliseconds,
     err: &mut E,
-) -> Result<Option<Actor<'a, UdpChannels>>, Stopped>
+) -> Result<Option<Actor<'a, UdpChannels>>, StopCause>
     requires { now ≤ 2 ^ 62 }
     // If `open_second` succeeds, there is an end if and only if there are settings for it.
     ensures some { IfOk result (λ actor. is_some actor ≡ is_some second.entry) }
@@ -279,7 +279,7 @@ fn open_side<'a, R: Net + Clock + Files, E: Write>(
     run: &Run,
     now: Milliseconds,
     err: &mut E,
-) -> Result<Actor<'a, UdpChannels>, Stopped>
+) -> Result<Actor<'a, UdpChannels>, StopCause>
     requires { now ≤ 2 ^ 62 }
     // The time of the end that `open_side` returns is at most `now`.
     ensures time { IfOk result (λ actor. actor.end.time ≤ now) }
@@ -305,21 +305,21 @@ fn bound<R: Net>(
     side: Side,
     settings: &Settings,
     watch: &Watch,
-) -> Result<UdpChannels, Stopped> {
+) -> Result<UdpChannels, StopCause> {
     let local = settings.local.as_slice();
     let remote = settings.remote.as_slice();
     match open_udp(alloc, rt, local, remote) {
         Ok(channels) => watch_channels(channels, watch),
-        Err(fault) => Err(Stopped::Unopened(Unopened { side, fault })),
+        Err(fault) => Err(StopCause::Unopened(Unopened { side, fault })),
     }
 }
 
 /// Adds channels to the watch.
-fn watch_channels(channels: UdpChannels, watch: &Watch) -> Result<UdpChannels, Stopped> {
+fn watch_channels(channels: UdpChannels, watch: &Watch) -> Result<UdpChannels, StopCause> {
     let mut channels = channels;
     match watch.add(&mut channels) {
         Ok(()) => Ok(channels),
-        Err(_) => Err(Stopped::Fault(Fault::Network)),
+        Err(_) => Err(StopCause::Fault(Fault::Network)),
     }
 }
 
@@ -356,7 +356,7 @@ fn open_end<'a, D: Draw>(
 {
     let is_heard = run.log != LogLevel::Off || run.expected.is_some();
     let listens = is_heard || run.keep || run.counts.is_some();
-    let wanted = Wanted::of(&settings.config);
+    let wanted = ExpectedHeader::of(&settings.config);
     let keeper = Keeper::new(settings.config, now);
     let t_max = settings.config.t_max;
     let teller = Teller::new(side, t_max, run.counts, settings.local.len(), now);

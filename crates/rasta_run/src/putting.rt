@@ -16,7 +16,7 @@ use crate::undone::{Origin, write_refused};
 use channels::Channels;
 use octets::Milliseconds;
 use pdi_session::{InitFault, PutFault};
-use pdu_text::Happening;
+use pdu_text::EndEvent;
 use rasta_words::Fault;
 use settings_file::Put;
 use std::alloc::{Allocator, Global};
@@ -28,7 +28,7 @@ const LINES_MAX: usize = 256;
 
 /// What came of a telegram that was offered to an end.
 #[derive(Clone, Copy, Debug, PartialEq, Eq)]
-pub enum Offered {
+pub enum PutOutcome {
     /// It was put.
     Put,
     /// It was refused, and the application knows why.
@@ -220,7 +220,7 @@ impl<C: Channels, A: Allocator + Copy> Actor<'_, C, A> {
         now: Milliseconds,
         app: &mut T,
         err: &mut E,
-    ) -> Result<Offered, Fault>
+    ) -> Result<PutOutcome, Fault>
         requires now { now ≤ 2 ^ 62 }
         requires later { self.old.end.time ≤ now }
         // If `put_one` succeeds, the telegram was put and counted; or it was refused, and the application knows; or
@@ -235,13 +235,13 @@ impl<C: Channels, A: Allocator + Copy> Actor<'_, C, A> {
         match self.end.put(put.kind, put.payload.as_slice(), now) {
             Ok(()) => {
                 self.put = self.put.wrapping_add(1);
-                Ok(Offered::Put)
+                Ok(PutOutcome::Put)
             }
-            Err(PutFault::Full) => Ok(Offered::Full),
+            Err(PutFault::Full) => Ok(PutOutcome::Full),
             Err(fault) => {
                 self.log_refusal(put.kind, origin, fault, now, err);
                 app.refuse(fault.name())?;
-                Ok(Offered::Refused)
+                Ok(PutOutcome::Refused)
             }
         }
     }
@@ -258,7 +258,7 @@ impl<C: Channels, A: Allocator + Copy> Actor<'_, C, A> {
         // `log_refusal` changes nothing but the log.
         ensures { self.new ≡ record self.old { log = self.new.log } }
     {
-        let _ = self.log.tell(Happening::PutRefused(fault), now, err);
+        let _ = self.log.tell(EndEvent::PutRefused(fault), now, err);
         let _ = write_refused(err, origin, kind, fault.name());
     }
 
@@ -282,7 +282,7 @@ impl<C: Channels, A: Allocator + Copy> Actor<'_, C, A> {
         requires later { self.old.end.time ≤ now }
         // If `put_lines` succeeds and it is the time for lines, it has taken up to 256 of them in order, each once:
         // it has put the telegram, or it was refused and counted, or the line is not one and was counted. It stops
-        // before 256 only if no line is there, or if the end is `Full` for the next telegram, which stays.
+        // before 256 only if no line is there, or if the end is full for the next telegram, which stays.
         ensures puts { IfOk result (λ found. TakesInputIf (λ o. C.told o.inner) T.refuses now (is_some feed.old.ended)
             (takes_lines self.old.is_kept (inside self.old.end).upper.machine.connection (inside self.old.end).upper.session.phase
             (length self.old.left.now == 0))
@@ -413,7 +413,7 @@ impl<C: Channels, A: Allocator + Copy> Actor<'_, C, A> {
             Ok(()) | Err(InitFault::Full) => Ok(()),
             Err(InitFault::NotInitialising) => {
                 let fault = InitFault::NotInitialising;
-                let _ = self.log.tell(Happening::InitRefused(fault), now, err);
+                let _ = self.log.tell(EndEvent::InitRefused(fault), now, err);
                 app.refuse(fault.name())
             }
         }
@@ -421,23 +421,23 @@ impl<C: Channels, A: Allocator + Copy> Actor<'_, C, A> {
 }
 
 /// Returns whether the end has no room for a telegram that was offered.
-fn is_full(offered: Offered) -> bool
+fn is_full(offered: PutOutcome) -> bool
     // `is_full` is true for `Full`, and false for any other result.
     ensures { result ≡ is_full offered }
 {
     match offered {
-        Offered::Full => true,
-        Offered::Put | Offered::Refused => false,
+        PutOutcome::Full => true,
+        PutOutcome::Put | PutOutcome::Refused => false,
     }
 }
 
 /// Returns the number of telegrams refused after one more was offered.
-fn refusals_after(offered: Offered, count: u64) -> u64
+fn refusals_after(offered: PutOutcome, count: u64) -> u64
     // `refusals_after` returns one more for a telegram that was refused, and else the number so far.
     ensures { result ≡ refusals_after offered count }
 {
     match offered {
-        Offered::Refused => count.saturating_add(1),
-        Offered::Put | Offered::Full => count,
+        PutOutcome::Refused => count.saturating_add(1),
+        PutOutcome::Put | PutOutcome::Full => count,
     }
 }

@@ -6,7 +6,7 @@
 ghost use Rattle.std.specs.Prelude.{◌≡◌, ◌≤◌, true, length, is_ok, IfOk, IfSome};
 ghost use Rattle.channels.specs.Told.{Sends, after_receive};
 
-use crate::recorder::{Recorder, Wanted};
+use crate::recorder::{ExpectedHeader, Recorder};
 use channels::{ChannelFault, Channels, Note};
 use std::alloc::{AllocError, Global};
 
@@ -25,7 +25,12 @@ impl<C: Drop> RecordedChannels<C> {
     /// # Errors
     ///
     /// - Returns the error if an allocation fails.
-    pub fn over(alloc: Global, inner: C, listens: bool, wanted: Wanted) -> Result<Self, AllocError>
+    pub fn over(
+        alloc: Global,
+        inner: C,
+        listens: bool,
+        wanted: ExpectedHeader,
+    ) -> Result<Self, AllocError>
         // If `over` succeeds, the channels inside are the ones given.
         ensures inner { IfOk result (λ o. o.inner ≡ inner) }
         // If `over` succeeds, the recorder listens if and only if `listens` is true.

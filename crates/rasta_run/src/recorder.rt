@@ -2,7 +2,7 @@
 
 ghost use Rattle.std.specs.Prelude.{◌≡◌, ◌≤◌, ◌%◌, ◌||◌, length, ℕ, List, None, Option, true, false, slice_set};
 ghost use Rattle.pdi_session.specs.declared.Phase.{Phase};
-ghost use Rattle.pdu_text.specs.declared.lines.Happening.TheVariants as happening;
+ghost use Rattle.pdu_text.specs.declared.lines.EndEvent.TheVariants as happening;
 ghost use Rattle.red_layer.specs.declared.RedEvent.{RedEvent};
 ghost use Rattle.safe_machine.specs.declared.ConnectionState.{ConnectionState};
 ghost use Rattle.safe_machine.specs.declared.Step.{Step};
@@ -19,7 +19,7 @@ use arrayvec::ArrayVec;
 use channels::Note;
 use end_settings::EndConfig;
 use octets::limits::CHANNELS_MAX;
-use pdu_text::{Cause, Happening};
+use pdu_text::{Cause, EndEvent};
 use red_layer::RedEvent;
 use safe_machine::{DropCause, Step};
 use safe_pdu::{Kind, SafeFault};
@@ -33,7 +33,7 @@ const DATAGRAM_MAX: usize = 1_258;
 
 /// What an end expects in the datagrams of its peer.
 #[derive(Clone, Copy, Debug, PartialEq, Eq)]
-pub struct Wanted {
+pub struct ExpectedHeader {
     /// The identifier of the peer, as the sender.
     pub peer_id: u32,
     /// The identifier of the end, as the receiver.
@@ -42,13 +42,13 @@ pub struct Wanted {
     pub code: u64,
 }
 
-impl Wanted {
+impl ExpectedHeader {
     /// Returns what an end with these settings expects.
     pub fn of(config: &EndConfig) -> Self
         // `of` returns both identifiers and the length of the safety code of the settings.
         ensures { result ≡ wanted_by config.now }
     {
-        Wanted {
+        ExpectedHeader {
             peer_id: config.peer_id,
             id: config.id,
             code: config.code,
@@ -62,7 +62,7 @@ pub struct Recorder {
     /// Whether it listens.
     pub listens: bool,
     /// What its end expects.
-    wanted: Wanted,
+    wanted: ExpectedHeader,
     /// The counts of each channel, the first one first.
     pub channels: [ChannelCounts; CHANNELS_MAX],
     /// The number of parts that ended a connection or came after its end, modulo 2^64.
@@ -76,14 +76,14 @@ pub struct Recorder {
     /// The last datagram with the type of a Data.
     pub last_data: ArrayVec<u8, DATAGRAM_MAX>,
     /// The events, each at the place of its number.
-    pub kept: [Happening; KEPT],
+    pub kept: [EndEvent; KEPT],
     /// The number of events so far, modulo 2^64.
     pub happened: u64,
 }
 
 impl Recorder {
     /// Returns a recorder that has recorded nothing.
-    pub fn new(listens: bool, wanted: Wanted) -> Self
+    pub fn new(listens: bool, wanted: ExpectedHeader) -> Self
         // A new recorder listens if and only if `listens` is true.
         ensures listens { result.listens ≡ listens }
         // The end of a new recorder expects what is given.
@@ -108,13 +108,13 @@ impl Recorder {
             came: (0, None),
             has_request: false,
             last_data: ArrayVec::new(),
-            kept: [Happening::Asked; KEPT],
+            kept: [EndEvent::Asked; KEPT],
             happened: 0,
         }
     }
 
     /// Returns the event with this number, from 0. Returns `None` if it is forgotten, or has not happened.
-    pub fn happening(&self, number: u64) -> Option<Happening>
+    pub fn happening(&self, number: u64) -> Option<EndEvent>
         // `happening` returns each of the last 256 events by its number, and `None` for any other.
         ensures { result ≡ telling.kept_as self.now.kept self.now.happened number }
     {
@@ -196,8 +196,8 @@ impl Recorder {
         match note {
             Note::Redundancy(_, event) => self.hear_event(*event),
             Note::Step(number, step) => self.hear_step(*number, *step),
-            Note::State(state) => self.keep(Happening::State(*state)),
-            Note::Phase(phase) => self.keep(Happening::Phase(*phase)),
+            Note::State(state) => self.keep(EndEvent::State(*state)),
+            Note::Phase(phase) => self.keep(EndEvent::Phase(*phase)),
             Note::Take(_, _) => {}
         }
     }
@@ -259,11 +259,11 @@ impl Recorder {
         ensures kept { self.new ≡ recording.after_drop channel cause self.old }
     {
         self.last_cause = Some(last_of(self.last_cause, cause));
-        self.keep(Happening::Dropped(channel, cause));
+        self.keep(EndEvent::Dropped(channel, cause));
     }
 
     /// Keeps an event, if there is one.
-    fn keep_some(&mut self, happening: Option<Happening>)
+    fn keep_some(&mut self, happening: Option<EndEvent>)
         // `keep_some` keeps the event and counts it, and changes nothing without one.
         ensures { self.new ≡ recording.with_some happening self.old }
     {
@@ -273,7 +273,7 @@ impl Recorder {
     }
 
     /// Keeps an event, in place of the oldest if there is no room.
-    fn keep(&mut self, happening: Happening)
+    fn keep(&mut self, happening: EndEvent)
         // `keep` puts the event at the place of its number and counts it, and changes nothing else.
         ensures { self.new ≡ record self.old {
           kept = slice_set self.old.kept (self.old.happened % 256) happening;
@@ -308,7 +308,7 @@ fn is_request(kind: Option<Kind>) -> bool
 }
 
 /// Returns the event of a datagram that was to be sent on a channel.
-fn sent_event(channel: usize, datagram: &[u8]) -> Option<Happening>
+fn sent_event(channel: usize, datagram: &[u8]) -> Option<EndEvent>
     // `sent_event` returns the event of the PDU on the first channel, and `None` on any other.
     ensures { result ≡ recording.sent_event channel datagram.now }
 {
@@ -355,7 +355,7 @@ fn last_of(before: Option<Cause>, cause: Cause) -> Cause
 }
 
 /// Returns why the safety machine dropped a part, with what its header shows and what was expected, if that is known.
-fn drop_cause(cause: DropCause, header: Option<Header>, wanted: Wanted) -> Cause
+fn drop_cause(cause: DropCause, header: Option<Header>, wanted: ExpectedHeader) -> Cause
     // `drop_cause` returns the cause itself, but for a stranger with a known header the identifiers in it, and for a
     // fault the length of the safety code, if it is known and another one.
     ensures { result ≡ telling.drop_cause cause header wanted }
@@ -384,13 +384,13 @@ fn fault_cause(fault: SafeFault, found: Option<u64>, own: u64) -> Cause
 }
 
 /// Returns the event of a PDU that the end made, by its type.
-fn made_told(kind: Option<Kind>) -> Option<Happening>
+fn made_told(kind: Option<Kind>) -> Option<EndEvent>
     // `made_told` returns an event for a RetrReq and a RetrResp, and `None` for any other type.
     ensures { result ≡ telling.made_told kind }
 {
     match kind {
-        Some(Kind::RetrReq) => Some(Happening::Asked),
-        Some(Kind::RetrResp) => Some(Happening::Resent),
+        Some(Kind::RetrReq) => Some(EndEvent::Asked),
+        Some(Kind::RetrResp) => Some(EndEvent::Resent),
         _ => None,
     }
 }

@@ -18,14 +18,14 @@ use crate::RecordedChannels;
 use crate::drawing::{Draw, first_number};
 use crate::keeping::{end_of_wait, is_wait_over};
 use crate::noticing::Notice;
-use crate::recorder::Wanted;
+use crate::recorder::ExpectedHeader;
 use crate::standing::is_up;
 use crate::turns::Actor;
 use crate::unopened::fault_of_end;
 use channels::Channels;
 use end_settings::EndConfig;
 use octets::Milliseconds;
-use pdu_text::Happening;
+use pdu_text::EndEvent;
 use rasta_words::Fault;
 use stack_end::End;
 use std::alloc::{Allocator, Global};
@@ -43,9 +43,9 @@ impl<C: Channels + Drop, A: Allocator + Copy> Actor<'_, C, A> {
         // `is_due` records what it saw of an end that is kept, and when it is to be opened again; it changes nothing
         // else.
         ensures kept { self.new ≡ record self.old {
-          keeper = keeping.looked self.old.is_kept (is_stale (inside self.old.end)) (is_up (inside self.old.end).upper.session.phase) now self.old.keeper;
+          keeper = keeping.look_at_end self.old.is_kept (is_stale (inside self.old.end)) (is_up (inside self.old.end).upper.session.phase) now self.old.keeper;
           anew_at = keeping.anew_after self.old.is_kept self.old.side self.old.anew_at
-              (keeping.looked self.old.is_kept (is_stale (inside self.old.end)) (is_up (inside self.old.end).upper.session.phase) now self.old.keeper) now;
+              (keeping.look_at_end self.old.is_kept (is_stale (inside self.old.end)) (is_up (inside self.old.end).upper.session.phase) now self.old.keeper) now;
         } }
     {
         if !self.is_kept {
@@ -67,7 +67,7 @@ impl<C: Channels + Drop, A: Allocator + Copy> Actor<'_, C, A> {
         // `note_opening` counts the opening, and adds the telegrams in doubt to those of earlier connections. The
         // telegrams put so far are those before the opening. It changes nothing else.
         ensures { self.new ≡ record self.old {
-          keeper = keeping.reopened now self.old.keeper;
+          keeper = keeping.reopen_keeper now self.old.keeper;
           anew_at = None;
           lost = min (self.old.lost + doubt_of self.old.put self.old.before (confirmed_in (inside self.old.end).upper)) (2 ^ 64 - 1);
           before = self.old.put;
@@ -136,7 +136,7 @@ impl<C: Channels + Drop, A: Allocator + Copy> Actor<'_, C, A> {
         if let Some(count) = self.keeper.count(now) {
             let _ = self.log.notice(Some(Notice::Fruitless(count)), now, err);
         }
-        let _ = self.log.tell(Happening::Anew(first_sn), now, err);
+        let _ = self.log.tell(EndEvent::Anew(first_sn), now, err);
         self.log_events(now, err);
     }
 }
@@ -164,9 +164,9 @@ impl Actor<'_, UdpChannels> {
         // If `keep` returns false, it has recorded what it saw of an end that is kept, and when it is to be opened
         // again; nothing else has changed, and no number was drawn.
         ensures same { IfOk result (λ anew. anew ≡ false → (source.new ≡ source.old) × (self.new ≡ record self.old {
-          keeper = keeping.looked self.old.is_kept (is_stale (inside self.old.end)) (is_up (inside self.old.end).upper.session.phase) now self.old.keeper;
+          keeper = keeping.look_at_end self.old.is_kept (is_stale (inside self.old.end)) (is_up (inside self.old.end).upper.session.phase) now self.old.keeper;
           anew_at = keeping.anew_after self.old.is_kept self.old.side self.old.anew_at
-              (keeping.looked self.old.is_kept (is_stale (inside self.old.end)) (is_up (inside self.old.end).upper.session.phase) now self.old.keeper) now;
+              (keeping.look_at_end self.old.is_kept (is_stale (inside self.old.end)) (is_up (inside self.old.end).upper.session.phase) now self.old.keeper) now;
         })) }
         // If `keep` returns true, the end is newly opened with the settings of its keeper and the number that was
         // drawn.
@@ -200,7 +200,7 @@ impl Actor<'_, UdpChannels> {
             return Ok(false);
         }
         let first_sn = first_number(source, None)?;
-        let wanted = Wanted::of(&config);
+        let wanted = ExpectedHeader::of(&config);
         let none = SocketChannels::over(Vec::new(alloc));
         let Ok(spare) = RecordedChannels::over(alloc, none, false, wanted) else {
             return Err(Fault::Memory);

@@ -3,7 +3,7 @@
 ghost use Rattle.std.specs.Prelude.{◌≡◌, ℕ, ◌≤◌, ◌+◌, ◌%◌, ◌^◌, ◌&&◌, ◌==◌, None, true, IfOk, IfSome, OnOk};
 ghost use Rattle.rasta_run.specs.Acting as acting;
 ghost use Rattle.rasta_run.specs.Counting.{counted_of};
-ghost use Rattle.rasta_run.specs.Counts.{looked};
+ghost use Rattle.rasta_run.specs.Counts.{look};
 ghost use Rattle.rasta_run.specs.Failing.{all_failures};
 ghost use Rattle.rasta_run.specs.Pending.{unread_lines};
 ghost use Rattle.rasta_run.specs.Progress.{limit_after};
@@ -36,7 +36,7 @@ const TURNS_MOST: u64 = 1 << 63;
 
 /// The ends that run.
 #[derive(Drop)]
-pub struct Running<'a> {
+pub struct Runner<'a> {
     /// The end whose turn comes first, which puts the lines of input: the interlocking of two.
     pub first: Actor<'a, UdpChannels>,
     /// The field element beside it.
@@ -45,7 +45,7 @@ pub struct Running<'a> {
     pub turns: u64,
 }
 
-impl Running<'_> {
+impl Runner<'_> {
     /// Takes this many turns.
     ///
     /// # Errors
@@ -265,7 +265,7 @@ impl Running<'_> {
         // `keep` takes no turn.
         ensures turns { self.new.turns ≡ self.old.turns }
         // If `keep` succeeds, it has looked at the counts of the first end, as it is then.
-        ensures counts { OnOk result (self.new.first.teller ≡ looked self.old.first.teller
+        ensures counts { OnOk result (self.new.first.teller ≡ look self.old.first.teller
             (counted_of self.new.first.earlier.sums (statistics_of self.new.first.end)
             (channels_of self.new.first.end).recorder.value self.new.first.failures self.new.first.put self.new.first.taken) now) }
     {
@@ -328,8 +328,8 @@ impl Running<'_> {
         // If no state is expected, each end was in it when `finish` succeeds.
         ensures expected { run.now.expected ≡ None → IfOk result (λ outcome. outcome.is_met ≡ true) }
         // If `finish` succeeds, its outcome says whether every end was in the expected state before.
-        ensures met { IfOk result (λ outcome. outcome.is_met ≡ (acting.stands run.now.expected lines self.old.first
-            && acting.second_stands run.now.expected self.old.second)) }
+        ensures met { IfOk result (λ outcome. outcome.is_met ≡ (acting.is_as_expected run.now.expected lines self.old.first
+            && acting.is_second_as_expected run.now.expected self.old.second)) }
         // If `finish` succeeds, its outcome says whether each end had left nothing undone, if the run lasted until its input
         // ended.
         ensures finished { IfOk result (λ outcome. outcome.is_finished
@@ -495,7 +495,7 @@ fn undone_of(second: &Option<Actor<'_, UdpChannels>>) -> Undone
 /// Returns whether the second end is in the expected state, if there is one.
 fn is_met(second: &Option<Actor<'_, UdpChannels>>, run: &Run, undone: Undone) -> bool
     // `is_met` is true without a second end, and else if that is in the expected state.
-    ensures met { IfSome second.now (λ a. undone ≡ acting.left_by a 0) → result ≡ acting.second_stands run.now.expected second.now }
+    ensures met { IfSome second.now (λ a. undone ≡ acting.left_by a 0) → result ≡ acting.is_second_as_expected run.now.expected second.now }
     // If no state is expected, `is_met` returns true.
     ensures none { run.now.expected ≡ None → result ≡ true }
 {

@@ -8,7 +8,9 @@ ghost use Rattle.rasta_run.specs.Reading.{settings_most};
 use end_settings::Side;
 use pdu_text::side_name;
 use rasta_words::{Fault, Status, report};
-use settings_file::{Ends, Settings, SettingsFault, Word, findings, settings, warnings, word_of};
+use settings_file::{
+    Ends, Settings, SettingsFault, Subcommand, findings, settings, warnings, word_of,
+};
 use settings_text::write_place;
 use std::alloc::Global;
 use std::fmt::Display;
@@ -45,7 +47,7 @@ struct NoToml;
 /// - `Refused` if the text is too long or has no settings for the word, or if an allocation fails.
 pub(crate) fn read_ends<E: Write>(
     alloc: Global,
-    word: Word,
+    word: Subcommand,
     file: &str,
     text: &str,
     err: &mut E,
@@ -102,7 +104,7 @@ pub fn refuse_long<E: Write>(file: &str, err: &mut E) -> Status
 /// all.
 fn refuse_all<E: Write>(
     alloc: Global,
-    word: Word,
+    word: Subcommand,
     file: &str,
     text: &str,
     first: &SettingsFault,

@@ -1,7 +1,7 @@
 //! What the state of an end allows, and whether it is the expected one.
 
 ghost use Rattle.std.specs.Prelude.{◌≡◌};
-ghost use Rattle.rasta_run.specs.Standing.{ends_in, is_up, meets, puts_in, takes_lines};
+ghost use Rattle.rasta_run.specs.Standing.{ends_in, is_up, is_expected, puts_in, takes_lines};
 
 use end_settings::Side;
 use pdi_session::Phase;
@@ -54,7 +54,7 @@ pub fn ends_in(side: Side, phase: Phase, is_empty: bool) -> bool
 pub fn is_met(expected: Option<Expected>, phase: Phase, settled: bool, done: bool) -> bool
     // `is_met` is true if no state is expected; for `Up` if the session is established; for `Settled` if it also
     // is `settled` and `done`.
-    ensures { result ≡ meets expected phase settled done }
+    ensures { result ≡ is_expected expected phase settled done }
 {
     match expected {
         None => true,

@@ -69,7 +69,7 @@ pub fn received_on(sums: &Statistics) -> u64
 /// Adds the counts of a channel.
 fn receptions(first: ReceptionCounts, second: ReceptionCounts) -> ReceptionCounts
     // Each count is the sum of both, and the time the second one, if it has one.
-    ensures { result ≡ totals.receptions first second }
+    ensures { result ≡ totals.add_receptions first second }
 {
     ReceptionCounts {
         received: first.received.wrapping_add(second.received),
@@ -87,7 +87,7 @@ fn receptions(first: ReceptionCounts, second: ReceptionCounts) -> ReceptionCount
 /// Adds the counts of parts.
 fn parts(first: PartCounts, second: PartCounts) -> PartCounts
     // Each count is the sum of both; age and wait are the greater ones.
-    ensures { result ≡ totals.parts first second }
+    ensures { result ≡ totals.add_parts first second }
 {
     PartCounts {
         taken: first.taken.wrapping_add(second.taken),
@@ -107,7 +107,7 @@ fn parts(first: PartCounts, second: PartCounts) -> PartCounts
 /// Adds the counts of PDUs made.
 fn made(first: MadeCounts, second: MadeCounts) -> MadeCounts
     // Each count is the sum of both.
-    ensures { result ≡ totals.made first second }
+    ensures { result ≡ totals.add_made first second }
 {
     MadeCounts {
         units: first.units.wrapping_add(second.units),

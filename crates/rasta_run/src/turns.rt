@@ -17,7 +17,7 @@ ghost use Rattle.udp_channels.specs.Sockets.{no_failures};
 
 use crate::RecordedChannels;
 use crate::counting::Teller;
-use crate::counts::Counted;
+use crate::counts::RunCounts;
 use crate::keeping::Keeper;
 use crate::logging::Log;
 use crate::noticing::Notice;
@@ -190,14 +190,14 @@ impl<'a, C: Channels, A: Allocator + Copy> Actor<'a, C, A> {
     }
 
     /// Returns all that is counted of the end.
-    pub fn counted(&self) -> Counted
+    pub fn counted(&self) -> RunCounts
         // `counted` adds the end's own counts to those of its earlier openings, and has those of the recorder, the
         // calls that failed, and the numbers of telegrams put and taken.
         ensures { result ≡ counted_of self.now.earlier.sums (statistics_of self.now.end)
             (channels_of self.now.end).recorder.value self.now.failures self.now.put self.now.taken }
     {
         let recorder = &self.end.channels_seen().recorder;
-        Counted {
+        RunCounts {
             sums: self.earlier.plus(&self.end.statistics()).sums,
             channels: recorder.channels,
             failures: self.failures,

@@ -3,7 +3,7 @@
 ghost use Rattle.std.specs.Prelude.{◌≡◌, OnOk};
 ghost use Rattle.std.specs.Io.KnownBytes.{Appends};
 ghost use Rattle.rasta_run.specs.Unopened as unopened;
-ghost use Rattle.rasta_run.specs.declared.unopened.Stopped.TheVariants as stopped;
+ghost use Rattle.rasta_run.specs.declared.unopened.StopCause.TheVariants as stopped;
 
 use end_settings::Side;
 use pdu_text::{side_name, write_text};
@@ -42,31 +42,31 @@ impl Unopened {
 
 /// Why a run ended before its time.
 #[derive(Clone, Copy, Debug, PartialEq, Eq)]
-pub enum Stopped {
+pub enum StopCause {
     /// A fault.
     Fault(Fault),
     /// Channels could not be opened.
     Unopened(Unopened),
 }
 
-impl Stopped {
+impl StopCause {
     /// Returns the fault that ended the run.
     pub fn fault(self) -> Fault
         // `fault` returns the fault itself, and for channels that of their reason.
         ensures { result ≡ unopened.fault_of_stop self }
     {
         match self {
-            Stopped::Fault(fault) => fault,
-            Stopped::Unopened(unopened) => fault_of(unopened.fault),
+            StopCause::Fault(fault) => fault,
+            StopCause::Unopened(unopened) => fault_of(unopened.fault),
         }
     }
 }
 
-impl From<Fault> for Stopped {
+impl From<Fault> for StopCause {
     ghost from_gives = { λ fault r. r ≡ stopped.Fault fault };
 
     fn from(fault: Fault) -> Self {
-        Stopped::Fault(fault)
+        StopCause::Fault(fault)
     }
 }
 

@@ -6,7 +6,7 @@ use Rattle.capture_text.specs.declared.choice.Remarkable.{Remarkable}
 use Rattle.capture_text.specs.declared.pieces.TimeForm.{TimeForm}
 use Rattle.safe_pdu.specs.declared.CodeLength.{CodeLength}
 use Rattle.clap.specs.Words.{Row, Text, first_of}
-use Rattle.settings_file.specs.declared.Word.{Word}
+use Rattle.settings_file.specs.declared.Subcommand.{Subcommand}
 use Rattle.rasta_words.specs.declared.status.CountsForm.{CountsForm}
 use Rattle.rasta_words.specs.declared.status.Expected.{Expected}
 use Rattle.rasta_words.specs.declared.status.LogLevel.{LogLevel}
@@ -174,7 +174,7 @@ IsRunRejected rows r =
 abbrev pub IsStrange : Text → Type 0
 IsStrange name =
     (name ≢ codes "md4") × (name ≢ codes "show") × (name ≢ codes "sim") × (name ≢ codes "follow") × (name ≢ codes "check")
-    × ((word : Word) → name ≢ ends_word word)
+    × ((word : Subcommand) → name ≢ ends_word word)
 
 -- why the entries of the subcommand of this name are not a request
 abbrev pub IsRejected : Text → List Row → Rejection → Type 0
@@ -184,7 +184,7 @@ IsRejected name rows r =
     ⊎ ((name ≡ codes "sim") × Lacks (codes "script") rows r)
     ⊎ ((name ≡ codes "follow") × IsFollowRejected rows r)
     ⊎ ((name ≡ codes "check") × Lacks (codes "file") rows r)
-    ⊎ ((word : Word) × (name ≡ ends_word word) × IsRunRejected rows r)
+    ⊎ ((word : Subcommand) × (name ≡ ends_word word) × IsRunRejected rows r)
     ⊎ (IsStrange name × (r ≡ Missing))
 
 -- why the subcommand that was found is not a request, or none was found

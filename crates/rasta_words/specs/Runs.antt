@@ -13,15 +13,15 @@ use Rattle.rasta_words.specs.declared.status.Expected.{Expected}
 use Rattle.rasta_words.specs.declared.status.Expected.TheVariants.{Up, Settled}
 use Rattle.rasta_words.specs.declared.status.CountsForm.{CountsForm}
 use Rattle.rasta_words.specs.declared.status.CountsForm.TheVariants as counts_form
-use Rattle.rasta_words.specs.declared.status.Telling.{Telling}
+use Rattle.rasta_words.specs.declared.status.CountsRequest.{CountsRequest}
 use Rattle.rasta_words.specs.Choices.{file_rule, is_flagged}
 use Rattle.rasta_words.specs.Seconds.{AreSecondsChosen}
 use Rattle.rasta_words.specs.declared.command_line.RunRequest.{RunRequest}
-use Rattle.settings_file.specs.declared.Word.{Word}
-use Rattle.settings_file.specs.declared.Word.TheVariants.{Il, Fe, Pair}
+use Rattle.settings_file.specs.declared.Subcommand.{Subcommand}
+use Rattle.settings_file.specs.declared.Subcommand.TheVariants.{Il, Fe, Pair}
 
 -- the subcommand that runs these ends
-abbrev pub ends_word : Word → Text
+abbrev pub ends_word : Subcommand → Text
 ends_word Il = codes "il"
 ends_word Fe = codes "fe"
 ends_word Pair = codes "pair"
@@ -152,12 +152,12 @@ form_word counts_form.Json = codes "json"
 form_word counts_form.Prometheus = codes "prometheus"
 
 -- the counts have the form of the first word and the seconds of the second
-abbrev pub AreTold : Text → Option Text → Option Telling → Type 0
+abbrev pub AreTold : Text → Option Text → Option CountsRequest → Type 0
 AreTold form every None = ⊥
 AreTold form every (Some t) = (form ≡ form_word t.form) × AreSecondsChosen every t.every
 
 -- the counts that the words of `--stats` and `--every` choose; none without the first, and then the second must be absent, too
-abbrev pub AreCountsChosen : Option Text → Option Text → Option Telling → Type 0
+abbrev pub AreCountsChosen : Option Text → Option Text → Option CountsRequest → Type 0
 AreCountsChosen None None counts = counts ≡ None
 AreCountsChosen None (Some every) counts = ⊥
 AreCountsChosen (Some form) every counts = AreTold form every counts

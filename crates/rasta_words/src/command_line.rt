@@ -11,12 +11,12 @@ use crate::follow_options::choices;
 use crate::program_command::rasta_command;
 use crate::rejection::{Choice, Rejection};
 use crate::run_options::ends_run;
-use crate::{Expected, LogLevel, LogTime, RunLength, Telling};
+use crate::{CountsRequest, Expected, LogLevel, LogTime, RunLength};
 use capture::{Ports, Span};
 use capture_text::{Remarkable, TimeForm};
 use clap::ArgMatches;
 use safe_pdu::CodeLength;
-use settings_file::Word;
+use settings_file::Subcommand;
 use std::alloc::{AllocError, Global};
 use std::convert::AsStr;
 use thiserror::Error;
@@ -58,7 +58,7 @@ pub enum Request<'a> {
 #[derive(Clone, Copy, Debug, PartialEq, Eq)]
 pub struct RunRequest<'a> {
     /// The ends that run.
-    pub word: Word,
+    pub word: Subcommand,
     /// The name of the settings file.
     pub file: &'a str,
     /// `--turns`, 1 to 1,000,000, or `--until-end`: how long they run.
@@ -72,7 +72,7 @@ pub struct RunRequest<'a> {
     /// `--keep`: an end that has lost its connection is opened again.
     pub keep: bool,
     /// `--stats`, and `--every` with a number of seconds: how and when counts are printed.
-    pub counts: Option<Telling>,
+    pub counts: Option<CountsRequest>,
 }
 
 /// How a recorded connection is analysed. Its defaults are those of a settings file.
@@ -254,16 +254,16 @@ fn run_asked<'a>(name: &str, entries: &ArgMatches<'a>) -> Result<Request<'a>, Re
 }
 
 /// Returns the ends that a subcommand runs.
-fn ends(name: &str) -> Option<Word>
+fn ends(name: &str) -> Option<Subcommand>
     // The name of the ends that `ends` returns is the one given: `il`, `fe` or `pair`.
     ensures found { IfSome result (λ word. name.now ≡ ends_word word) }
     // `ends` returns the ends of each of the three names.
-    ensures only { (word : Word) → name.now ≡ ends_word word → result ≡ Some word }
+    ensures only { (word : Subcommand) → name.now ≡ ends_word word → result ≡ Some word }
 {
     match name {
-        "il" => Some(Word::Il),
-        "fe" => Some(Word::Fe),
-        "pair" => Some(Word::Pair),
+        "il" => Some(Subcommand::Il),
+        "fe" => Some(Subcommand::Fe),
+        "pair" => Some(Subcommand::Pair),
         _ => None,
     }
 }

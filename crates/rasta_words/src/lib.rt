@@ -17,5 +17,5 @@ pub use command_line::{FollowRequest, FollowTimes, Request, RunRequest, WordsFau
 pub use program_command::VERSION;
 pub use rejection::{Choice, Rejection};
 pub use status::{
-    CountsForm, Expected, Fault, LogLevel, LogTime, RunLength, Status, Telling, report,
+    CountsForm, CountsRequest, Expected, Fault, LogLevel, LogTime, RunLength, Status, report,
 };

@@ -11,13 +11,16 @@ ghost use Rattle.rasta_words.specs.declared.rejection.Choice.TheVariants as choi
 use crate::command_line::RunRequest;
 use crate::entries::{entry, is_chosen};
 use crate::rejection::{Choice, Rejection};
-use crate::{CountsForm, Expected, LogLevel, LogTime, RunLength, Telling};
+use crate::{CountsForm, CountsRequest, Expected, LogLevel, LogTime, RunLength};
 use clap::ArgMatches;
-use settings_file::Word;
+use settings_file::Subcommand;
 
 /// Returns how the entries of `il`, `fe` and `pair` have these ends run. The options are read in the order `--turns`
 /// and `--until-end`, `--log`, `--time`, `--expect`, `--stats`, `--every`.
-pub fn ends_run<'a>(word: Word, entries: &ArgMatches<'a>) -> Result<RunRequest<'a>, Rejection<'a>>
+pub fn ends_run<'a>(
+    word: Subcommand,
+    entries: &ArgMatches<'a>,
+) -> Result<RunRequest<'a>, Rejection<'a>>
     // The run that `ends_run` returns is of these ends, and its values are those of the entries.
     ensures found { IfOk result (λ running. (running.word ≡ word) × IsRun (rows_of (found_of entries.now)) running) }
     // If `ends_run` fails, no run has the values of the entries.
@@ -53,11 +56,11 @@ pub fn ends_run<'a>(word: Word, entries: &ArgMatches<'a>) -> Result<RunRequest<'
 fn chosen_counts<'a>(
     form: Option<&'a str>,
     every: Option<&'a str>,
-) -> Result<Option<Telling>, Rejection<'a>>
+) -> Result<Option<CountsRequest>, Rejection<'a>>
     // The counts that `chosen_counts` returns are those that both words choose: none without a word for their form.
     ensures found { IfOk result (AreCountsChosen (option_copied form.entry) (option_copied every.entry)) }
     // If both words choose any counts, `chosen_counts` returns those.
-    ensures only { (counts : Option Telling) → AreCountsChosen (option_copied form.entry) (option_copied every.entry) counts
+    ensures only { (counts : Option CountsRequest) → AreCountsChosen (option_copied form.entry) (option_copied every.entry) counts
         → result ≡ Ok counts }
     // If `chosen_counts` fails, it names the form if that is not valid, or else the seconds, or that they need a form.
     ensures refused { IfErr result (AreCountsRejected (option_copied form.entry) (option_copied every.entry)) }
@@ -75,7 +78,7 @@ fn chosen_counts<'a>(
         });
     };
     let every = chosen_seconds(every)?;
-    Ok(Some(Telling { form, every }))
+    Ok(Some(CountsRequest { form, every }))
 }
 
 /// Returns the form of counts that a word names.

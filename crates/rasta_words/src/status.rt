@@ -96,7 +96,7 @@ pub enum CountsForm {
 
 /// How and when counts are printed: at the end of a run, and before.
 #[derive(Clone, Copy, Debug, PartialEq, Eq)]
-pub struct Telling {
+pub struct CountsRequest {
     /// Their form.
     pub form: CountsForm,
     /// The seconds between two times before the end; `None` if they are printed only at the end.

@@ -11,7 +11,7 @@ use Rattle.red_layer.specs.pdu.RedText.{RedText, red_seen, length_field, reserve
 use Rattle.red_layer.proofs.RedLemmas.{red_spelled}
 use Rattle.red_layer.specs.Parts.{Part}
 use Rattle.red_layer.specs.Redundancy.{decoded}
-use Rattle.red_layer.specs.Service.{accepted}
+use Rattle.red_layer.specs.Service.{part_received}
 use Rattle.std.specs.List.{AllByRecursion}
 use Rattle.red_layer.specs.Laws.{ArrivalLaw, PartsLaw}
 use Rattle.octets.proofs.Choices.{by_cond}
@@ -44,7 +44,7 @@ text_of seq upper octets bytes =
     (λ some e. absurd (cc)))
     (λ other e. absurd (cc))))
 
-one_accepted : (said : Result Part RedFault) (p : Part) → accepted said ≡ p ∷ [] → said ≡ Ok p
+one_accepted : (said : Result Part RedFault) (p : Part) → part_received said ≡ p ∷ [] → said ≡ Ok p
 one_accepted (Ok q) p e = let same : q ≡ p = cc in ap (λ x. Ok x) same
 one_accepted (Err fault) p e = absurd (cc)
 
@@ -54,7 +54,7 @@ decoded_is octets = refl
 
 pub arrival_law : ArrivalLaw
 arrival_law octets now seq upper bytes = (
-  λ text. ap accepted (decoded_is octets ∙ read_of seq upper octets text),
+  λ text. ap part_received (decoded_is octets ∙ read_of seq upper octets text),
   λ arrives. text_of seq upper octets bytes (sym (decoded_is octets) ∙ one_accepted (decoded octets) (seq, upper) arrives),
 )
 
@@ -67,9 +67,9 @@ all-dropped zero xs h = h
 all-dropped (suc n) [] h = h
 all-dropped (suc n) (x ∷ xs) h = all-dropped n xs h.1
 
-red-octets : (octets : List ℕ) → AreOctets octets → AllByRecursion OctetPart (accepted (red_seen octets))
+red-octets : (octets : List ℕ) → AreOctets octets → AllByRecursion OctetPart (part_received (red_seen octets))
 red-octets octets h =
-    let P : Result Part RedFault → Type 0 = λ r. AllByRecursion OctetPart (accepted r) in
+    let P : Result Part RedFault → Type 0 = λ r. AllByRecursion OctetPart (part_received r) in
     by_cond P (ltb (length octets) RED_HEADER) _ _ (λ _. tt) (λ _.
     by_cond P (ltb RED_PDU_MAX (length octets)) _ _ (λ _. tt) (λ _.
     by_cond P (eqb (length_field octets) (length octets)) _ _ (λ _.
@@ -77,4 +77,4 @@ red-octets octets h =
     (λ _. tt)))
 
 pub parts_law : PartsLaw
-parts_law octets now h = subst (λ (r : Result Part RedFault). AllByRecursion OctetPart (accepted r)) (sym (decoded_is octets)) (red-octets octets h)
+parts_law octets now h = subst (λ (r : Result Part RedFault). AllByRecursion OctetPart (part_received r)) (sym (decoded_is octets)) (red-octets octets h)

@@ -5,8 +5,8 @@ use Rattle.std.proofs.lemmas.Bool.Decides.{nat_tests, leb_tells, eqb_tells}
 use Rattle.red_layer.specs.declared.pdu.RedFault.{RedFault}
 use Rattle.red_layer.specs.FiniteMap.{Rises, put_in, has_number, part_under}
 use Rattle.red_layer.specs.Parts.{Part, IsBelow, is_nil}
-use Rattle.red_layer.specs.Redundancy.{Receiver, Stepped, Input, Datagram, Tick, run_from, after_run, follow, is_due, released, after_release, arrival, decoded, heard, passed_by, after, opened}
-use Rattle.red_layer.specs.Service.{accepted, arrivals_of, arrivals, passed_along}
+use Rattle.red_layer.specs.Redundancy.{Receiver, ReceiverStep, Input, Datagram, Tick, run_from, after_run, follow, is_due, parts_due, after_release, arrival, decoded, step_decoded, parts_passed, after, new_receiver}
+use Rattle.red_layer.specs.Service.{part_received, arrivals_of, arrivals, parts_passed_along}
 use Rattle.red_layer.specs.Masking.{IsFirstMissing, greatest, missing_from, first_missing, has_above, Wait, began_by, moment_of, wait_after, AreAtMost, IsInTime, QNear, NoDeadlineFalls, no_wait, first_parts}
 use Rattle.red_layer.specs.Laws.{Masking, FirstMissingLaw}
 use Rattle.red_layer.proofs.Views.{IsBelow-put_in}
@@ -344,7 +344,7 @@ masks_again q t_seq now p r w passed m again =
 masks_arrival : (q t_seq now : ℕ) (p : Part) (r : Receiver) (w : Wait) (passed : List Part) → Masks q t_seq r w passed → p.0 ≤ first_missing w.arrived + q → Masks q t_seq (arrival now p r).left (record { arrived = w.arrived ++ p ∷ []; began = began_by now w (w.arrived ++ p ∷ []) }) (passed ++ (arrival now p r).passed)
 masks_arrival q t_seq now p r w passed m near =
     let bound : p.0 ≤ r.expected + q = omega (arith, first_missing-is q t_seq r w passed m) in
-    let P : Stepped → Type 0 = λ s. Masks q t_seq s.left (record { arrived = w.arrived ++ p ∷ []; began = began_by now w (w.arrived ++ p ∷ []) }) (passed ++ s.passed) in
+    let P : ReceiverStep → Type 0 = λ s. Masks q t_seq s.left (record { arrived = w.arrived ++ p ∷ []; began = began_by now w (w.arrived ++ p ∷ []) }) (passed ++ s.passed) in
     by_cond P (ltb p.0 r.expected) _ _ (λ old. masks_again q t_seq now p r w passed m (m.missing.all_below p.0 (grind (arith, nat_tests)))) (λ not_old.
     by_cond P (eqb p.0 r.expected) _ _ (λ next. masks_next q t_seq now p r w passed m (grind (arith, nat_tests))) (λ not_next.
     let ahead : r.expected < p.0 = grind (arith, nat_tests) in
@@ -358,42 +358,42 @@ masks_arrival q t_seq now p r w passed m near =
     absurd (omega (arith, more, length-put_in p.0 p.1 r.waiting, count, m.q_is)))
     (λ room. subst (λ ps. Masks q t_seq (record r { waiting = put_in p.0 p.1 r.waiting; since = cond (is_nil r.waiting) now r.since }) (record { arrived = w.arrived ++ p ∷ []; began = began_by now w (w.arrived ++ p ∷ []) }) ps) (sym (append-nil passed)) (masks_wait q t_seq now p r w passed m ahead bound new))))))
 
-masks_heard : (q t_seq now : ℕ) (said : Result Part RedFault) (r : Receiver) (w : Wait) (passed : List Part) → Masks q t_seq r w passed → AreAtMost (first_missing w.arrived + q) (accepted said) → Masks q t_seq (heard now said r).left (record { arrived = w.arrived ++ accepted said; began = began_by now w (w.arrived ++ accepted said) }) (passed ++ (heard now said r).passed)
+masks_heard : (q t_seq now : ℕ) (said : Result Part RedFault) (r : Receiver) (w : Wait) (passed : List Part) → Masks q t_seq r w passed → AreAtMost (first_missing w.arrived + q) (part_received said) → Masks q t_seq (step_decoded now said r).left (record { arrived = w.arrived ++ part_received said; began = began_by now w (w.arrived ++ part_received said) }) (passed ++ (step_decoded now said r).passed)
 masks_heard q t_seq now (Ok p) r w passed m near = masks_arrival q t_seq now p r w passed m near.0
 masks_heard q t_seq now (Err f) r w passed m near =
     subst (λ ps. Masks q t_seq r (record { arrived = w.arrived ++ []; began = began_by now w (w.arrived ++ []) }) ps) (sym (append-nil passed))
     (masks_still q t_seq now r w passed (w.arrived ++ []) m (λ n. ap (has_number n) (append-nil w.arrived)) (λ n. ap (part_under n) (append-nil w.arrived)))
 
-release-none : (now : ℕ) (r : Receiver) → is_due now r ≡ false → released now r ≡ []
+release-none : (now : ℕ) (r : Receiver) → is_due now r ≡ false → parts_due now r ≡ []
 release-none now r quiet = rw quiet refl
 
 release-same : (now : ℕ) (r : Receiver) → is_due now r ≡ false → after_release now r ≡ r
 release-same now r quiet = rw quiet refl
 
-masks_step : (q t_seq : ℕ) (e : Input) (r : Receiver) (w : Wait) (passed : List Part) → Masks q t_seq r w passed → AreAtMost (first_missing w.arrived + q) (arrivals_of e) → IsInTime t_seq (moment_of e) w.began → Masks q t_seq (after e r) (wait_after e w) (passed ++ passed_by e r)
+masks_step : (q t_seq : ℕ) (e : Input) (r : Receiver) (w : Wait) (passed : List Part) → Masks q t_seq r w passed → AreAtMost (first_missing w.arrived + q) (arrivals_of e) → IsInTime t_seq (moment_of e) w.began → Masks q t_seq (after e r) (wait_after e w) (passed ++ parts_passed e r)
 masks_step q t_seq (Datagram octets now) r w passed m near in_time =
     let quiet : is_due now r ≡ false = not_due q t_seq now r w passed m in_time in
-    subst (λ s. Masks q t_seq (heard now (decoded octets) s).left (wait_after (Datagram octets now) w) (passed ++ (released now r ++ (heard now (decoded octets) s).passed))) (sym (release-same now r quiet))
-    (subst (λ ps. Masks q t_seq (heard now (decoded octets) r).left (wait_after (Datagram octets now) w) (passed ++ (ps ++ (heard now (decoded octets) r).passed))) (sym (release-none now r quiet))
+    subst (λ s. Masks q t_seq (step_decoded now (decoded octets) s).left (wait_after (Datagram octets now) w) (passed ++ (parts_due now r ++ (step_decoded now (decoded octets) s).passed))) (sym (release-same now r quiet))
+    (subst (λ ps. Masks q t_seq (step_decoded now (decoded octets) r).left (wait_after (Datagram octets now) w) (passed ++ (ps ++ (step_decoded now (decoded octets) r).passed))) (sym (release-none now r quiet))
     (masks_heard q t_seq now (decoded octets) r w passed m near))
 masks_step q t_seq (Tick now) r w passed m near in_time =
     let quiet : is_due now r ≡ false = not_due q t_seq now r w passed m in_time in
-    subst (λ s. Masks q t_seq s (wait_after (Tick now) w) (passed ++ released now r)) (sym (release-same now r quiet))
+    subst (λ s. Masks q t_seq s (wait_after (Tick now) w) (passed ++ parts_due now r)) (sym (release-same now r quiet))
     (subst (λ ps. Masks q t_seq r (wait_after (Tick now) w) (passed ++ ps)) (sym (release-none now r quiet))
     (subst (λ ps. Masks q t_seq r (wait_after (Tick now) w) ps) (sym (append-nil passed))
     (masks_still q t_seq now r w passed (w.arrived ++ []) m (λ n. ap (has_number n) (append-nil w.arrived)) (λ n. ap (part_under n) (append-nil w.arrived)))))
 
-masking_from : (q t_seq : ℕ) (es : List Input) (r : Receiver) (w : Wait) (passed : List Part) → Masks q t_seq r w passed → QNear q w.arrived es → NoDeadlineFalls t_seq w es → passed ++ passed_along es r ≡ first_parts (first_missing (w.arrived ++ arrivals es)) (w.arrived ++ arrivals es)
+masking_from : (q t_seq : ℕ) (es : List Input) (r : Receiver) (w : Wait) (passed : List Part) → Masks q t_seq r w passed → QNear q w.arrived es → NoDeadlineFalls t_seq w es → passed ++ parts_passed_along es r ≡ first_parts (first_missing (w.arrived ++ arrivals es)) (w.arrived ++ arrivals es)
 masking_from q t_seq [] r w passed m near in_time =
     append-nil passed ∙ m.passed_is ∙ ap (λ n. first_parts n w.arrived) (sym (first_missing-is q t_seq r w passed m)) ∙ ap (λ all. first_parts (first_missing all) all) (sym (append-nil w.arrived))
 masking_from q t_seq (e ∷ es) r w passed m near in_time =
-    sym (append_assoc passed (passed_by e r) (passed_along es (after e r)))
-    ∙ masking_from q t_seq es (after e r) (wait_after e w) (passed ++ passed_by e r) (masks_step q t_seq e r w passed m near.0 in_time.0) near.1 in_time.1
+    sym (append_assoc passed (parts_passed e r) (parts_passed_along es (after e r)))
+    ∙ masking_from q t_seq es (after e r) (wait_after e w) (passed ++ parts_passed e r) (masks_step q t_seq e r w passed m near.0 in_time.0) near.1 in_time.1
     ∙ ap (λ all. first_parts (first_missing all) all) (append_assoc w.arrived (arrivals_of e) (arrivals es))
 
 pub masking_law : Masking
 masking_law q t_seq inputs near in_time =
-    masking_from q t_seq inputs (opened q t_seq) no_wait [] (record {
+    masking_from q t_seq inputs (new_receiver q t_seq) no_wait [] (record {
       q_is = refl;
       t_seq_is = refl;
       missing = record { all_below = λ k lt. absurd (omega arith); not_there = refl };

@@ -4,8 +4,8 @@ use Rattle.std.proofs.lemmas.Bool.Decides.{nat_tests, leb_tells, eqb_tells}
 use Rattle.red_layer.specs.declared.pdu.RedFault.{RedFault}
 use Rattle.red_layer.specs.FiniteMap.{Rises, put_in, has_number}
 use Rattle.red_layer.specs.Parts.{Part, IsBelow, is_nil}
-use Rattle.red_layer.specs.Redundancy.{Receiver, Stepped, Input, Datagram, Tick, run_from, after_run, follow, least_waiting, is_due, released, after_release, arrival, decoded, heard, passed_by, after, opened}
-use Rattle.red_layer.specs.Service.{IsAmong, AreAmong, HaveArrived, accepted, arrivals_of, passed_along, moments}
+use Rattle.red_layer.specs.Redundancy.{Receiver, ReceiverStep, Input, Datagram, Tick, run_from, after_run, follow, least_waiting, is_due, parts_due, after_release, arrival, decoded, step_decoded, parts_passed, after, new_receiver}
+use Rattle.red_layer.specs.Service.{IsAmong, AreAmong, HaveArrived, part_received, arrivals_of, parts_passed_along, moments}
 use Rattle.red_layer.specs.Laws.{ServiceLaw}
 use Rattle.octets.proofs.Choices.{by_cond, by_test}
 use Rattle.red_layer.proofs.FiniteMap.{Rises-put_in, Rises-weaken}
@@ -130,7 +130,7 @@ least_waiting-le low (e ∷ es) some h = h.0
 pub due_waits : (now : ℕ) (r : Receiver) → is_due now r ≡ true → is_nil r.waiting ≡ false
 due_waits now r due = grind (arith, nat_tests)
 
-pub ordered_release : (now : ℕ) (r : Receiver) (all : List Part) → Rises (r.expected + 1) r.waiting → AreAmong r.waiting all → IsOrdered r.expected (released now r) (after_release now r) all
+pub ordered_release : (now : ℕ) (r : Receiver) (all : List Part) → Rises (r.expected + 1) r.waiting → AreAmong r.waiting all → IsOrdered r.expected (parts_due now r) (after_release now r) all
 ordered_release now r all h among =
     by_test (λ b. IsOrdered r.expected (cond b (run_from (least_waiting r.waiting) r.waiting) []) (cond b (follow now (least_waiting r.waiting) r) r) all) (is_due now r)
     (λ due.
@@ -141,7 +141,7 @@ ordered_release now r all h among =
 
 pub ordered_arrival : (now : ℕ) (p : Part) (r : Receiver) (all : List Part) → Rises (r.expected + 1) r.waiting → AreAmong r.waiting all → IsAmong p all → IsOrdered r.expected (arrival now p r).passed (arrival now p r).left all
 ordered_arrival now p r all h among here =
-    let P : Stepped → Type 0 = λ s. IsOrdered r.expected s.passed s.left all in
+    let P : ReceiverStep → Type 0 = λ s. IsOrdered r.expected s.passed s.left all in
     by_cond P (ltb p.0 r.expected) _ _ (λ old. ordered_same r all h among) (λ not_old.
     by_cond P (eqb p.0 r.expected) _ _ (λ next.
     let same : p.0 ≡ r.expected = grind (arith, nat_tests) in
@@ -166,23 +166,23 @@ ordered_arrival now p r all h among here =
       waiting_among = put_in-among p r.waiting all here among;
     })))))
 
-pub ordered_heard : (now : ℕ) (said : Result Part RedFault) (r : Receiver) (before : List Part) → Rises (r.expected + 1) r.waiting → AreAmong r.waiting before → IsOrdered r.expected (heard now said r).passed (heard now said r).left (before ++ accepted said)
+pub ordered_heard : (now : ℕ) (said : Result Part RedFault) (r : Receiver) (before : List Part) → Rises (r.expected + 1) r.waiting → AreAmong r.waiting before → IsOrdered r.expected (step_decoded now said r).passed (step_decoded now said r).left (before ++ part_received said)
 ordered_heard now (Ok p) r before h among = ordered_arrival now p r (before ++ p ∷ []) h (AreAmong-more r.waiting before (p ∷ []) among) (IsAmong-last p before)
 ordered_heard now (Err f) r before h among = ordered_same r (before ++ []) h (AreAmong-more r.waiting before [] among)
 
-pub ordered_step : (e : Input) (r : Receiver) (before : List Part) → Rises (r.expected + 1) r.waiting → AreAmong r.waiting before → IsOrdered r.expected (passed_by e r) (after e r) (before ++ arrivals_of e)
+pub ordered_step : (e : Input) (r : Receiver) (before : List Part) → Rises (r.expected + 1) r.waiting → AreAmong r.waiting before → IsOrdered r.expected (parts_passed e r) (after e r) (before ++ arrivals_of e)
 ordered_step (Datagram octets now) r before h among =
     let first = ordered_release now r before h among in
-    let more : IsOrdered r.expected (released now r) (after_release now r) (before ++ accepted (decoded octets)) =
-    ordered_release now r (before ++ accepted (decoded octets)) h (AreAmong-more r.waiting before (accepted (decoded octets)) among) in
-    ordered_append r.expected (released now r) _ (after_release now r) _ _ more (ordered_heard now (decoded octets) (after_release now r) before first.waits first.waiting_among)
+    let more : IsOrdered r.expected (parts_due now r) (after_release now r) (before ++ part_received (decoded octets)) =
+    ordered_release now r (before ++ part_received (decoded octets)) h (AreAmong-more r.waiting before (part_received (decoded octets)) among) in
+    ordered_append r.expected (parts_due now r) _ (after_release now r) _ _ more (ordered_heard now (decoded octets) (after_release now r) before first.waits first.waiting_among)
 ordered_step (Tick now) r before h among = ordered_release now r (before ++ []) h (AreAmong-more r.waiting before [] among)
 
-pub rising_from : (es : List Input) (r : Receiver) (before : List Part) → Rises (r.expected + 1) r.waiting → AreAmong r.waiting before → Rises r.expected (passed_along es r)
+pub rising_from : (es : List Input) (r : Receiver) (before : List Part) → Rises (r.expected + 1) r.waiting → AreAmong r.waiting before → Rises r.expected (parts_passed_along es r)
 rising_from [] r before h among = tt
 rising_from (e ∷ es) r before h among =
     let o = ordered_step e r before h among in
-    Rises-append r.expected (after e r).expected (passed_by e r) (passed_along es (after e r)) o.grows o.rises o.below (rising_from es (after e r) (before ++ arrivals_of e) o.waits o.waiting_among)
+    Rises-append r.expected (after e r).expected (parts_passed e r) (parts_passed_along es (after e r)) o.grows o.rises o.below (rising_from es (after e r) (before ++ arrivals_of e) o.waits o.waiting_among)
 
 pub arrived_from : (es : List Input) (r : Receiver) (before : List Part) → Rises (r.expected + 1) r.waiting → AreAmong r.waiting before → HaveArrived before (moments es r)
 arrived_from [] r before h among = tt
@@ -191,4 +191,4 @@ arrived_from (e ∷ es) r before h among =
     (o.passed_among, arrived_from es (after e r) (before ++ arrivals_of e) o.waits o.waiting_among)
 
 pub service_law : ServiceLaw
-service_law q t_seq inputs = record { rising = rising_from inputs (opened q t_seq) [] tt tt; arrived = arrived_from inputs (opened q t_seq) [] tt tt }
+service_law q t_seq inputs = record { rising = rising_from inputs (new_receiver q t_seq) [] tt tt; arrived = arrived_from inputs (new_receiver q t_seq) [] tt tt }

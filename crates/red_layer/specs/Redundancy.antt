@@ -22,11 +22,11 @@ pub record Receiver : Type 0 where
   pub since : ℕ
 
 -- a receiving half just opened
-abbrev pub opened : ℕ → ℕ → Receiver
-opened q t_seq = record { q = q; t_seq = t_seq; expected = 0; waiting = []; since = 0 }
+abbrev pub new_receiver : ℕ → ℕ → Receiver
+new_receiver q t_seq = record { q = q; t_seq = t_seq; expected = 0; waiting = []; since = 0 }
 
 -- the outcome of a datagram
-pub record Stepped : Type 0 where
+pub record ReceiverStep : Type 0 where
   -- what was done with the datagram
   pub event : RedEvent
   -- the parts passed up
@@ -64,16 +64,16 @@ abbrev pub is_due : ℕ → Receiver → Bool
 is_due now r = not (is_nil r.waiting) && nat_le (r.since + r.t_seq) now
 
 -- the parts that are passed up when the deadline is tried
-abbrev pub released : ℕ → Receiver → List Part
-released now r = if is_due now r then run_from (least_waiting r.waiting) r.waiting else []
+abbrev pub parts_due : ℕ → Receiver → List Part
+parts_due now r = if is_due now r then run_from (least_waiting r.waiting) r.waiting else []
 
 -- the receiver after the deadline is tried
 abbrev pub after_release : ℕ → Receiver → Receiver
 after_release now r = if is_due now r then follow now (least_waiting r.waiting) r else r
 
 -- a part that is ahead, and not too far: dropped if its number is already deferred, dropped if q parts are deferred, else deferred
-abbrev pub deferred : ℕ → Part → Receiver → Stepped
-deferred now p r =
+abbrev pub defer : ℕ → Part → Receiver → ReceiverStep
+defer now p r =
     if has_number p.0 r.waiting then record { event = Again; passed = []; left = r }
     else if length r.waiting == r.q then record { event = Full; passed = []; left = r }
     else record {
@@ -83,13 +83,13 @@ deferred now p r =
     }
 
 -- what an arrival does, by its number
-abbrev pub arrival : ℕ → Part → Receiver → Stepped
+abbrev pub arrival : ℕ → Part → Receiver → ReceiverStep
 arrival now p r =
     if nat_lt p.0 r.expected then record { event = Old; passed = []; left = r }
     else if p.0 == r.expected then
     record { event = Passed; passed = p ∷ run_from (p.0 + 1) r.waiting; left = follow now (p.0 + 1) r }
     else if nat_lt (r.expected + REACH * r.q) p.0 then record { event = Far; passed = []; left = r }
-    else deferred now p r
+    else defer now p r
 
 -- an input of the receiving half: any bytes, or a time at which the deadline is tried
 pub data Input : Type 0 where
@@ -101,22 +101,22 @@ unfoldable pub decoded : List ℕ → Result Part RedFault
 decoded octets = red_seen octets
 
 -- what a decoded datagram does after the deadline was tried
-abbrev pub heard : ℕ → Result Part RedFault → Receiver → Stepped
-heard now (Ok p) r = arrival now p r
-heard now (Err fault) r = record { event = Fault fault; passed = []; left = r }
+abbrev pub step_decoded : ℕ → Result Part RedFault → Receiver → ReceiverStep
+step_decoded now (Ok p) r = arrival now p r
+step_decoded now (Err fault) r = record { event = Fault fault; passed = []; left = r }
 
 -- what a datagram does: the deadline is tried first, and the datagram is judged by the state that this leaves
-abbrev pub judged : ℕ → List ℕ → Receiver → Stepped
-judged now octets r = heard now (decoded octets) (after_release now r)
+abbrev pub judge : ℕ → List ℕ → Receiver → ReceiverStep
+judge now octets r = step_decoded now (decoded octets) (after_release now r)
 
 -- the parts passed up at an input, in order
-abbrev pub passed_by : Input → Receiver → List Part
-passed_by (Datagram octets now) r = released now r ++ (judged now octets r).passed
-passed_by (Tick now) r = released now r
+abbrev pub parts_passed : Input → Receiver → List Part
+parts_passed (Datagram octets now) r = parts_due now r ++ (judge now octets r).passed
+parts_passed (Tick now) r = parts_due now r
 
 -- the receiver after an input
 abbrev pub after : Input → Receiver → Receiver
-after (Datagram octets now) r = (judged now octets r).left
+after (Datagram octets now) r = (judge now octets r).left
 after (Tick now) r = after_release now r
 
 -- the end of the wait, if parts are deferred

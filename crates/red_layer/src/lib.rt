@@ -16,7 +16,7 @@ ghost use Rattle.octets.specs.declared.limits.TheConstants.{SAFE_PDU_MAX};
 ghost use Rattle.red_layer.specs.FiniteMap.{Rises, take_out, part_under};
 ghost use Rattle.red_layer.specs.Parts.{map_parts, IsBelow};
 ghost use Rattle.red_layer.specs.Begun.{has_begun};
-ghost use Rattle.red_layer.specs.Redundancy.{Input, decoded, run_from, after_run, follow, released, after_release, deferred, arrival, judged, passed_by, after, opened, deadline_of};
+ghost use Rattle.red_layer.specs.Redundancy.{Input, decoded, run_from, after_run, follow, parts_due, after_release, defer, arrival, judge, parts_passed, after, new_receiver, deadline_of};
 
 use crate::pdu::{RedFault, RedPdu, decode};
 use arrayvec::ArrayVec;
@@ -34,7 +34,7 @@ pub use law::order_law;
 pub use octets::limits::{Q_MAX, T_SEQ_MAX};
 
 /// The payload of a deferred part, at most 1,250 bytes.
-type Kept = ArrayVec<u8, SAFE_PDU_MAX>;
+type PartBytes = ArrayVec<u8, SAFE_PDU_MAX>;
 
 /// What the layer did with a datagram. It does not report parts that the deadline released in the same
 /// call; these are passed up first.
@@ -109,7 +109,7 @@ pub struct RedLayer<A: Allocator = Global> {
     /// The time since which parts are deferred, in milliseconds, if there are any.
     since: Milliseconds,
     /// The deferred parts by their numbers.
-    waiting: Deferral<Kept, A>,
+    waiting: Deferral<PartBytes, A>,
 }
 
 impl<A: Allocator> Model for RedLayer<A> {
@@ -140,9 +140,9 @@ impl<A: Allocator> RedLayer<A> {
     pub fn open(alloc: A, config: RedConfig) -> Result<Self, RedOpenFault>
         requires q { config.q ≤ Q_MAX }
         requires t_seq { config.t_seq ≤ T_SEQ_MAX }
-        // A receiving half just `opened` has the settings of `config`, expects number 0, and defers
+        // A receiving half just `new_receiver` has the settings of `config`, expects number 0, and defers
         // nothing.
-        ensures { IfOk result (λ layer. layer ≡ opened config.q config.t_seq) }
+        ensures { IfOk result (λ layer. layer ≡ new_receiver config.q config.t_seq) }
     {
         match Deferral::new(alloc, config.q) {
             Ok(waiting) => Ok(RedLayer {
@@ -158,8 +158,8 @@ impl<A: Allocator> RedLayer<A> {
 
     /// Begins again with the same settings, as a receiving half just opened: it expects number 0 and defers nothing.
     pub fn reopen(&mut self)
-        // After `reopen`, the receiving half is as `opened` with the q and T_seq that it has.
-        ensures { self.new ≡ opened self.old.q self.old.t_seq }
+        // After `reopen`, the receiving half is as `new_receiver` with the q and T_seq that it has.
+        ensures { self.new ≡ new_receiver self.old.q self.old.t_seq }
     {
         self.waiting.clear();
         self.expected = 0;
@@ -173,13 +173,13 @@ impl<A: Allocator> RedLayer<A> {
         requires ready { U.ready up.old self.old.expected }
         // The returned `event` is that of the rules for this datagram, for any bytes: passed, deferred,
         // dropped and why, or not a redundancy PDU.
-        ensures event { result ≡ (judged now octets.now self.old).event }
+        ensures event { result ≡ (judge now octets.now self.old).event }
         // `arrive` leaves the state of the rules `after` this `Datagram`: the deadline is tried first, then
         // the datagram is judged.
         ensures left { self.new ≡ after (Input.Datagram octets.now now) self.old }
         // `arrive` passes up exactly the parts that the rules name for this `Datagram`, in order: those
         // released by the deadline, then those of the datagram.
-        ensures passed { FoldsTo U.passes up.old (passed_by (Input.Datagram octets.now now) self.old) up.new }
+        ensures passed { FoldsTo U.passes up.old (parts_passed (Input.Datagram octets.now now) self.old) up.new }
         // After `arrive`, `up` can take a part with the expected number.
         ensures ready { U.ready up.new self.new.expected }
     {
@@ -200,7 +200,7 @@ impl<A: Allocator> RedLayer<A> {
         ensures left { self.new ≡ after (Input.Tick now) self.old }
         // `tick` passes up exactly the parts that the deadline releases at `now`, in order, and nothing
         // before the deadline.
-        ensures passed { FoldsTo U.passes up.old (passed_by (Input.Tick now) self.old) up.new }
+        ensures passed { FoldsTo U.passes up.old (parts_passed (Input.Tick now) self.old) up.new }
         // After `tick`, `up` can take a part with the expected number.
         ensures ready { U.ready up.new self.new.expected }
     {
@@ -344,10 +344,10 @@ impl<A: Allocator> RedLayer<A> {
         requires ahead { self.old.expected < seq }
         // The returned `event` is `Again` if the number is already deferred, else `Full` if q parts are
         // deferred, else `Wait`.
-        ensures event { result ≡ (deferred now (seq, upper.now) self.old).event }
+        ensures event { result ≡ (defer now (seq, upper.now) self.old).event }
         // With `Wait` the part is added under its number, and if nothing was deferred before, the wait
         // starts `now`; otherwise nothing changes.
-        ensures left { self.new ≡ (deferred now (seq, upper.now) self.old).left }
+        ensures left { self.new ≡ (defer now (seq, upper.now) self.old).left }
     {
         if self.waiting.has(seq) {
             return RedEvent::Again;
@@ -382,7 +382,11 @@ fn heard(octets: &[u8]) -> Result<RedPdu<'_>, RedFault>
 
 /// Passes up the deferred parts with consecutive numbers from a number on, and returns the number after
 /// them.
-fn pass_run<A: Allocator, U: Upward>(waiting: &mut Deferral<Kept, A>, from: u64, up: &mut U) -> u64
+fn pass_run<A: Allocator, U: Upward>(
+    waiting: &mut Deferral<PartBytes, A>,
+    from: u64,
+    up: &mut U,
+) -> u64
     requires rises { Rises from waiting.old.waiting }
     requires below { IsBelow (2 ^ 32) waiting.old.waiting }
     requires in_range { from ≤ 2 ^ 32 }
@@ -415,7 +419,7 @@ fn pass_run<A: Allocator, U: Upward>(waiting: &mut Deferral<Kept, A>, from: u64,
 }
 
 /// Takes out the part under a number, which may be 2^32.
-fn take_number<A: Allocator>(waiting: &mut Deferral<Kept, A>, number: u64) -> Option<Kept>
+fn take_number<A: Allocator>(waiting: &mut Deferral<PartBytes, A>, number: u64) -> Option<PartBytes>
     requires { IsBelow (2 ^ 32) waiting.old.waiting }
     // The result is the part under `number`, or `None` if there is none.
     ensures part { result ≡ part_under number waiting.old.waiting }

@@ -5,15 +5,15 @@ use Rattle.std.proofs.lemmas.List.{get_or-set_same, get_or-set_other, length-map
 use Rattle.std.proofs.lemmas.Option.{slice_get-get_or}
 use Rattle.octets.proofs.RingPlaces.{behind-inside, far_back, far_next, far_none, far_other}
 use Rattle.octets.specs.RingPlaces.{IsFar, place_behind}
-use Rattle.safe_machine.specs.retrans.Units.{IsRing, Kept, Numbered, Stored, all_shown, no_unit, octets_of, renumbered, shown, units_from}
+use Rattle.safe_machine.specs.retrans.Units.{IsRing, Kept, Numbered, Stored, unit_values, no_unit, octets_of, renumber_units, unit_value, units_from}
 use Rattle.safe_machine.proofs.UnitLemmas.{one_renumbered}
 
 pub length-units_from : (ps : List Stored) (p k : ℕ) → length (units_from ps p k) ≡ k
 length-units_from ps p zero = refl
 length-units_from ps p (suc k) = ap suc (length-units_from ps (place_behind (length ps) p) k)
 
-pub length-shown_from : (ps : List Stored) (p k : ℕ) → length (all_shown (units_from ps p k)) ≡ k
-length-shown_from ps p k = length-map (units_from ps p k) shown ∙ length-units_from ps p k
+pub length-shown_from : (ps : List Stored) (p k : ℕ) → length (unit_values (units_from ps p k)) ≡ k
+length-shown_from ps p k = length-map (units_from ps p k) unit_value ∙ length-units_from ps p k
 
 -- Writing a place after them changes none of them.
 pub units_from-others : (ps : List Stored) (p far q : ℕ) (w : Stored) (k : ℕ) → p < length ps → far < length ps → k ≤ far
@@ -89,12 +89,12 @@ units_from-front ps p (suc k) some = let less : suc k - 1 ≡ k = omega arith in
 
 -- What a new unit adds when it is kept after the others.
 pub shown_more : (ps : List Stored) (n p q k : ℕ) (w : Stored) → length ps ≡ n → k < n → IsRing n p k → IsFar n p k q
-    → all_shown (units_from (slice_set ps q w) p (k + 1)) ≡ all_shown (units_from ps p k) ++ shown w ∷ []
+    → unit_values (units_from (slice_set ps q w) p (k + 1)) ≡ unit_values (units_from ps p k) ++ unit_value w ∷ []
 shown_more ps n p q k w long near ring h =
     let more : units_from (slice_set ps q w) p (suc k) ≡ units_from ps p k ++ w ∷ [] =
     units_from-more ps p q w k (omega (arith, ring.1 (omega arith))) (omega arith) (rw long h) in
     let one : k + 1 ≡ suc k = omega arith in
-    ap (λ (n : ℕ). all_shown (units_from (slice_set ps q w) p n)) one ∙ ap all_shown more ∙ map-append shown (units_from ps p k) (w ∷ [])
+    ap (λ (n : ℕ). unit_values (units_from (slice_set ps q w) p n)) one ∙ ap unit_values more ∙ map-append unit_value (units_from ps p k) (w ∷ [])
 
 pub ring_more : (n p k : ℕ) → k < n → IsRing n p k → IsRing n p (k + 1)
 ring_more n p k near ring = (omega arith, ring.1)
@@ -108,7 +108,7 @@ pub kept_more : (n : ℕ) (us more : List Numbered) (old : Kept) (u : Numbered) 
 kept_more n us more old u same e = ap (kept_of n) e ∙ ap (λ (k : Kept). kept_of k.room (k.units ++ u ∷ [])) same
 
 -- The unit shown at a place.
-pub shown_at : (us : List Stored) (i : ℕ) (u : Stored) → slice_get us i ≡ Some u → slice_get (all_shown us) i ≡ Some (shown u)
+pub shown_at : (us : List Stored) (i : ℕ) (u : Stored) → slice_get us i ≡ Some u → slice_get (unit_values us) i ≡ Some (unit_value u)
 shown_at [] i u e = absurd cc
 shown_at (v ∷ us) zero u e = let same : v ≡ u = cc in rw same refl
 shown_at (v ∷ us) (suc i) u e = shown_at us i u e
@@ -134,7 +134,7 @@ drop-units_from ps p k some = rw (units_from-front ps p k some) refl
 
 -- The first units under their new numbers, and the rest still to be written.
 abbrev pub left_to : ℕ → ℕ → List Stored → List Numbered
-left_to far number us = take far (all_shown us) ++ renumbered number (octets_of (drop far (all_shown us)))
+left_to far number us = take far (unit_values us) ++ renumber_units number (octets_of (drop far (unit_values us)))
 
 -- One more number is written.
 pub step_renumbered : (ps : List Stored) (p far q count number : ℕ) (u v : Stored) (all : List Numbered) → p < length ps → far < count → count ≤ length ps
@@ -146,7 +146,7 @@ step_renumbered ps p far q count number u v all lt within le h e same before =
     let at : slice_get (units_from ps p count) far ≡ Some u =
     units_from-at ps p far q count lt within h ∙ ap (λ (x : Stored). Some x) (same_at ps q u h.0 e)
     in
-    let is : shown w ≡ shown (number + far, u.1) = ap (λ (x : Stored). shown (number + far, x.1)) same in
+    let is : unit_value w ≡ unit_value (number + far, u.1) = ap (λ (x : Stored). unit_value (number + far, x.1)) same in
     let next : number + (far + 1) ≡ number + far + 1 = omega arith in
     let more : far + 1 ≡ suc far = omega arith in
     ap (λ (us : List Stored). left_to (far + 1) (number + (far + 1)) us) written
@@ -156,7 +156,7 @@ step_renumbered ps p far q count number u v all lt within le h e same before =
     ∙ before
 
 -- At the end, all numbers are written.
-pub all_renumbered : (us : List Numbered) (far number : ℕ) → length us ≤ far → us ≡ take far us ++ renumbered number (octets_of (drop far us))
+pub all_renumbered : (us : List Numbered) (far number : ℕ) → length us ≤ far → us ≡ take far us ++ renumber_units number (octets_of (drop far us))
 all_renumbered [] zero number le = refl
 all_renumbered [] (suc far) number le = refl
 all_renumbered (u ∷ us) zero number le = absurd (omega arith)

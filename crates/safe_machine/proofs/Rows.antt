@@ -4,9 +4,9 @@ use Rattle.safe_machine.proofs.Words.{RetrResp, DiscReq, Heartbeat, Data, RetrDa
 use Rattle.safe_machine.proofs.Words.{NotOpened, Number, Request, Answered, Below, Dropped, Gap, Left, Taken, NoAnswer, ClosedByUser, UnexpectedPdu}
 use Rattle.safe_machine.proofs.Words.{SequenceError, Timeout, ServiceNotAllowed, WrongVersion, RetransmissionImpossible, ProtocolError, Unspecified}
 use Rattle.safe_machine.proofs.Words.{VersionDiffers, OutOfOrder, NotWellFormed, Limit, BadUnit, ConfirmedNumber, ConfirmedTimestamp, Made, opening_body}
-use Rattle.safe_machine.proofs.Words.{leaving_body, Settings, State, opened, leave, Decision, decide, Nothing, Drops, Shuts, Leaves, Rejects, Accepts, Connects}
+use Rattle.safe_machine.proofs.Words.{leaving_body, Settings, State, new_state, leave, Decision, decide, Nothing, Drops, Shuts, Leaves, Rejects, Accepts, Connects}
 use Rattle.safe_machine.proofs.Words.{Takes, Asks, Resumes, AnswersNext, AnswersEarly, arrive, send, tick, arrive_answer, Il, Fe, Event, start, run, Genuine}
-use Rattle.safe_machine.proofs.Words.{Open, Send, Arrive, heard_answer, kept_of, Bool}
+use Rattle.safe_machine.proofs.Words.{Open, Send, Arrive, decoded_answer, kept_of, Bool}
 use Rattle.safe_machine.specs.Numbers.{sn_of, ahead}
 
 abbrev set_of : (client : Bool) (own peer pdu_limit : ℕ) → Settings
@@ -37,7 +37,7 @@ from_fe kind sn cs body = record { kind = kind; receiver = 1; sender = 2; sn = s
 
 -- A server with first number 500: in Down; after ConnReq 100; after HB 101; after a gap; after its RetrResp.
 down : State
-down = opened settings 500 0
+down = new_state settings 500 0
 
 starting : State
 starting = arrive (from_il ConnReq 100 0 0 (opening_body 20)) 0 down
@@ -53,7 +53,7 @@ running = arrive (from_il RetrResp 104 500 0 []) 0 requesting
 
 -- A client in Start.
 client : State
-client = opened client_settings 100 0
+client = new_state client_settings 100 0
 
 -- PDUs as type, number and confirmed number.
 seen : List Made → List (ℕ × ℕ × ℕ)
@@ -168,8 +168,8 @@ early_seen = (refl, refl, refl)
 -- A closed end does nothing for any sender, and bytes that do not decode cause only the timeout check.
 closed_seen : (decide (kept_of (leave ClosedByUser Unspecified 0 up))
     (record { kind = Heartbeat; receiver = 2; sender = 9; sn = 102; cs = 500; ts = 0; cts = 0; body = [] }) 0 ≡ Nothing)
-    × (heard_answer (Err Short) 0 (kept_of (leave ClosedByUser Unspecified 0 up)) ≡ NoAnswer)
-    × (heard_answer (Err Short) 0 (kept_of up) ≡ Dropped (Fault Short)) × (heard_answer (Err Short) 1800 (kept_of up) ≡ Left Timeout Unspecified)
+    × (decoded_answer (Err Short) 0 (kept_of (leave ClosedByUser Unspecified 0 up)) ≡ NoAnswer)
+    × (decoded_answer (Err Short) 0 (kept_of up) ≡ Dropped (Fault Short)) × (decoded_answer (Err Short) 1800 (kept_of up) ≡ Left Timeout Unspecified)
 unfolding up starting down from_il settings sn_of ahead
 closed_seen = (refl, refl, refl, refl)
 
@@ -177,7 +177,7 @@ closed_seen = (refl, refl, refl, refl)
 short_settings : Settings
 short_settings = set_of false 2 1 1
 
-limit_seen : arrive_answer (from_il Heartbeat 101 500 0 []) 0 (kept_of (arrive (from_il ConnReq 100 0 0 (opening_body 20)) 0 (opened short_settings 500 0)))
+limit_seen : arrive_answer (from_il Heartbeat 101 500 0 []) 0 (kept_of (arrive (from_il ConnReq 100 0 0 (opening_body 20)) 0 (new_state short_settings 500 0)))
     ≡ Left ProtocolError Limit
 unfolding from_il short_settings sn_of ahead
 limit_seen = refl

@@ -6,7 +6,7 @@ use Rattle.std.proofs.lemmas.Bool.Decides.{nat_tests}
 use Rattle.std.proofs.lemmas.List.Elements.{All-nil, All-cons, All-head, All-tail}
 use Rattle.std.proofs.lemmas.List.Kept.{AllPairs-cons, AllPairs-filter}
 use Rattle.std.proofs.lemmas.List.Quantifiers.{all_pairs_push}
-use Rattle.safe_machine.specs.retrans.Units.{Numbered, Rises, Stored, above, all_shown, octets_of, renumbered, shown, up_to}
+use Rattle.safe_machine.specs.retrans.Units.{Numbered, Rises, Stored, above, unit_values, octets_of, renumber_units, unit_value, up_to}
 
 -- The numbers after the first one rise, too, and are greater.
 pub Rises-tail : (u : Numbered) (us : List Numbered) → Rises (u ∷ us) → Rises us
@@ -23,23 +23,23 @@ Rises-above number us h =
     record { pairs = AllPairs-filter (λ (a b : Numbered). a.number < b.number) (λ (u : Numbered). nat_lt number u.number) us h.pairs }
 
 -- Consecutive numbers rise.
-renumbered-from : (low first : ℕ) (units : List (List ℕ)) → low ≤ first → All (λ (u : Numbered). low ≤ u.number) (renumbered first units)
+renumbered-from : (low first : ℕ) (units : List (List ℕ)) → low ≤ first → All (λ (u : Numbered). low ≤ u.number) (renumber_units first units)
 renumbered-from low first [] le = All-nil (λ (u : Numbered). low ≤ u.number)
 renumbered-from low first (octets ∷ units) le =
-    All-cons (λ (u : Numbered). low ≤ u.number) (record { number = first; octets = octets }) (renumbered (first + 1) units) le
+    All-cons (λ (u : Numbered). low ≤ u.number) (record { number = first; octets = octets }) (renumber_units (first + 1) units) le
     (renumbered-from low (first + 1) units (omega arith))
 
-pub Rises-renumbered : (first : ℕ) (units : List (List ℕ)) → Rises (renumbered first units)
+pub Rises-renumbered : (first : ℕ) (units : List (List ℕ)) → Rises (renumber_units first units)
 Rises-renumbered first [] = record { pairs = λ i j d lt within. absurd (omega arith) }
 Rises-renumbered first (octets ∷ units) =
     record {
       pairs =
-          AllPairs-cons (λ (a b : Numbered). a.number < b.number) (record { number = first; octets = octets }) (renumbered (first + 1) units)
+          AllPairs-cons (λ (a b : Numbered). a.number < b.number) (record { number = first; octets = octets }) (renumber_units (first + 1) units)
           (λ k d within. omega (arith, renumbered-from (first + 1) (first + 1) units (omega arith) k d within)) (Rises-renumbered (first + 1) units).pairs;
     }
 
 -- Renumbering keeps the units.
-pub octets-renumbered : (first : ℕ) (units : List (List ℕ)) → octets_of (renumbered first units) ≡ units
+pub octets-renumbered : (first : ℕ) (units : List (List ℕ)) → octets_of (renumber_units first units) ≡ units
 octets-renumbered first [] = refl
 octets-renumbered first (octets ∷ units) = ap (λ rest. octets ∷ rest) (octets-renumbered (first + 1) units)
 
@@ -78,7 +78,7 @@ front_first number (u ∷ us) h = front_by number u us h (front_first number us 
 
 -- One unit less: either the first one is confirmed, or no unit is.
 pub first_dropped : (number : ℕ) (us : List Stored) (u : Stored) → slice_get us 0 ≡ Some u → u.0 ≤ number
-    → above number (all_shown (drop 1 us)) ≡ above number (all_shown us)
+    → above number (unit_values (drop 1 us)) ≡ above number (unit_values us)
 first_dropped number [] u e le = absurd cc
 first_dropped number (v ∷ us) u e le =
     let same : v ≡ u = cc in
@@ -86,29 +86,29 @@ first_dropped number (v ∷ us) u e le =
     let not_above : nat_lt number v.0 ≡ false = grind (arith, nat_tests) in
     rw not_above refl
 
-pub rest_rises : (us : List Stored) → Rises (all_shown us) → Rises (all_shown (drop 1 us))
+pub rest_rises : (us : List Stored) → Rises (unit_values us) → Rises (unit_values (drop 1 us))
 rest_rises [] h = h
-rest_rises (u ∷ us) h = Rises-tail (shown u) (all_shown us) h
+rest_rises (u ∷ us) h = Rises-tail (unit_value u) (unit_values us) h
 
-pub first_kept : (number : ℕ) (us : List Stored) (u : Stored) → slice_get us 0 ≡ Some u → number < u.0 → Rises (all_shown us)
-    → above number (all_shown us) ≡ all_shown us
+pub first_kept : (number : ℕ) (us : List Stored) (u : Stored) → slice_get us 0 ≡ Some u → number < u.0 → Rises (unit_values us)
+    → above number (unit_values us) ≡ unit_values us
 first_kept number [] u e lt h = refl
 first_kept number (v ∷ us) u e lt h =
     let same : v ≡ u = cc in
     let greater : number < v.0 = rw same lt in
-    above-all number (shown v ∷ all_shown us) (all_greater number (shown v) (all_shown us) h greater)
+    above-all number (unit_value v ∷ unit_values us) (all_greater number (unit_value v) (unit_values us) h greater)
 
 -- One more number is written.
 pub one_renumbered : (place number : ℕ) (us : List Stored) (u w : Stored) → slice_get us place ≡ Some u
-    → shown w ≡ record { number = number; octets = u.1.items }
-    → take (suc place) (all_shown (slice_set us place w)) ++ renumbered (number + 1) (octets_of (drop (suc place) (all_shown (slice_set us place w))))
-    ≡ take place (all_shown us) ++ renumbered number (octets_of (drop place (all_shown us)))
+    → unit_value w ≡ record { number = number; octets = u.1.items }
+    → take (suc place) (unit_values (slice_set us place w)) ++ renumber_units (number + 1) (octets_of (drop (suc place) (unit_values (slice_set us place w))))
+    ≡ take place (unit_values us) ++ renumber_units number (octets_of (drop place (unit_values us)))
 one_renumbered place number [] u w e is = absurd cc
 one_renumbered zero number (v ∷ us) u w e is =
     let same : v ≡ u = cc in
     rw (is, same) refl
-one_renumbered (suc place) number (v ∷ us) u w e is = ap (λ vs. shown v ∷ vs) (one_renumbered place number us u w e is)
+one_renumbered (suc place) number (v ∷ us) u w e is = ap (λ vs. unit_value v ∷ vs) (one_renumbered place number us u w e is)
 
-pub none_left : (number : ℕ) (us : List Stored) → slice_get us 0 ≡ None → all_shown us ≡ above number (all_shown us)
+pub none_left : (number : ℕ) (us : List Stored) → slice_get us 0 ≡ None → unit_values us ≡ above number (unit_values us)
 none_left number [] e = refl
 none_left number (u ∷ us) e = absurd cc

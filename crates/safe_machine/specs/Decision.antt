@@ -59,8 +59,8 @@ abbrev pub cts_fits : View → Pdu → ℕ → Bool
 cts_fits v p now = nat_le (cts_step v p) (now - v.confirmed_at)
 
 -- The decision if both tests pass: first the number, then the timestamp.
-abbrev pub tested : View → Pdu → ℕ → Decision → Decision
-tested v p now decision =
+abbrev pub decide_by_tests : View → Pdu → ℕ → Decision → Decision
+decide_by_tests v p now decision =
     if cs_fits v p then (if cts_fits v p now then decision else Leaves ProtocolError ConfirmedTimestamp) else Leaves ProtocolError ConfirmedNumber
 
 -- The decision of a server before a connection, by PDU type.
@@ -70,29 +70,29 @@ in_down p _ = Drops NotOpened
 
 -- The decision of a client in Start, by PDU type.
 abbrev pub as_client : View → Pdu → ℕ → Kind → Decision
-as_client v p now ConnResp = if is_ours p.body then tested v p now Connects else Leaves WrongVersion Unspecified
+as_client v p now ConnResp = if is_ours p.body then decide_by_tests v p now Connects else Leaves WrongVersion Unspecified
 as_client v p now _ = Leaves UnexpectedPdu Unspecified
 
 -- The decision on a RetrReq that fails the number test: dropped if it confirms less than before, otherwise the end disconnects.
-abbrev pub unconfirming : View → Pdu → Decision
-unconfirming v p = if nat_le 0x8000_0000 (cs_step v p) then Drops Below else Leaves RetransmissionImpossible Unspecified
+abbrev pub decide_unconfirming_request : View → Pdu → Decision
+decide_unconfirming_request v p = if nat_le 0x8000_0000 (cs_step v p) then Drops Below else Leaves RetransmissionImpossible Unspecified
 
 -- The decision on a RetrReq, by its distance: handled before, failing the number test, the next PDU, or early.
-abbrev pub answering : View → Pdu → ℕ → ℕ → Decision
-answering v p now d =
+abbrev pub decide_request : View → Pdu → ℕ → ℕ → Decision
+decide_request v p now d =
     if nat_le (v.expected + d) v.answered then Drops Answered
     else if cs_fits v p
     then (if (d == 0) && in_turn v.connection
     then (if cts_fits v p now then AnswersNext else Leaves ProtocolError ConfirmedTimestamp)
     else AnswersEarly)
-    else unconfirming v p
+    else decide_unconfirming_request v p
 
 -- The decision that a cell of the table leads to.
 abbrev pub by_cell : View → Pdu → ℕ → ℕ → Cell → Decision
-by_cell v p now d (Take connection) = tested v p now (Takes connection)
+by_cell v p now d (Take connection) = decide_by_tests v p now (Takes connection)
 by_cell v p now d Ask = Asks
-by_cell v p now d Answer = answering v p now d
-by_cell v p now d Resume = tested v p now Resumes
+by_cell v p now d Answer = decide_request v p now d
+by_cell v p now d Resume = decide_by_tests v p now Resumes
 by_cell v p now d (Refuse reason) = Leaves reason Unspecified
 by_cell v p now d Skip = Drops Request
 

@@ -8,7 +8,7 @@ use Rattle.safe_machine.specs.Made.{Made, units}
 use Rattle.safe_machine.specs.State.{State, unconfirmed}
 use Rattle.safe_machine.specs.Decision.{is_stranger}
 use Rattle.safe_machine.specs.Step.{guard, may_send}
-use Rattle.safe_machine.specs.World.{World, Event, start, happens, run, Genuine, GenuineEvent, Timely, TimelyEvent}
+use Rattle.safe_machine.specs.World.{World, Event, start, apply_event, run, Genuine, GenuineEvent, Timely, TimelyEvent}
 use Rattle.safe_machine.specs.World.Side.{Il, Fe}
 use Rattle.safe_machine.specs.World.Event.{Open, Close, Guard, Tick, Arrive}
 
@@ -57,7 +57,7 @@ heard_by_fe _ n = n
 -- Every event of a list is in order, with the arrivals counted.
 abbrev pub InOrder : (il fe : ℕ) → List Event → World → Type 0
 InOrder il fe [] w = Unit {0}
-InOrder il fe (e ∷ es) w = InOrderEvent il fe w e × InOrder (heard_by_il e il) (heard_by_fe e fe) es (happens w e)
+InOrder il fe (e ∷ es) w = InOrderEvent il fe w e × InOrder (heard_by_il e il) (heard_by_fe e fe) es (apply_event w e)
 
 -- How many PDUs have arrived at the interlocking after a list of events, if n had before.
 abbrev pub all_heard_by_il : List Event → ℕ → ℕ
@@ -141,7 +141,7 @@ StaysLaw =
 -- A list with one more event at its end.
 pub record OneMore (es : List Event) (e : Event) : Type 0 where
   -- It leads to where the list leads, and one event further.
-  pub leads : (w : World) → run (es ++ e ∷ []) w ≡ happens (run es w) e
+  pub leads : (w : World) → run (es ++ e ∷ []) w ≡ apply_event (run es w) e
   -- It is genuine if the list and the event are.
   pub genuine : (w : World) → Genuine es w → GenuineEvent (run es w) e → Genuine (es ++ e ∷ []) w
   -- It is timely if the list and the event are.

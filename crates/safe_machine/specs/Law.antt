@@ -8,7 +8,7 @@ use Rattle.safe_machine.specs.declared.ConnectionState.TheVariants.{Down, Start}
 use Rattle.safe_machine.specs.State.{State, unconfirmed}
 use Rattle.safe_machine.specs.Step.{arrive}
 use Rattle.safe_machine.specs.World.Event.{Arrive}
-use Rattle.safe_machine.specs.World.{happens, Timely, World, Served, Event, start, run, Genuine, Among}
+use Rattle.safe_machine.specs.World.{apply_event, Timely, World, Served, Event, start, run, Genuine, Among}
 
 -- The incarnations of the interlocking, the latest first, without the end before the first opening.
 abbrev pub il_incarnations : World → List State
@@ -154,7 +154,7 @@ FreshEvent w _ = Unit {0}
 -- This for every event of a list.
 abbrev pub AllFresh : List Event → World → Type 0
 AllFresh [] w = Unit {0}
-AllFresh (e ∷ es) w = FreshEvent w e × AllFresh es (happens w e)
+AllFresh (e ∷ es) w = FreshEvent w e × AllFresh es (apply_event w e)
 
 -- Over every genuine, timely list, each unit comes in a fresh PDU.
 abbrev pub FreshLaw : Type 0

@@ -36,10 +36,10 @@ abbrev pub leaving_body : Reason → Detail → List ℕ
 leaving_body reason detail = little_bytes 2 (detail_number detail) ++ little_bytes 2 (reason_number reason)
 
 -- Data and RetrData carry a unit.
-abbrev pub carries : Kind → Bool
-carries Data = true
-carries RetrData = true
-carries _ = false
+abbrev pub is_carrier_kind : Kind → Bool
+is_carrier_kind Data = true
+is_carrier_kind RetrData = true
+is_carrier_kind _ = false
 
 -- The unit that a PDU sends for the first time.
 abbrev pub first_sent : Kind → List ℕ → List (List ℕ)

@@ -13,7 +13,7 @@ use Rattle.safe_machine.specs.Made.{Made, units}
 use Rattle.safe_machine.specs.Settings.{Settings, is_legal}
 use Rattle.safe_machine.specs.State.{State, unconfirmed}
 use Rattle.safe_machine.specs.Decision.{is_stranger, is_ours}
-use Rattle.safe_machine.specs.Step.{guard, arrive, leave, opened, tick, send, may_send}
+use Rattle.safe_machine.specs.Step.{guard, arrive, leave, new_state, tick, send, may_send}
 use Rattle.safe_machine.specs.Ring.{by_carriers}
 use Rattle.safe_machine.specs.Connections.{is_connected}
 
@@ -39,9 +39,9 @@ move (Sends unit now) s = send unit now s
 move (Leaves reason detail now) s = leave reason detail now s
 
 -- The state after a list of moves, in order.
-abbrev pub moved : List Move → State → State
-moved [] s = s
-moved (m ∷ ms) s = moved ms (move m s)
+abbrev pub make_moves : List Move → State → State
+make_moves [] s = s
+make_moves (m ∷ ms) s = make_moves ms (move m s)
 
 -- The units that a move sends: one if it is a send that is allowed.
 abbrev pub sent_by : Move → State → List (List ℕ)
@@ -118,13 +118,13 @@ MovesLaw = (m : Move) (s : State) → OneMove m s
 
 -- Every state reached from an opening.
 abbrev pub ReachedLaw : Type 0
-ReachedLaw = (settings : Settings) (first now : ℕ) (ms : List Move) → ReachedState (moved ms (opened settings first now))
+ReachedLaw = (settings : Settings) (first now : ℕ) (ms : List Move) → ReachedState (make_moves ms (new_state settings first now))
 
 -- Every PDU made has an encoding if settings and moves are sound.
 abbrev pub TextsLaw : Type 0
 TextsLaw =
     (settings : Settings) (first now : ℕ) (ms : List Move) → is_legal settings ≡ true → AreSoundMoves ms →
-    HaveTexts (moved ms (opened settings first now)).made
+    HaveTexts (make_moves ms (new_state settings first now)).made
 
 -- No move changes the settings.
 abbrev pub SettingsLaw : Type 0
@@ -154,7 +154,7 @@ RequestsLaw = (m : Move) (s : State) → s.connection ≡ Down → (move m s).co
 
 -- Every PDU made has the identifiers of its end and of the peer.
 abbrev pub IdentifiedLaw : Type 0
-IdentifiedLaw = (settings : Settings) (first now : ℕ) (ms : List Move) → AreFrom settings (moved ms (opened settings first now)).made
+IdentifiedLaw = (settings : Settings) (first now : ℕ) (ms : List Move) → AreFrom settings (make_moves ms (new_state settings first now)).made
 
 -- The states that can follow a state: the same, Closed, Start after Down, Up after Start, and any connected state after a connected one.
 abbrev pub GoesOn : (before after : ConnectionState) → Type 0

@@ -4,11 +4,11 @@ use Rattle.safe_pdu.specs.Bodies.{IsBody}
 use Rattle.safe_pdu.specs.SafeText.{HasNumbers}
 use Rattle.safe_machine.specs.Settings.{Settings, is_legal}
 use Rattle.safe_machine.specs.State.{State, unconfirmed}
-use Rattle.safe_machine.specs.Moves.{Move, move, moved, IsUnitSized}
+use Rattle.safe_machine.specs.Moves.{Move, move, make_moves, IsUnitSized}
 use Rattle.safe_machine.specs.Moves.Move.{Hears, Sends}
 use Rattle.safe_machine.specs.View.{View, StandsFor}
 use Rattle.octets.specs.declared.limits.TheConstants.{WINDOW_MAX}
-use Rattle.safe_machine.specs.Step.{may_send, opened, send}
+use Rattle.safe_machine.specs.Step.{may_send, new_state, send}
 
 -- A PDU that arrives has numbers of 32 bits and a body that fits its type, and a unit to send has the size of a unit.
 abbrev pub IsRead : Move → Type 0
@@ -35,7 +35,7 @@ pub record IsReached (v : View) : Type 0 where
   -- The moves are well formed.
   pub read : AreRead moves
   -- What is kept is that of the state after the moves.
-  pub stands : StandsFor v (moved moves (opened settings first began))
+  pub stands : StandsFor v (make_moves moves (new_state settings first began))
 
 -- How much a move adds to a state with few unconfirmed units.
 pub record FewMade (m : Move) (s : State) : Type 0 where
@@ -50,4 +50,4 @@ pub record FewMade (m : Move) (s : State) : Type 0 where
 abbrev pub FewLaw : Type 0
 FewLaw =
     (settings : Settings) (first now : ℕ) (ms : List Move) (m : Move) → is_legal settings ≡ true → AreRead ms → IsRead m →
-    FewMade m (moved ms (opened settings first now))
+    FewMade m (make_moves ms (new_state settings first now))

@@ -2,7 +2,7 @@
 use Rattle.std.specs.Prelude.{◌≡◌, ℕ, suc, ◌+◌, ◌-◌, Bool, true, false, List, [], ◌∷◌, ◌++◌, length, take, drop, if◌then◌else◌}
 use Rattle.safe_pdu.specs.declared.Kind.{Kind}
 use Rattle.safe_pdu.specs.declared.Kind.TheVariants.{RetrResp, Data, RetrData}
-use Rattle.safe_machine.specs.retrans.Units.{Numbered, above, renumbered, octets_of}
+use Rattle.safe_machine.specs.retrans.Units.{Numbered, above, renumber_units, octets_of}
 use Rattle.safe_machine.specs.Made.{Made}
 use Rattle.safe_machine.specs.State.{State, unconfirmed}
 
@@ -28,13 +28,13 @@ is_resent RetrData = true
 is_resent _ = false
 
 -- How many RetrData a list begins with.
-abbrev pub resent : List Made → ℕ
-resent [] = 0
-resent (m ∷ ms) = if is_resent m.pdu.kind then suc (resent ms) else 0
+abbrev pub count_resent : List Made → ℕ
+count_resent [] = 0
+count_resent (m ∷ ms) = if is_resent m.pdu.kind then suc (count_resent ms) else 0
 
 -- The last n units, carried again by the PDUs from this index on.
 abbrev pub carried_again : ℕ → ℕ → List Numbered → List Numbered
-carried_again n index cs = take (length cs - n) cs ++ renumbered index (octets_of (drop (length cs - n) cs))
+carried_again n index cs = take (length cs - n) cs ++ renumber_units index (octets_of (drop (length cs - n) cs))
 
 -- A Data carries a new unit. The n RetrData directly after a RetrResp carry the last n units again, in order.
 abbrev pub after_carrier : Kind → List ℕ → ℕ → ℕ → List Numbered → List Numbered
@@ -45,7 +45,7 @@ after_carrier _ body index n cs = cs
 -- All units of a list of PDUs, each with the index of the last PDU that carries it.
 abbrev pub carriers_from : ℕ → List Numbered → List Made → List Numbered
 carriers_from index cs [] = cs
-carriers_from index cs (m ∷ ms) = carriers_from (index + 1) (after_carrier m.pdu.kind m.pdu.body index (resent ms) cs) ms
+carriers_from index cs (m ∷ ms) = carriers_from (index + 1) (after_carrier m.pdu.kind m.pdu.body index (count_resent ms) cs) ms
 
 -- All units of an end, each with the index of its carrier.
 abbrev pub carriers : List Made → List Numbered

@@ -8,7 +8,7 @@ use Rattle.safe_machine.specs.Settings.{Settings}
 use Rattle.safe_machine.specs.State.{State, unconfirmed}
 pub use Rattle.safe_machine.specs.Connections.{is_live, is_connected}
 use Rattle.safe_machine.specs.View.{View, kept_of}
-use Rattle.safe_machine.specs.Turns.{Turn, arrives, guards, hands, is_open, leaves, opens, sends, ticks}
+use Rattle.safe_machine.specs.Turns.{Turn, arrival_turn, guard_turn, handed_units, is_open, leave_turn, opening_turn, send_turn, tick_turn}
 pub use Rattle.safe_machine.specs.Made.{last_time}
 
 -- The history of an end that keeps this view, and has made these PDUs and taken these units. What the view has of its own PDUs is derived from them.
@@ -35,24 +35,24 @@ abbrev pub follow : Turn → List (List ℕ) → State → State
 follow t units s = history t.left (s.made ++ t.made) (s.taken ++ units)
 
 -- The history of an end that was just opened.
-abbrev pub opened : Settings → ℕ → ℕ → State
-opened settings first now = history (opens settings first now).left (opens settings first now).made []
+abbrev pub new_state : Settings → ℕ → ℕ → State
+new_state settings first now = history (opening_turn settings first now).left (opening_turn settings first now).made []
 
 -- The history after the end disconnects: a DiscReq if there is a connection, and Closed.
 abbrev pub leave : Reason → Detail → ℕ → State → State
-leave reason detail now s = follow (leaves reason detail now (kept_of s)) [] s
+leave reason detail now s = follow (leave_turn reason detail now (kept_of s)) [] s
 
 -- The history after the timeout check.
 abbrev pub guard : ℕ → State → State
-guard now s = follow (guards now (kept_of s)) [] s
+guard now s = follow (guard_turn now (kept_of s)) [] s
 
 -- The history after the arrival of a PDU.
 abbrev pub arrive : Pdu → ℕ → State → State
-arrive p now s = follow (arrives p now (kept_of s)) (hands p now (kept_of s)) s
+arrive p now s = follow (arrival_turn p now (kept_of s)) (handed_units p now (kept_of s)) s
 
 -- The history after a tick.
 abbrev pub tick : ℕ → State → State
-tick now s = follow (ticks now (kept_of s)) [] s
+tick now s = follow (tick_turn now (kept_of s)) [] s
 
 -- A unit may be sent.
 abbrev pub may_send : State → Bool
@@ -60,4 +60,4 @@ may_send s = is_open s.connection (length (unconfirmed s)) s.window
 
 -- The history after a send.
 abbrev pub send : List ℕ → ℕ → State → State
-send unit now s = follow (sends unit now (kept_of s)) [] s
+send unit now s = follow (send_turn unit now (kept_of s)) [] s

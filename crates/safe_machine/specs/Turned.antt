@@ -6,22 +6,22 @@ use Rattle.safe_machine.specs.Moves.{Move, move}
 use Rattle.safe_machine.specs.Moves.Move.{Guards, Hears, Ticks, Sends, Leaves}
 use Rattle.safe_machine.specs.Settings.{Settings}
 use Rattle.safe_machine.specs.State.{State, unconfirmed}
-use Rattle.safe_machine.specs.Step.{may_send, opened}
-use Rattle.safe_machine.specs.Turns.{Turn, arrives, guards, hands, has_room, leaves, opens, sends, ticks}
+use Rattle.safe_machine.specs.Step.{may_send, new_state}
+use Rattle.safe_machine.specs.Turns.{Turn, arrival_turn, guard_turn, handed_units, has_room, leave_turn, opening_turn, send_turn, tick_turn}
 use Rattle.safe_machine.specs.View.{View, StandsFor}
 
 -- The turn of a move.
 abbrev pub turn : Move → View → Turn
-turn (Guards now) v = guards now v
-turn (Hears p now) v = arrives p now v
-turn (Ticks now) v = ticks now v
-turn (Sends unit now) v = sends unit now v
-turn (Leaves reason detail now) v = leaves reason detail now v
+turn (Guards now) v = guard_turn now v
+turn (Hears p now) v = arrival_turn p now v
+turn (Ticks now) v = tick_turn now v
+turn (Sends unit now) v = send_turn unit now v
+turn (Leaves reason detail now) v = leave_turn reason detail now v
 
 -- The units that a move hands up.
-abbrev pub handed : Move → View → List (List ℕ)
-handed (Hears p now) v = hands p now v
-handed _ v = []
+abbrev pub units_of_move : Move → View → List (List ℕ)
+units_of_move (Hears p now) v = handed_units p now v
+units_of_move _ v = []
 
 -- If units are sent and taken in order, the PDU last confirmed was made.
 abbrev pub HasMade : View → Type 0
@@ -43,7 +43,7 @@ pub record Turned (t : Turn) (units : List (List ℕ)) (s u : State) : Type 0 wh
 
 -- Every move, in every state, takes the turn of what is kept.
 abbrev pub TurnsLaw : Type 0
-TurnsLaw = (m : Move) (v : View) (s : State) → MaySend m v → StandsFor v s → Turned (turn m v) (handed m v) s (move m s)
+TurnsLaw = (m : Move) (v : View) (s : State) → MaySend m v → StandsFor v s → Turned (turn m v) (units_of_move m v) s (move m s)
 
 -- Every move keeps that the PDU last confirmed was made.
 abbrev pub MadeLaw : Type 0
@@ -52,9 +52,9 @@ MadeLaw = (m : Move) (v : View) (s : State) → HasMade v → StandsFor v s → 
 -- The history after an opening.
 pub record OpenedTurn (settings : Settings) (first now : ℕ) : Type 0 where
   -- What the opening left is what is kept of the history.
-  pub stands : StandsFor (opens settings first now).left (opened settings first now)
+  pub stands : StandsFor (opening_turn settings first now).left (new_state settings first now)
   -- The history has the PDUs that the opening made.
-  pub made : (opened settings first now).made ≡ (opens settings first now).made
+  pub made : (new_state settings first now).made ≡ (opening_turn settings first now).made
 
 -- Every opening.
 abbrev pub OpeningLaw : Type 0

@@ -8,8 +8,8 @@ use Rattle.safe_machine.specs.Made.{Made}
 use Rattle.safe_machine.specs.Settings.{Settings, is_legal}
 use Rattle.safe_machine.specs.State.{State}
 use Rattle.safe_machine.specs.Decision.{is_stranger}
-use Rattle.safe_machine.specs.Step.{arrive, guard, history, leave, opened, send, tick}
-use Rattle.safe_machine.specs.Turns.{unsaid}
+use Rattle.safe_machine.specs.Step.{arrive, guard, history, leave, new_state, send, tick}
+use Rattle.safe_machine.specs.Turns.{new_view}
 use Rattle.safe_pdu.specs.declared.reasons.Reason.{Reason}
 use Rattle.safe_pdu.specs.declared.reasons.Detail.{Detail}
 
@@ -48,17 +48,17 @@ pub record World : Type 0 where
   pub clock_fe : ℕ
 
 -- An end before its first opening.
-abbrev pub unopened : State
-unopened =
-    history (unsaid (record { client = true; own = 0; peer = 0; n_sendmax = 1; t_max = 0; t_h = 0; mwa = 1; pdu_limit = 0; rule = record { length = Eight; initial_value = [] } }) 0 0 Closed) [] []
+abbrev pub unopened_state : State
+unopened_state =
+    history (new_view (record { client = true; own = 0; peer = 0; n_sendmax = 1; t_max = 0; t_h = 0; mwa = 1; pdu_limit = 0; rule = record { length = Eight; initial_value = [] } }) 0 0 Closed) [] []
 
 -- Nothing is opened yet.
 abbrev pub start : World
 start =
     record {
-      il = unopened;
+      il = unopened_state;
       il_before = [];
-      fe = unopened;
+      fe = unopened_state;
       joined = None;
       fe_before = [];
       dead_il = 0;
@@ -90,7 +90,7 @@ as_role client s = record s { client = client }
 abbrev pub open_il : Settings → ℕ → ℕ → World → World
 open_il settings first now w =
     record w {
-      il = opened (as_role true settings) first now;
+      il = new_state (as_role true settings) first now;
       il_before = w.il ∷ w.il_before;
       dead_il = 0;
       dead_fe = length w.fe.made;
@@ -100,7 +100,7 @@ open_il settings first now w =
 abbrev pub open_fe : Settings → ℕ → ℕ → World → World
 open_fe settings first now w =
     record w {
-      fe = opened (as_role false settings) first now;
+      fe = new_state (as_role false settings) first now;
       joined = None;
       fe_before = record { machine = w.fe; joined = w.joined } ∷ w.fe_before;
       dead_il = length w.il.made;
@@ -112,13 +112,13 @@ abbrev pub with_il : State → World → World
 with_il s w = record w { il = s }
 
 -- A field element that goes from Down to Start has accepted the ConnReq of the present interlocking.
-abbrev pub joins : ConnectionState → ConnectionState → Bool
-joins Down Start = true
-joins _ _ = false
+abbrev pub is_joining : ConnectionState → ConnectionState → Bool
+is_joining Down Start = true
+is_joining _ _ = false
 
 -- The field element has moved to this state.
 abbrev pub with_fe : State → World → World
-with_fe s w = record w { fe = s; joined = if joins w.fe.connection s.connection then Some (length w.il_before) else w.joined }
+with_fe s w = record w { fe = s; joined = if is_joining w.fe.connection s.connection then Some (length w.il_before) else w.joined }
 
 -- The end at which an event happens.
 abbrev pub event_end : Event → Side
@@ -144,36 +144,36 @@ at_end Il il fe = il
 at_end Fe il fe = fe
 
 -- The machines after an event.
-abbrev pub changed : World → Event → World
-changed w (Open Il settings first now) = if is_legal settings then open_il settings first now w else w
-changed w (Open Fe settings first now) = if is_legal settings then open_fe settings first now w else w
-changed w (Send Il unit now) = with_il (send unit now w.il) w
-changed w (Send Fe unit now) = with_fe (send unit now w.fe) w
-changed w (Close Il reason detail now) = with_il (leave reason detail now w.il) w
-changed w (Close Fe reason detail now) = with_fe (leave reason detail now w.fe) w
-changed w (Guard Il now) = with_il (guard now w.il) w
-changed w (Guard Fe now) = with_fe (guard now w.fe) w
-changed w (Tick Il now) = with_il (tick now w.il) w
-changed w (Tick Fe now) = with_fe (tick now w.fe) w
-changed w (Arrive Il p now) = with_il (arrive p now w.il) w
-changed w (Arrive Fe p now) = with_fe (arrive p now w.fe) w
+abbrev pub change_world : World → Event → World
+change_world w (Open Il settings first now) = if is_legal settings then open_il settings first now w else w
+change_world w (Open Fe settings first now) = if is_legal settings then open_fe settings first now w else w
+change_world w (Send Il unit now) = with_il (send unit now w.il) w
+change_world w (Send Fe unit now) = with_fe (send unit now w.fe) w
+change_world w (Close Il reason detail now) = with_il (leave reason detail now w.il) w
+change_world w (Close Fe reason detail now) = with_fe (leave reason detail now w.fe) w
+change_world w (Guard Il now) = with_il (guard now w.il) w
+change_world w (Guard Fe now) = with_fe (guard now w.fe) w
+change_world w (Tick Il now) = with_il (tick now w.il) w
+change_world w (Tick Fe now) = with_fe (tick now w.fe) w
+change_world w (Arrive Il p now) = with_il (arrive p now w.il) w
+change_world w (Arrive Fe p now) = with_fe (arrive p now w.fe) w
 
 -- The world after an event, with the event's time as the last one of its end.
-abbrev pub clocked : Event → World → World → World
-clocked e before w =
+abbrev pub set_clock : Event → World → World → World
+set_clock e before w =
     record w {
       clock_il = at_end (event_end e) (event_time e) before.clock_il;
       clock_fe = at_end (event_end e) before.clock_fe (event_time e);
     }
 
 -- The world after an event.
-abbrev pub happens : World → Event → World
-happens w e = clocked e w (changed w e)
+abbrev pub apply_event : World → Event → World
+apply_event w e = set_clock e w (change_world w e)
 
 -- The world after a list of events.
 abbrev pub run : List Event → World → World
 run [] w = w
-run (e ∷ es) w = run es (happens w e)
+run (e ∷ es) w = run es (apply_event w e)
 
 -- The PDU is one of these.
 abbrev pub Among : Pdu → List Made → Type 0
@@ -193,7 +193,7 @@ GenuineEvent w _ = Unit {0}
 -- Every event of a list is genuine.
 abbrev pub Genuine : List Event → World → Type 0
 Genuine [] w = Unit {0}
-Genuine (e ∷ es) w = GenuineEvent w e × Genuine es (happens w e)
+Genuine (e ∷ es) w = GenuineEvent w e × Genuine es (apply_event w e)
 
 -- The clock of the event's end does not go back.
 abbrev pub TimelyEvent : World → Event → Type 0
@@ -202,4 +202,4 @@ TimelyEvent w e = at_end (event_end e) w.clock_il w.clock_fe ≤ event_time e
 -- Every event of a list is timely.
 abbrev pub Timely : List Event → World → Type 0
 Timely [] w = Unit {0}
-Timely (e ∷ es) w = TimelyEvent w e × Timely es (happens w e)
+Timely (e ∷ es) w = TimelyEvent w e × Timely es (apply_event w e)

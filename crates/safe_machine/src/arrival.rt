@@ -4,27 +4,27 @@ ghost use Rattle.std.specs.Prelude.{◌≡◌, ◌+◌, ◌<◌, ◌≤◌, ◌^
 ghost use Rattle.std.specs.List.{FoldsTo};
 ghost use Rattle.safe_pdu.specs.Pdu.{Pdu, pdu_of};
 ghost use Rattle.safe_pdu.specs.Bodies.{IsBody};
-ghost use Rattle.safe_machine.specs.Decision.{answer_of, decide, cs_step, cts_step, distance, answering, as_client, by_cell, by_connection, by_table, in_down};
-ghost use Rattle.safe_machine.specs.Decision.{is_ours, is_foreign, tested, cs_fits, cts_fits, unconfirming};
+ghost use Rattle.safe_machine.specs.Decision.{answer_of, decide, cs_step, cts_step, distance, decide_request, as_client, by_cell, by_connection, by_table, in_down};
+ghost use Rattle.safe_machine.specs.Decision.{is_ours, is_foreign, decide_by_tests, cs_fits, cts_fits, decide_unconfirming_request};
 ghost use Rattle.safe_machine.specs.Table.{cell, request_row, run_row, start_row, up_row};
 ghost use Rattle.safe_machine.specs.Numbers.{ahead};
-ghost use Rattle.safe_machine.specs.Octets.{heard_answer, hears, hears_units};
+ghost use Rattle.safe_machine.specs.Octets.{decoded_answer, octets_turn, octets_units};
 ghost use Rattle.safe_machine.specs.Properties.{HandsIf, IsNextData, IsRecent, OnlyConfirms, index_step};
 ghost use Rattle.safe_machine.specs.Reached.{IsReached};
 ghost use Rattle.safe_machine.specs.inner.Sound.{Sound};
 ghost use Rattle.safe_machine.specs.declared.ConnectionState.TheVariants.{Up};
 ghost use Rattle.safe_pdu.specs.Places.{safe_seen};
-ghost use Rattle.safe_machine.specs.Turns.{Out, arrive_answer, arrives, carries_out, guards, handed_by, hands, responds};
+ghost use Rattle.safe_machine.specs.Turns.{Out, arrive_answer, arrival_turn, decision_turn, guard_turn, handed_by, handed_units, response_turn};
 ghost use Rattle.safe_machine.specs.inner.Allows.{Allows};
 
-use super::endpoint::{Endpoint, VERSION, low};
+use super::endpoint::{MachineState, VERSION, low};
 use super::{ConnectionState, Detail, DropCause, PduOut, Reason, Role, Step, UnitIn};
 use octets::Milliseconds;
 use octets::limits::REACH;
 use safe_pdu::{Kind, SafeFault, SafePdu, decode, read_opening};
 use std::alloc::Allocator;
 
-impl<A: Allocator> Endpoint<A> {
+impl<A: Allocator> MachineState<A> {
     /// Checks the timeouts and processes received bytes. `octets` may contain any bytes.
     pub(crate) fn arrive_octets<O: PduOut, U: UnitIn>(
         &mut self,
@@ -37,15 +37,15 @@ impl<A: Allocator> Endpoint<A> {
         requires reach { self.old.expected < 2 ^ 62 }
         requires ready { U.ready units.old }
         // The timeout check comes first. Then a PDU has the effect of the decision on it, and bytes that are not a
-        // PDU have none (`hears`).
-        ensures left { self.new ≡ (hears octets.now now self.old).left }
-        // `arrive_octets` hands out the PDUs that the timeout check and the received PDU cause, in order (`hears`).
-        ensures made { Out O.makes self.old.settings.rule out.old (hears octets.now now self.old) out.new }
-        // `arrive_octets` delivers the unit of a Data or RetrData that it takes, and no other unit (`hears_units`).
-        ensures taken { FoldsTo U.takes units.old (hears_units octets.now now self.old) units.new }
+        // PDU have none (`octets_turn`).
+        ensures left { self.new ≡ (octets_turn octets.now now self.old).left }
+        // `arrive_octets` hands out the PDUs that the timeout check and the received PDU cause, in order (`octets_turn`).
+        ensures made { Out O.makes self.old.settings.rule out.old (octets_turn octets.now now self.old) out.new }
+        // `arrive_octets` delivers the unit of a Data or RetrData that it takes, and no other unit (`octets_units`).
+        ensures taken { FoldsTo U.takes units.old (octets_units octets.now now self.old) units.new }
         // `arrive_octets` returns `Left` if the timeout check disconnects, otherwise the fault of the bytes or what
-        // the decision on the PDU is reported as (`heard_answer`).
-        ensures answer { result ≡ heard_answer (safe_seen self.old.settings.rule octets.now) now self.old }
+        // the decision on the PDU is reported as (`decoded_answer`).
+        ensures answer { result ≡ decoded_answer (safe_seen self.old.settings.rule octets.now) now self.old }
         // After an arrival, the invariant of a machine holds again.
         ensures reached { IsReached self.new }
         // The expected index rises by at most 321 (`index_step`).
@@ -83,13 +83,13 @@ impl<A: Allocator> Endpoint<A> {
         requires reach { self.old.expected < 2 ^ 62 }
         requires ready { U.ready units.old }
         // `arrive` closes the end if the timeout check fails; otherwise the decision on the PDU is carried out
-        // (`arrives`).
-        ensures left { self.new ≡ (arrives (pdu_of pdu.now) now self.old).left }
-        // `arrive` hands out the DiscReq of the timeout check, or the PDUs of the decision (`arrives`).
-        ensures made { Out O.makes self.old.settings.rule out.old (arrives (pdu_of pdu.now) now self.old) out.new }
+        // (`arrival_turn`).
+        ensures left { self.new ≡ (arrival_turn (pdu_of pdu.now) now self.old).left }
+        // `arrive` hands out the DiscReq of the timeout check, or the PDUs of the decision (`arrival_turn`).
+        ensures made { Out O.makes self.old.settings.rule out.old (arrival_turn (pdu_of pdu.now) now self.old) out.new }
         // `arrive` delivers the unit of a Data or RetrData that it takes, unless the timeout check disconnects
-        // (`hands`).
-        ensures taken { FoldsTo U.takes units.old (hands (pdu_of pdu.now) now self.old) units.new }
+        // (`handed_units`).
+        ensures taken { FoldsTo U.takes units.old (handed_units (pdu_of pdu.now) now self.old) units.new }
         // `arrive` returns `Left` if the timeout check disconnects, otherwise what the decision is reported as
         // (`arrive_answer`).
         ensures answer { result ≡ arrive_answer (pdu_of pdu.now) now self.old }
@@ -115,10 +115,10 @@ impl<A: Allocator> Endpoint<A> {
         requires body { IsBody pdu.now.kind pdu.now.body.now }
         requires reach { self.old.expected < 2 ^ 62 }
         requires ready { U.ready units.old }
-        // After `respond`, the end keeps what the decision on the PDU leads to (`responds`).
-        ensures left { self.new ≡ (responds (pdu_of pdu.now) now self.old).left }
-        // `respond` hands out the PDUs of the decision, in order (`responds`).
-        ensures made { Out O.makes self.old.settings.rule out.old (responds (pdu_of pdu.now) now self.old) out.new }
+        // After `respond`, the end keeps what the decision on the PDU leads to (`response_turn`).
+        ensures left { self.new ≡ (response_turn (pdu_of pdu.now) now self.old).left }
+        // `respond` hands out the PDUs of the decision, in order (`response_turn`).
+        ensures made { Out O.makes self.old.settings.rule out.old (response_turn (pdu_of pdu.now) now self.old) out.new }
         // `respond` delivers the unit of the PDU if the decision is to take it (`handed_by`).
         ensures taken { FoldsTo U.takes units.old
             (handed_by (decide self.old (pdu_of pdu.now) now) (pdu_of pdu.now)) units.new }
@@ -238,7 +238,7 @@ impl<A: Allocator> Endpoint<A> {
         requires { self.now.expected < 2 ^ 62 }
         // A RetrReq handled before is dropped. One that fails the number test is dropped or refused. The next PDU
         // of an end in Up or RetrRun must also pass the timestamp test; any other is answered early (`answering`).
-        ensures { result ≡ answering self.now (pdu_of pdu.now) now distance }
+        ensures { result ≡ decide_request self.now (pdu_of pdu.now) now distance }
     {
         if self.expected + u64::from(distance) <= self.answered {
             return Decision::Drops(DropCause::Answered);
@@ -259,7 +259,7 @@ impl<A: Allocator> Endpoint<A> {
     fn unconfirming(&self, pdu: &SafePdu<'_>) -> Decision
         // The RetrReq is dropped if its step is 2^31 or more, so that it confirms less than before; otherwise the
         // end disconnects with RetransmissionImpossible (`unconfirming`).
-        ensures { result ≡ unconfirming self.now (pdu_of pdu.now) }
+        ensures { result ≡ decide_unconfirming_request self.now (pdu_of pdu.now) }
     {
         if self.cs_step(pdu) >= 0x8000_0000 {
             Decision::Drops(DropCause::Below)
@@ -272,7 +272,7 @@ impl<A: Allocator> Endpoint<A> {
     fn tested(&self, pdu: &SafePdu<'_>, now: Milliseconds, decision: Decision) -> Decision
         // The end disconnects with ConfirmedNumber if the number test fails, then with ConfirmedTimestamp if the
         // timestamp test fails; otherwise the decision stays (`tested`).
-        ensures { result ≡ tested self.now (pdu_of pdu.now) now decision }
+        ensures { result ≡ decide_by_tests self.now (pdu_of pdu.now) now decision }
     {
         if !self.cs_fits(pdu) {
             return Decision::Leaves(Reason::ProtocolError, Detail::ConfirmedNumber);
@@ -341,11 +341,11 @@ impl<A: Allocator> Endpoint<A> {
         requires reach { self.old.expected < 2 ^ 62 }
         requires allows { Allows self.old (pdu_of pdu.now) now decision }
         requires ready { U.ready units.old }
-        // After `carry_out`, the end keeps what the decision leads to (`carries_out`).
-        ensures left { self.new ≡ (carries_out (pdu_of pdu.now) now decision self.old).left }
-        // `carry_out` hands out the PDUs that the decision makes, in order (`carries_out`).
+        // After `carry_out`, the end keeps what the decision leads to (`decision_turn`).
+        ensures left { self.new ≡ (decision_turn (pdu_of pdu.now) now decision self.old).left }
+        // `carry_out` hands out the PDUs that the decision makes, in order (`decision_turn`).
         ensures made { Out O.makes self.old.settings.rule out.old
-            (carries_out (pdu_of pdu.now) now decision self.old) out.new }
+            (decision_turn (pdu_of pdu.now) now decision self.old) out.new }
         // `carry_out` delivers the unit of the PDU if the decision is to take it, otherwise nothing (`handed_by`).
         ensures taken { FoldsTo U.takes units.old (handed_by decision (pdu_of pdu.now)) units.new }
         // After `carry_out`, another unit can be delivered.
@@ -371,13 +371,13 @@ impl<A: Allocator> Endpoint<A> {
     #[inline(never)]
     fn arrive_fault<O: PduOut>(&mut self, fault: SafeFault, now: Milliseconds, out: &mut O) -> Step
         requires few { self.old.made < 2 ^ 40 }
-        // `arrive_fault` closes the end if the timeout check fails, and otherwise changes nothing (`guards`).
-        ensures left { self.new ≡ (guards now self.old).left }
-        // `arrive_fault` hands out a DiscReq if the timeout check fails, otherwise nothing (`guards`).
-        ensures made { Out O.makes self.old.settings.rule out.old (guards now self.old) out.new }
+        // `arrive_fault` closes the end if the timeout check fails, and otherwise changes nothing (`guard_turn`).
+        ensures left { self.new ≡ (guard_turn now self.old).left }
+        // `arrive_fault` hands out a DiscReq if the timeout check fails, otherwise nothing (`guard_turn`).
+        ensures made { Out O.makes self.old.settings.rule out.old (guard_turn now self.old) out.new }
         // `arrive_fault` returns `Left` if the timeout check disconnects, `Nothing` for a closed end, otherwise the
-        // fault as the drop cause (`heard_answer`).
-        ensures answer { result ≡ heard_answer (Err fault) now self.old }
+        // fault as the drop cause (`decoded_answer`).
+        ensures answer { result ≡ decoded_answer (Err fault) now self.old }
     {
         match self.overdue(now) {
             Some((reason, detail)) => {

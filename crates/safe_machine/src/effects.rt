@@ -6,30 +6,30 @@ ghost use Rattle.safe_machine.specs.retrans.Units.{octets_of};
 ghost use Rattle.std.specs.List.{FoldsTo};
 ghost use Rattle.safe_pdu.specs.Pdu.{pdu_of};
 ghost use Rattle.safe_pdu.specs.Bodies.{IsBody, window_of};
-ghost use Rattle.safe_machine.specs.Made.{carries, opening_body};
+ghost use Rattle.safe_machine.specs.Made.{is_carrier_kind, opening_body};
 ghost use Rattle.safe_machine.specs.Decision.{cs_step, cts_step, distance};
-ghost use Rattle.safe_machine.specs.Turns.{Out, accepts, answers_ahead, answers_early, answers_next, asks, connects, rejects, replies, resends, takes_next, takes_unit};
-ghost use Rattle.safe_machine.specs.Turns.{both_confirmed, carried, counted, next_made, passed, requested, resumes, units_confirmed, windowed};
+ghost use Rattle.safe_machine.specs.Turns.{Out, acceptance_turn, answer_ahead_turn, answer_early_turn, answer_next_turn, request_turn, connection_turn, rejection_turn, reply_turn, resend_turn, take_next_turn, take_unit_turn};
+ghost use Rattle.safe_machine.specs.Turns.{both_confirmed, carried_unit, count_pdu, next_made, move_past, mark_answered, resume, units_confirmed, with_window};
 ghost use Rattle.safe_machine.specs.View.{text_of};
 ghost use Rattle.safe_machine.specs.inner.Sound.{AllUnits};
 
-use super::endpoint::Endpoint;
+use super::endpoint::MachineState;
 use super::{ConnectionState, Detail, PduOut, Reason, UnitIn};
 use octets::Milliseconds;
 use safe_pdu::{Kind, SafePdu, read_opening};
 use std::alloc::Allocator;
 
-impl<A: Allocator> Endpoint<A> {
+impl<A: Allocator> MachineState<A> {
     /// Rejects a ConnReq with another version.
     #[cold]
     #[inline(never)]
     pub(crate) fn reject<O: PduOut>(&mut self, pdu: &SafePdu<'_>, now: Milliseconds, out: &mut O)
         requires few { self.old.made < 2 ^ 39 }
         requires reach { self.old.expected < 2 ^ 62 }
-        // `reject` passes the ConnReq, counts a DiscReq and closes the end (`rejects`).
-        ensures left { self.new ≡ (rejects (pdu_of pdu.now) now self.old).left }
-        // `reject` hands out a DiscReq with the reason WrongVersion (`rejects`).
-        ensures made { Out O.makes self.old.settings.rule out.old (rejects (pdu_of pdu.now) now self.old) out.new }
+        // `reject` passes the ConnReq, counts a DiscReq and closes the end (`rejection_turn`).
+        ensures left { self.new ≡ (rejection_turn (pdu_of pdu.now) now self.old).left }
+        // `reject` hands out a DiscReq with the reason WrongVersion (`rejection_turn`).
+        ensures made { Out O.makes self.old.settings.rule out.old (rejection_turn (pdu_of pdu.now) now self.old) out.new }
     {
         self.pass(pdu, 0);
         self.goodbye(Reason::WrongVersion, Detail::Unspecified, now, out);
@@ -46,10 +46,10 @@ impl<A: Allocator> Endpoint<A> {
         requires opening { IsBody Kind.ConnResp (opening_body self.old.settings.n_sendmax) }
         requires empty { self.old.ring ≡ [] }
         // `accept` takes over the peer's window, counts a ConnResp that is confirmed at once, and goes to Start
-        // (`accepts`).
-        ensures left { self.new ≡ (accepts (pdu_of pdu.now) now self.old).left }
-        // `accept` hands out a ConnResp with the own window (`accepts`).
-        ensures made { Out O.makes self.old.settings.rule out.old (accepts (pdu_of pdu.now) now self.old) out.new }
+        // (`acceptance_turn`).
+        ensures left { self.new ≡ (acceptance_turn (pdu_of pdu.now) now self.old).left }
+        // `accept` hands out a ConnResp with the own window (`acceptance_turn`).
+        ensures made { Out O.makes self.old.settings.rule out.old (acceptance_turn (pdu_of pdu.now) now self.old) out.new }
     {
         let index = self.made;
         self.pass(pdu, 0);
@@ -70,10 +70,10 @@ impl<A: Allocator> Endpoint<A> {
         requires number { cs_step self.old (pdu_of pdu.now) < self.old.made - self.old.confirmed }
         requires time { cts_step self.old (pdu_of pdu.now) ≤ now - self.old.confirmed_at }
         // `connect` moves both confirmations on, takes over the peer's window, counts a heartbeat and goes to Up
-        // (`connects`).
-        ensures left { self.new ≡ (connects (pdu_of pdu.now) now self.old).left }
-        // `connect` hands out a heartbeat (`connects`).
-        ensures made { Out O.makes self.old.settings.rule out.old (connects (pdu_of pdu.now) now self.old) out.new }
+        // (`connection_turn`).
+        ensures left { self.new ≡ (connection_turn (pdu_of pdu.now) now self.old).left }
+        // `connect` hands out a heartbeat (`connection_turn`).
+        ensures made { Out O.makes self.old.settings.rule out.old (connection_turn (pdu_of pdu.now) now self.old) out.new }
     {
         self.confirm_both(pdu, now);
         self.pass(pdu, 0);
@@ -98,14 +98,14 @@ impl<A: Allocator> Endpoint<A> {
         requires time { cts_step self.old (pdu_of pdu.now) ≤ now - self.old.confirmed_at }
         requires ready { U.ready units.old }
         // `take` moves both confirmations and the expected index on, and counts the unit, if the PDU carries one,
-        // and a heartbeat at the mwa-th (`takes_next`).
-        ensures left { self.new ≡ (takes_next connection (pdu_of pdu.now) now self.old).left }
+        // and a heartbeat at the mwa-th (`take_next_turn`).
+        ensures left { self.new ≡ (take_next_turn connection (pdu_of pdu.now) now self.old).left }
         // `take` hands out a heartbeat if the PDU carries the mwa-th unit since the last sending, otherwise nothing
-        // (`takes_next`).
+        // (`take_next_turn`).
         ensures made { Out O.makes self.old.settings.rule out.old
-            (takes_next connection (pdu_of pdu.now) now self.old) out.new }
-        // `take` delivers the unit of a Data or RetrData, and nothing for another type (`carried`).
-        ensures taken { FoldsTo U.takes units.old (carried (pdu_of pdu.now)) units.new }
+            (take_next_turn connection (pdu_of pdu.now) now self.old) out.new }
+        // `take` delivers the unit of a Data or RetrData, and nothing for another type (`carried_unit`).
+        ensures taken { FoldsTo U.takes units.old (carried_unit (pdu_of pdu.now)) units.new }
         // After `take`, another unit can be delivered.
         ensures ready { U.ready units.new }
     {
@@ -120,10 +120,10 @@ impl<A: Allocator> Endpoint<A> {
     #[inline(never)]
     pub(crate) fn ask<O: PduOut>(&mut self, now: Milliseconds, out: &mut O)
         requires few { self.old.made < 2 ^ 40 }
-        // `ask` counts a RetrReq and goes to RetrReq (`asks`).
-        ensures left { self.new ≡ (asks now self.old).left }
-        // `ask` hands out a RetrReq (`asks`).
-        ensures made { Out O.makes self.old.settings.rule out.old (asks now self.old) out.new }
+        // `ask` counts a RetrReq and goes to RetrReq (`request_turn`).
+        ensures left { self.new ≡ (request_turn now self.old).left }
+        // `ask` hands out a RetrReq (`request_turn`).
+        ensures made { Out O.makes self.old.settings.rule out.old (request_turn now self.old) out.new }
     {
         self.make(Kind::RetrReq, &[], now, out);
         self.move_to(ConnectionState::RetrReq);
@@ -138,8 +138,8 @@ impl<A: Allocator> Endpoint<A> {
         requires number { cs_step self.old (pdu_of pdu.now) < self.old.made - self.old.confirmed }
         requires time { cts_step self.old (pdu_of pdu.now) ≤ now - self.old.confirmed_at }
         // `resume` moves both confirmations on, passes everything up to the RetrResp, and goes to RetrRun
-        // (`resumes`).
-        ensures { self.new ≡ resumes (pdu_of pdu.now) self.old }
+        // (`resume`).
+        ensures { self.new ≡ resume (pdu_of pdu.now) self.old }
     {
         let distance = self.distance(pdu);
         self.confirm_both(pdu, now);
@@ -163,11 +163,11 @@ impl<A: Allocator> Endpoint<A> {
         requires number { cs_step self.old (pdu_of pdu.now) < self.old.made - self.old.confirmed }
         requires time { cts_step self.old (pdu_of pdu.now) ≤ now - self.old.confirmed_at }
         // `answer_next` moves both confirmations on, passes the RetrReq, and counts the PDUs of the reply
-        // (`answers_next`).
-        ensures left { self.new ≡ (answers_next (pdu_of pdu.now) now self.old).left }
+        // (`answer_next_turn`).
+        ensures left { self.new ≡ (answer_next_turn (pdu_of pdu.now) now self.old).left }
         // `answer_next` hands out a RetrResp, the units that are then unconfirmed, and a heartbeat
-        // (`answers_next`).
-        ensures made { Out O.makes self.old.settings.rule out.old (answers_next (pdu_of pdu.now) now self.old) out.new }
+        // (`answer_next_turn`).
+        ensures made { Out O.makes self.old.settings.rule out.old (answer_next_turn (pdu_of pdu.now) now self.old) out.new }
     {
         self.confirm_both(pdu, now);
         self.note_request(0);
@@ -190,10 +190,10 @@ impl<A: Allocator> Endpoint<A> {
         requires sized { AllUnits self.old.ring }
         requires number { cs_step self.old (pdu_of pdu.now) < self.old.made - self.old.confirmed }
         // `answer_early` confirms units, counts the reply, and in Up or RetrRun also counts a RetrReq and goes to
-        // RetrReq (`answers_early`).
-        ensures left { self.new ≡ (answers_early (pdu_of pdu.now) now self.old).left }
-        // `answer_early` hands out the reply, and in Up or RetrRun a RetrReq after it (`answers_early`).
-        ensures made { Out O.makes self.old.settings.rule out.old (answers_early (pdu_of pdu.now) now self.old) out.new }
+        // RetrReq (`answer_early_turn`).
+        ensures left { self.new ≡ (answer_early_turn (pdu_of pdu.now) now self.old).left }
+        // `answer_early` hands out the reply, and in Up or RetrRun a RetrReq after it (`answer_early_turn`).
+        ensures made { Out O.makes self.old.settings.rule out.old (answer_early_turn (pdu_of pdu.now) now self.old) out.new }
     {
         let misses = self.connection.in_turn();
         self.answer_ahead(pdu, now, out);
@@ -210,11 +210,11 @@ impl<A: Allocator> Endpoint<A> {
         requires sized { AllUnits self.old.ring }
         requires number { cs_step self.old (pdu_of pdu.now) < self.old.made - self.old.confirmed }
         // `answer_ahead` confirms units, records the index of the RetrReq as handled, and counts the reply
-        // (`answers_ahead`).
-        ensures left { self.new ≡ (answers_ahead (pdu_of pdu.now) now self.old).left }
+        // (`answer_ahead_turn`).
+        ensures left { self.new ≡ (answer_ahead_turn (pdu_of pdu.now) now self.old).left }
         // `answer_ahead` hands out a RetrResp, the units that are then unconfirmed, and a heartbeat
-        // (`answers_ahead`).
-        ensures made { Out O.makes self.old.settings.rule out.old (answers_ahead (pdu_of pdu.now) now self.old) out.new }
+        // (`answer_ahead_turn`).
+        ensures made { Out O.makes self.old.settings.rule out.old (answer_ahead_turn (pdu_of pdu.now) now self.old) out.new }
         // After `answer_ahead`, fewer than 2^40 PDUs are made.
         ensures few { self.new.made < 2 ^ 40 }
     {
@@ -230,10 +230,10 @@ impl<A: Allocator> Endpoint<A> {
         requires short { length self.old.ring ≤ WINDOW_MAX }
         requires sized { AllUnits self.old.ring }
         requires made { self.old.confirmed < self.old.made }
-        // `reply` counts its PDUs, and gives the units of the ring the indices of their RetrData (`replies`).
-        ensures left { self.new ≡ (replies now self.old).left }
-        // `reply` hands out a RetrResp, each unconfirmed unit as RetrData, in order, and a heartbeat (`replies`).
-        ensures made { Out O.makes self.old.settings.rule out.old (replies now self.old) out.new }
+        // `reply` counts its PDUs, and gives the units of the ring the indices of their RetrData (`reply_turn`).
+        ensures left { self.new ≡ (reply_turn now self.old).left }
+        // `reply` hands out a RetrResp, each unconfirmed unit as RetrData, in order, and a heartbeat (`reply_turn`).
+        ensures made { Out O.makes self.old.settings.rule out.old (reply_turn now self.old) out.new }
         // After `reply`, fewer than 2^40 PDUs are made.
         ensures few { self.new.made < 2 ^ 40 }
     {
@@ -249,11 +249,11 @@ impl<A: Allocator> Endpoint<A> {
         requires few { self.old.made < 2 ^ 39 }
         requires short { length self.old.ring ≤ WINDOW_MAX }
         requires sized { AllUnits self.old.ring }
-        // `resend_all` counts one PDU for each unit of the ring (`resends`).
-        ensures left { self.new ≡ (resends (octets_of self.old.ring) now self.old).left }
-        // `resend_all` hands out a RetrData for each unit of the ring, in order (`resends`).
+        // `resend_all` counts one PDU for each unit of the ring (`resend_turn`).
+        ensures left { self.new ≡ (resend_turn (octets_of self.old.ring) now self.old).left }
+        // `resend_all` hands out a RetrData for each unit of the ring, in order (`resend_turn`).
         ensures made { Out O.makes self.old.settings.rule out.old
-            (resends (octets_of self.old.ring) now self.old) out.new }
+            (resend_turn (octets_of self.old.ring) now self.old) out.new }
         // `resend_all` makes at most 32 PDUs (`WINDOW_MAX`).
         ensures few { self.new.made ≤ self.old.made + WINDOW_MAX }
         // `resend_all` does not change the ring.
@@ -269,8 +269,8 @@ impl<A: Allocator> Endpoint<A> {
         requires few { self.old.made < 2 ^ 40 }
         requires inside { place < length self.old.ring }
         requires sized { IfSome (slice_get self.old.ring place) (λ u. IsBody Kind.RetrData u.octets) }
-        // `resend_at` counts one PDU (`counted`).
-        ensures left { self.new ≡ counted now self.old }
+        // `resend_at` counts one PDU (`count_pdu`).
+        ensures left { self.new ≡ count_pdu now self.old }
         // `resend_at` hands out a RetrData with the unit at this place of the ring.
         ensures made { IfSome (slice_get self.old.ring place) (λ u. O.makes out.old
             (text_of self.old.settings.rule (next_made self.old Kind.RetrData u.octets now)) out.new) }
@@ -293,8 +293,8 @@ impl<A: Allocator> Endpoint<A> {
     fn note_request(&mut self, distance: u32)
         requires { self.old.expected < 2 ^ 62 }
         // `note_request` sets the index of the last RetrReq handled to the expected index plus the distance
-        // (`requested`).
-        ensures { self.new ≡ requested distance self.old }
+        // (`mark_answered`).
+        ensures { self.new ≡ mark_answered distance self.old }
     {
         self.answered = self.expected + u64::from(distance);
     }
@@ -303,8 +303,8 @@ impl<A: Allocator> Endpoint<A> {
     fn pass(&mut self, pdu: &SafePdu<'_>, distance: u32)
         requires { self.old.expected < 2 ^ 62 }
         // `pass` moves the expected index to the one after this PDU, and keeps its sequence number and timestamp
-        // (`passed`).
-        ensures { self.new ≡ passed (pdu_of pdu.now) distance self.old }
+        // (`move_past`).
+        ensures { self.new ≡ move_past (pdu_of pdu.now) distance self.old }
     {
         self.expected += u64::from(distance) + 1;
         self.last_sn = pdu.sn;
@@ -315,7 +315,7 @@ impl<A: Allocator> Endpoint<A> {
     fn set_window(&mut self, pdu: &SafePdu<'_>)
         requires { IsBody Kind.ConnReq pdu.now.body.now }
         // `set_window` changes only the peer's window, to the N_sendmax in the body (`window_of`).
-        ensures { self.new ≡ windowed (window_of pdu.now.body.now) self.old }
+        ensures { self.new ≡ with_window (window_of pdu.now.body.now) self.old }
     {
         self.window = u64::from(read_opening(pdu.body).n_sendmax);
     }
@@ -358,13 +358,13 @@ impl<A: Allocator> Endpoint<A> {
         requires few { self.old.made < 2 ^ 40 }
         requires since { self.old.since < 2 ^ 40 }
         requires ready { U.ready units.old }
-        // `take_unit` counts the unit, if there is one, and a heartbeat at the mwa-th (`takes_unit`).
-        ensures left { self.new ≡ (takes_unit (pdu_of pdu.now) now self.old).left }
+        // `take_unit` counts the unit, if there is one, and a heartbeat at the mwa-th (`take_unit_turn`).
+        ensures left { self.new ≡ (take_unit_turn (pdu_of pdu.now) now self.old).left }
         // `take_unit` hands out a heartbeat if this is the mwa-th unit since the last sending, otherwise nothing
-        // (`takes_unit`).
-        ensures made { Out O.makes self.old.settings.rule out.old (takes_unit (pdu_of pdu.now) now self.old) out.new }
-        // `take_unit` delivers the body of a Data or RetrData, and nothing for another type (`carried`).
-        ensures taken { FoldsTo U.takes units.old (carried (pdu_of pdu.now)) units.new }
+        // (`take_unit_turn`).
+        ensures made { Out O.makes self.old.settings.rule out.old (take_unit_turn (pdu_of pdu.now) now self.old) out.new }
+        // `take_unit` delivers the body of a Data or RetrData, and nothing for another type (`carried_unit`).
+        ensures taken { FoldsTo U.takes units.old (carried_unit (pdu_of pdu.now)) units.new }
         // After `take_unit`, another unit can be delivered.
         ensures ready { U.ready units.new }
     {
@@ -381,7 +381,7 @@ impl<A: Allocator> Endpoint<A> {
 /// Returns whether a PDU of this type carries a unit.
 fn carries(kind: Kind) -> bool
     // Only Data and RetrData carry a unit (`carries`).
-    ensures { result ≡ carries kind }
+    ensures { result ≡ is_carrier_kind kind }
 {
     matches!(kind, Kind::Data | Kind::RetrData)
 }

@@ -4,7 +4,7 @@ ghost use Rattle.std.specs.Prelude.{◌≡◌, ◌+◌, ◌<◌, ◌≤◌, ◌^
 ghost use Rattle.safe_pdu.specs.SafeText.{code_octets};
 ghost use Rattle.safe_pdu.specs.Bodies.{IsBody};
 ghost use Rattle.safe_machine.specs.Made.{opening_body, leaving_body};
-ghost use Rattle.safe_machine.specs.Turns.{Out, counted, leaves, next_made};
+ghost use Rattle.safe_machine.specs.Turns.{Out, count_pdu, leave_turn, next_made};
 ghost use Rattle.safe_machine.specs.View.{settings_of, text_of};
 ghost use Rattle.safe_machine.specs.Numbers.{sn_of};
 ghost use Rattle.safe_machine.specs.Connections.{is_live, in_turn, is_connected};
@@ -27,7 +27,7 @@ const SHORT_PDU: usize = 128;
 
 /// The counters of one end, and its unconfirmed units.
 #[derive(Drop)]
-pub(crate) struct Endpoint<A: Allocator = Global> {
+pub(crate) struct MachineState<A: Allocator = Global> {
     /// The settings it was opened with.
     pub(crate) config: MachineConfig,
     /// Client or server.
@@ -60,7 +60,7 @@ pub(crate) struct Endpoint<A: Allocator = Global> {
     pub(crate) ring: Unconfirmed<A>,
 }
 
-impl<A: Allocator> Model for Endpoint<A> {
+impl<A: Allocator> Model for MachineState<A> {
     ghost use Rattle.safe_machine.specs.View.{View, settings_of};
 
     ghost Value = { View };
@@ -84,7 +84,7 @@ impl<A: Allocator> Model for Endpoint<A> {
     } };
 }
 
-impl<A: Allocator> Endpoint<A> {
+impl<A: Allocator> MachineState<A> {
     /// Closes the end from any state, with a DiscReq if there is a connection.
     #[cold]
     #[inline(never)]
@@ -96,11 +96,11 @@ impl<A: Allocator> Endpoint<A> {
         out: &mut O,
     )
         requires few { self.old.made < 2 ^ 40 }
-        // `leave` leaves the end in Closed; in Start, Up, RetrReq and RetrRun a DiscReq is counted (`leaves`).
-        ensures left { self.new ≡ (leaves reason detail now self.old).left }
+        // `leave` leaves the end in Closed; in Start, Up, RetrReq and RetrRun a DiscReq is counted (`leave_turn`).
+        ensures left { self.new ≡ (leave_turn reason detail now self.old).left }
         // `leave` hands out a DiscReq with this reason and detail in Start, Up, RetrReq and RetrRun, otherwise
-        // nothing (`leaves`).
-        ensures made { Out O.makes self.old.settings.rule out.old (leaves reason detail now self.old) out.new }
+        // nothing (`leave_turn`).
+        ensures made { Out O.makes self.old.settings.rule out.old (leave_turn reason detail now self.old) out.new }
     {
         if self.connection.is_live() {
             self.goodbye(reason, detail, now, out);
@@ -118,7 +118,7 @@ impl<A: Allocator> Endpoint<A> {
     )
         requires few { self.old.made < 2 ^ 40 }
         // `goodbye` counts one PDU.
-        ensures left { self.new ≡ counted now self.old }
+        ensures left { self.new ≡ count_pdu now self.old }
         // The PDU handed out is a DiscReq with this detail and reason (`leaving_body`).
         ensures made { O.makes out.old (text_of self.old.settings.rule
             (next_made self.old Kind.DiscReq (leaving_body reason detail) now)) out.new }
@@ -132,7 +132,7 @@ impl<A: Allocator> Endpoint<A> {
         requires few { self.old.made < 2 ^ 40 }
         requires body { IsBody kind (opening_body self.old.settings.n_sendmax) }
         // `say_opening` counts one PDU.
-        ensures left { self.new ≡ counted now self.old }
+        ensures left { self.new ≡ count_pdu now self.old }
         // The PDU handed out is of this type, with the profile's version and the own window (`opening_body`).
         ensures made { O.makes out.old (text_of self.old.settings.rule
             (next_made self.old kind (opening_body self.old.settings.n_sendmax) now)) out.new }
@@ -145,7 +145,7 @@ impl<A: Allocator> Endpoint<A> {
     pub(crate) fn beat<O: PduOut>(&mut self, now: Milliseconds, out: &mut O)
         requires few { self.old.made < 2 ^ 40 }
         // `beat` counts one PDU.
-        ensures left { self.new ≡ counted now self.old }
+        ensures left { self.new ≡ count_pdu now self.old }
         // The PDU handed out is a heartbeat, with an empty body.
         ensures made { O.makes out.old
             (text_of self.old.settings.rule (next_made self.old Kind.Heartbeat [] now)) out.new }
@@ -164,8 +164,8 @@ impl<A: Allocator> Endpoint<A> {
         requires body { IsBody kind body.now }
         requires few { self.old.made < 2 ^ 40 }
         // `make` counts one PDU: its time becomes that of the last one made, and no unit is taken since
-        // (`counted`).
-        ensures left { self.new ≡ counted now self.old }
+        // (`count_pdu`).
+        ensures left { self.new ≡ count_pdu now self.old }
         // The PDU handed out is the next one, with this type and body (`next_made`).
         ensures made { O.makes out.old
             (text_of self.old.settings.rule (next_made self.old kind body.now now)) out.new }
@@ -237,8 +237,8 @@ impl<A: Allocator> Endpoint<A> {
     pub(crate) fn count(&mut self, now: Milliseconds)
         requires few { self.old.made < 2 ^ 40 }
         // `count` adds 1 to the PDUs made, sets the time of the last one, and resets the units taken since to 0
-        // (`counted`).
-        ensures { self.new ≡ counted now self.old }
+        // (`count_pdu`).
+        ensures { self.new ≡ count_pdu now self.old }
     {
         self.made += 1;
         self.last_made = now;

@@ -4,8 +4,8 @@ ghost use Rattle.std.specs.Prelude.{◌≡◌, ◌≢◌, ◌+◌, ◌<◌, ◌�
 ghost use Rattle.std.specs.List.{FoldsTo};
 ghost use Rattle.octets.specs.declared.limits.TheConstants.{WINDOW_MAX};
 ghost use Rattle.safe_machine.specs.Settings.{is_legal};
-ghost use Rattle.safe_machine.specs.Turns.{guards, has_room, leaves, opens, sends, still, ticks};
-ghost use Rattle.safe_machine.specs.Octets.{heard_answer, hears, hears_units};
+ghost use Rattle.safe_machine.specs.Turns.{guard_turn, has_room, leave_turn, opening_turn, send_turn, still, tick_turn};
+ghost use Rattle.safe_machine.specs.Octets.{decoded_answer, octets_turn, octets_units};
 ghost use Rattle.safe_machine.specs.Moves.{IsUnitSized};
 ghost use Rattle.safe_machine.specs.declared.SendFault.TheVariants.{NotUp, Window};
 ghost use Rattle.safe_machine.specs.declared.MachineFault.TheVariants.{BadConfig};
@@ -18,7 +18,7 @@ ghost use Rattle.safe_machine.specs.View.{settings_of, texts};
 ghost use Rattle.safe_machine.specs.Connections.{in_turn};
 ghost use Rattle.safe_machine.specs.retrans.Units.{octets_of};
 
-use super::endpoint::Endpoint;
+use super::endpoint::MachineState;
 use super::opening::begin;
 use super::{
     ConnectionState, Detail, MachineConfig, MachineFault, Reason, Role, SendFault, Step, Unit,
@@ -64,7 +64,7 @@ pub trait UnitIn {
 #[derive(Drop)]
 pub struct Machine<A: Allocator = Global> {
     /// The counters and the unconfirmed units.
-    end: Endpoint<A>,
+    end: MachineState<A>,
 }
 
 impl<A: Allocator> Model for Machine<A> {
@@ -98,13 +98,13 @@ impl<A: Allocator> Machine<A> {
         // `open` returns `BadConfig` if and only if the settings are not legal for this role (`is_legal`).
         ensures bad_config { (result ≡ Err BadConfig) ↔ (is_legal (settings_of role config) ≡ false) }
         // A client that was opened is in Start and has made its ConnReq; a server is in Down and has made nothing.
-        // Everything else has its initial value (`opens`).
-        ensures left { IfOk result (λ machine. machine ≡ (opens (settings_of role config) first_sn now).left) }
+        // Everything else has its initial value (`opening_turn`).
+        ensures left { IfOk result (λ machine. machine ≡ (opening_turn (settings_of role config) first_sn now).left) }
         // After `open`, the index of the peer's next PDU is 0.
         ensures near { IfOk result (λ machine. machine.expected ≡ 0) }
-        // A successful `open` hands out the ConnReq of a client, and nothing for a server (`opens`).
+        // A successful `open` hands out the ConnReq of a client, and nothing for a server (`opening_turn`).
         ensures made { OnOk result
-            (FoldsTo O.makes out.old (texts config.rule (opens (settings_of role config) first_sn now).made) out.new) }
+            (FoldsTo O.makes out.old (texts config.rule (opening_turn (settings_of role config) first_sn now).made) out.new) }
         // A failed `open` makes no PDU.
         ensures nothing_made { OnErr result (out.new ≡ out.old) }
     {
@@ -124,13 +124,13 @@ impl<A: Allocator> Machine<A> {
     /// server waits. Nothing is sent on the connection that ends with it.
     pub fn reopen<O: PduOut>(&mut self, first_sn: u32, now: Milliseconds, out: &mut O)
         // After `reopen`, a client is in Start and has made its ConnReq, and a server is in Down. The settings are the
-        // same, and all else has its first value again (`opens`).
-        ensures left { self.new ≡ (opens self.old.settings first_sn now).left }
+        // same, and all else has its first value again (`opening_turn`).
+        ensures left { self.new ≡ (opening_turn self.old.settings first_sn now).left }
         // After `reopen`, the index of the peer's next PDU is 0.
         ensures near { self.new.expected ≡ 0 }
-        // `reopen` hands out the ConnReq of a client, and nothing for a server (`opens`).
+        // `reopen` hands out the ConnReq of a client, and nothing for a server (`opening_turn`).
         ensures made { FoldsTo O.makes out.old
-            (texts self.old.settings.rule (opens self.old.settings first_sn now).made) out.new }
+            (texts self.old.settings.rule (opening_turn self.old.settings first_sn now).made) out.new }
     {
         self.end.reopen(first_sn, now, out);
     }
@@ -141,12 +141,12 @@ impl<A: Allocator> Machine<A> {
         // `guard` returns the reason and detail with which the timeout check disconnects, or `None` (`overdue`):
         // T_max first, then the limit of PDUs.
         ensures why { result ≡ overdue now self.old }
-        // If the timeout check fails, `guard` closes the end; otherwise nothing changes (`guards`).
-        ensures left { self.new ≡ (guards now self.old).left }
+        // If the timeout check fails, `guard` closes the end; otherwise nothing changes (`guard_turn`).
+        ensures left { self.new ≡ (guard_turn now self.old).left }
         // `guard` does not change the index of the peer's next PDU.
         ensures near { self.new.expected ≡ self.old.expected }
-        // `guard` hands out a DiscReq if it disconnects, otherwise nothing (`guards`).
-        ensures made { FoldsTo O.makes out.old (texts self.old.settings.rule (guards now self.old).made) out.new }
+        // `guard` hands out a DiscReq if it disconnects, otherwise nothing (`guard_turn`).
+        ensures made { FoldsTo O.makes out.old (texts self.old.settings.rule (guard_turn now self.old).made) out.new }
     {
         self.end.guard(now, out)
     }
@@ -156,12 +156,12 @@ impl<A: Allocator> Machine<A> {
         // `tick` returns the reason and detail with which its timeout check disconnects, or `None` (`overdue`).
         ensures why { result ≡ overdue now self.old }
         // After `tick`, the end is closed if the timeout check failed. Otherwise a heartbeat that is due is counted
-        // as made (`ticks`).
-        ensures left { self.new ≡ (ticks now self.old).left }
+        // as made (`tick_turn`).
+        ensures left { self.new ≡ (tick_turn now self.old).left }
         // `tick` does not change the index of the peer's next PDU.
         ensures near { self.new.expected ≡ self.old.expected }
-        // `tick` hands out a DiscReq if it disconnects, and otherwise a heartbeat if one is due (`ticks`).
-        ensures made { FoldsTo O.makes out.old (texts self.old.settings.rule (ticks now self.old).made) out.new }
+        // `tick` hands out a DiscReq if it disconnects, and otherwise a heartbeat if one is due (`tick_turn`).
+        ensures made { FoldsTo O.makes out.old (texts self.old.settings.rule (tick_turn now self.old).made) out.new }
     {
         self.end.tick(now, out)
     }
@@ -175,14 +175,14 @@ impl<A: Allocator> Machine<A> {
         out: &mut O,
     )
         // `close` leaves the end in Closed from any state; in Start, Up, RetrReq and RetrRun it also counts a
-        // DiscReq (`leaves`).
-        ensures left { self.new ≡ (leaves reason detail now self.old).left }
+        // DiscReq (`leave_turn`).
+        ensures left { self.new ≡ (leave_turn reason detail now self.old).left }
         // `close` does not change the index of the peer's next PDU.
         ensures near { self.new.expected ≡ self.old.expected }
         // `close` hands out a DiscReq with this reason and detail in Start, Up, RetrReq and RetrRun, otherwise
-        // nothing (`leaves`).
+        // nothing (`leave_turn`).
         ensures made { FoldsTo O.makes out.old
-            (texts self.old.settings.rule (leaves reason detail now self.old).made) out.new }
+            (texts self.old.settings.rule (leave_turn reason detail now self.old).made) out.new }
     {
         self.end.leave(reason, detail, now, out);
     }
@@ -191,9 +191,9 @@ impl<A: Allocator> Machine<A> {
     /// if there is no such time.
     pub fn deadline(&self) -> Option<Milliseconds>
         // Before the `deadline`, a tick changes nothing and makes no PDU.
-        ensures before { (now : ℕ) → IsBefore now result → ticks now self.now ≡ still self.now }
+        ensures before { (now : ℕ) → IsBefore now result → tick_turn now self.now ≡ still self.now }
         // From the `deadline` on, up to 2^62 ms, a tick changes the machine.
-        ensures after { (now : ℕ) → now ≤ 2 ^ 62 → IsReachedAt now result → (ticks now self.now).left ≢ self.now }
+        ensures after { (now : ℕ) → now ≤ 2 ^ 62 → IsReachedAt now result → (tick_turn now self.now).left ≢ self.now }
     {
         self.end.deadline()
     }
@@ -269,18 +269,18 @@ impl<A: Allocator> Machine<A> {
         requires reach { self.old.expected < 2 ^ 62 }
         requires ready { U.ready units.old }
         // After `arrive`, the end keeps what the timeout check and the PDU lead to; bytes that are not a safety PDU
-        // cause only the check (`hears`).
-        ensures left { self.new ≡ (hears octets.now now self.old).left }
+        // cause only the check (`octets_turn`).
+        ensures left { self.new ≡ (octets_turn octets.now now self.old).left }
         // An arrival raises the index of the peer's next PDU by at most 321 (`index_step`).
         ensures near { self.new.expected ≤ self.old.expected + index_step }
-        // `arrive` hands out the PDUs that the timeout check and the received PDU cause, in order (`hears`).
+        // `arrive` hands out the PDUs that the timeout check and the received PDU cause, in order (`octets_turn`).
         ensures made { FoldsTo O.makes out.old
-            (texts self.old.settings.rule (hears octets.now now self.old).made) out.new }
-        // `arrive` delivers the unit of a Data or RetrData that it takes, and no other unit (`hears_units`).
-        ensures taken { FoldsTo U.takes units.old (hears_units octets.now now self.old) units.new }
+            (texts self.old.settings.rule (octets_turn octets.now now self.old).made) out.new }
+        // `arrive` delivers the unit of a Data or RetrData that it takes, and no other unit (`octets_units`).
+        ensures taken { FoldsTo U.takes units.old (octets_units octets.now now self.old) units.new }
         // `arrive` returns `Left` if the timeout check disconnects, `Nothing` for a closed end or for a DiscReq
-        // that closes it, and otherwise the drop cause or what was done with the PDU (`heard_answer`).
-        ensures answer { result ≡ heard_answer (safe_seen self.old.settings.rule octets.now) now self.old }
+        // that closes it, and otherwise the drop cause or what was done with the PDU (`decoded_answer`).
+        ensures answer { result ≡ decoded_answer (safe_seen self.old.settings.rule octets.now) now self.old }
         // Only units up to the index that the PDU's confirmed number means stop being unconfirmed, and the others
         // stay in order. Bytes that are not a PDU confirm no unit (`OnlyConfirms`).
         ensures confirms { OnlyConfirms (safe_seen self.old.settings.rule octets.now) self.old self.new }
@@ -314,13 +314,13 @@ impl<A: Allocator> Machine<A> {
     ) -> Result<(), SendFault>
         requires size { IsUnitSized unit.now.items }
         // If the end may send, `send` counts one PDU more and adds the unit to the ring under its index; otherwise
-        // nothing changes (`sends`).
-        ensures left { self.new ≡ (sends unit.now.items now self.old).left }
+        // nothing changes (`send_turn`).
+        ensures left { self.new ≡ (send_turn unit.now.items now self.old).left }
         // `send` does not change the index of the peer's next PDU.
         ensures near { self.new.expected ≡ self.old.expected }
-        // If the end may send, `send` hands out one Data with the unit; otherwise it hands out nothing (`sends`).
+        // If the end may send, `send` hands out one Data with the unit; otherwise it hands out nothing (`send_turn`).
         ensures made { FoldsTo O.makes out.old
-            (texts self.old.settings.rule (sends unit.now.items now self.old).made) out.new }
+            (texts self.old.settings.rule (send_turn unit.now.items now self.old).made) out.new }
         // `send` succeeds if and only if the state is Up or RetrRun and the peer's window is not full (`has_room`).
         ensures sent { IsOk result ↔ (has_room self.old ≡ true) }
         // `send` returns `NotUp` if and only if the state is neither Up nor RetrRun.

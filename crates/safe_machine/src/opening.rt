@@ -4,12 +4,12 @@ ghost use Rattle.std.specs.Prelude.{◌≡◌, []};
 ghost use Rattle.octets.specs.declared.limits.TheConstants.{WINDOW_MAX};
 ghost use Rattle.safe_pdu.specs.Bodies.{IsBody};
 ghost use Rattle.safe_machine.specs.Made.{opening_body};
-ghost use Rattle.safe_machine.specs.Turns.{Out, opens, unsaid};
+ghost use Rattle.safe_machine.specs.Turns.{Out, opening_turn, new_view};
 ghost use Rattle.safe_machine.specs.View.{settings_of};
 ghost use Rattle.safe_machine.specs.Settings.{are_two, in_range, is_coded, is_legal};
 ghost use Rattle.safe_machine.specs.declared.Role.TheVariants.{Client};
 
-use super::endpoint::Endpoint;
+use super::endpoint::MachineState;
 use super::{ConnectionState, MachineConfig, PduOut, Role};
 use crate::retrans::Unconfirmed;
 use octets::Milliseconds;
@@ -28,13 +28,13 @@ pub(crate) fn begin<A: Allocator, O: PduOut>(
     now: Milliseconds,
     ring: Unconfirmed<A>,
     out: &mut O,
-) -> Endpoint<A>
+) -> MachineState<A>
     requires room { ring ≡ record { room = WINDOW_MAX; units = [] } }
     requires body { IsBody Kind.ConnReq (opening_body config.n_sendmax) }
-    // A client starts in Start with its ConnReq counted; a server starts in Down (`opens`).
-    ensures left { result ≡ (opens (settings_of role config) first now).left }
-    // The ConnReq of a client is handed out; a server hands out nothing (`opens`).
-    ensures made { Out O.makes config.rule out.old (opens (settings_of role config) first now) out.new }
+    // A client starts in Start with its ConnReq counted; a server starts in Down (`opening_turn`).
+    ensures left { result ≡ (opening_turn (settings_of role config) first now).left }
+    // The ConnReq of a client is handed out; a server hands out nothing (`opening_turn`).
+    ensures made { Out O.makes config.rule out.old (opening_turn (settings_of role config) first now) out.new }
 {
     match role {
         Role::Client => {
@@ -54,12 +54,12 @@ fn blank<A: Allocator>(
     now: Milliseconds,
     connection: ConnectionState,
     ring: Unconfirmed<A>,
-) -> Endpoint<A>
+) -> MachineState<A>
     requires room { ring ≡ record { room = WINDOW_MAX; units = [] } }
-    // Every counter of the new end is 0, its ring is empty, and the time last confirmed is `now` (`unsaid`).
-    ensures { result ≡ unsaid (settings_of role config) first now connection }
+    // Every counter of the new end is 0, its ring is empty, and the time last confirmed is `now` (`new_view`).
+    ensures { result ≡ new_view (settings_of role config) first now connection }
 {
-    Endpoint {
+    MachineState {
         config,
         role,
         first,
@@ -78,15 +78,15 @@ fn blank<A: Allocator>(
     }
 }
 
-impl<A: Allocator> Endpoint<A> {
+impl<A: Allocator> MachineState<A> {
     /// Begins again with the same settings, as an end that is opened. A client makes its ConnReq.
     pub(crate) fn reopen<O: PduOut>(&mut self, first: u32, now: Milliseconds, out: &mut O)
         requires room { self.old.room ≡ WINDOW_MAX }
         requires body { IsBody Kind.ConnReq (opening_body self.old.settings.n_sendmax) }
-        // A client is in Start with its ConnReq counted; a server is in Down. All else has its first value (`opens`).
-        ensures left { self.new ≡ (opens self.old.settings first now).left }
-        // The ConnReq of a client is handed out again; a server hands out nothing (`opens`).
-        ensures made { Out O.makes self.old.settings.rule out.old (opens self.old.settings first now) out.new }
+        // A client is in Start with its ConnReq counted; a server is in Down. All else has its first value (`opening_turn`).
+        ensures left { self.new ≡ (opening_turn self.old.settings first now).left }
+        // The ConnReq of a client is handed out again; a server hands out nothing (`opening_turn`).
+        ensures made { Out O.makes self.old.settings.rule out.old (opening_turn self.old.settings first now) out.new }
     {
         match self.role {
             Role::Client => {
@@ -100,8 +100,8 @@ impl<A: Allocator> Endpoint<A> {
     /// Forgets all that happened since the opening, except the settings.
     fn forget(&mut self, first: u32, now: Milliseconds, connection: ConnectionState)
         requires room { self.old.room ≡ WINDOW_MAX }
-        // Every counter is 0 again, the ring is empty, and the time last confirmed is `now` (`unsaid`).
-        ensures { self.new ≡ unsaid self.old.settings first now connection }
+        // Every counter is 0 again, the ring is empty, and the time last confirmed is `now` (`new_view`).
+        ensures { self.new ≡ new_view self.old.settings first now connection }
     {
         self.first = first;
         self.connection = connection;

@@ -5,11 +5,11 @@ ghost use Rattle.octets.specs.declared.limits.TheConstants.{UNIT_MAX};
 ghost use Rattle.safe_pdu.specs.Bodies.{IsBody};
 ghost use Rattle.safe_machine.specs.Moves.{IsUnitSized};
 ghost use Rattle.safe_machine.specs.Reached.{IsReached};
-ghost use Rattle.safe_machine.specs.Turns.{Out, beats, guards, has_room, sends, sends_unit, ticks};
+ghost use Rattle.safe_machine.specs.Turns.{Out, heartbeat_turn, guard_turn, has_room, send_turn, send_unit_turn, tick_turn};
 ghost use Rattle.safe_machine.specs.inner.Sound.{AllBelow};
 ghost use Rattle.safe_machine.specs.Deadlines.{deadline_of, timeout_of, beat_due, overdue};
 
-use super::endpoint::Endpoint;
+use super::endpoint::MachineState;
 use super::{Detail, PduOut, Reason};
 use octets::Milliseconds;
 use octets::limits::UNIT_MAX;
@@ -17,7 +17,7 @@ use safe_pdu::Kind;
 use std::alloc::Allocator;
 use std::cmp::min;
 
-impl<A: Allocator> Endpoint<A> {
+impl<A: Allocator> MachineState<A> {
     /// Returns whether a unit may be sent.
     pub(crate) fn may_send(&self) -> bool
         // A unit may be sent if and only if the state is Up or RetrRun, and fewer units are unconfirmed than the
@@ -32,10 +32,10 @@ impl<A: Allocator> Endpoint<A> {
         requires reached { IsReached self.old }
         requires size { IsUnitSized unit.now }
         requires open { has_room self.old ≡ true }
-        // `send` counts one PDU and appends the unit to the ring, under its index (`sends`).
-        ensures left { self.new ≡ (sends unit.now now self.old).left }
-        // `send` hands out one Data with the unit (`sends`).
-        ensures made { Out O.makes self.old.settings.rule out.old (sends unit.now now self.old) out.new }
+        // `send` counts one PDU and appends the unit to the ring, under its index (`send_turn`).
+        ensures left { self.new ≡ (send_turn unit.now now self.old).left }
+        // `send` hands out one Data with the unit (`send_turn`).
+        ensures made { Out O.makes self.old.settings.rule out.old (send_turn unit.now now self.old) out.new }
         // After `send`, the invariant of a machine holds again.
         ensures reached { IsReached self.new }
         // `send` does not change the expected index.
@@ -52,10 +52,10 @@ impl<A: Allocator> Endpoint<A> {
         requires few { self.old.made < 2 ^ 40 }
         requires room { length self.old.ring < self.old.room }
         requires above { AllBelow self.old.made self.old.ring }
-        // `send_unit` counts one PDU and appends the unit to the ring, under its index (`sends_unit`).
-        ensures left { self.new ≡ (sends_unit unit.now now self.old).left }
-        // `send_unit` hands out one Data with the unit (`sends_unit`).
-        ensures made { Out O.makes self.old.settings.rule out.old (sends_unit unit.now now self.old) out.new }
+        // `send_unit` counts one PDU and appends the unit to the ring, under its index (`send_unit_turn`).
+        ensures left { self.new ≡ (send_unit_turn unit.now now self.old).left }
+        // `send_unit` hands out one Data with the unit (`send_unit_turn`).
+        ensures made { Out O.makes self.old.settings.rule out.old (send_unit_turn unit.now now self.old) out.new }
     {
         let number = self.made;
         self.make(Kind::Data, unit, now, out);
@@ -84,10 +84,10 @@ impl<A: Allocator> Endpoint<A> {
         // `tick` returns why its timeout check disconnects, or `None` (`overdue`).
         ensures why { result ≡ overdue now self.old }
         // After `tick`, the end is closed if the timeout check failed; otherwise a heartbeat that is due is counted
-        // (`ticks`).
-        ensures left { self.new ≡ (ticks now self.old).left }
-        // `tick` hands out a DiscReq if the timeout check fails, otherwise a heartbeat if one is due (`ticks`).
-        ensures made { Out O.makes self.old.settings.rule out.old (ticks now self.old) out.new }
+        // (`tick_turn`).
+        ensures left { self.new ≡ (tick_turn now self.old).left }
+        // `tick` hands out a DiscReq if the timeout check fails, otherwise a heartbeat if one is due (`tick_turn`).
+        ensures made { Out O.makes self.old.settings.rule out.old (tick_turn now self.old) out.new }
     {
         let why = self.guard(now, out);
         self.beat_by_time(now, out);
@@ -103,10 +103,10 @@ impl<A: Allocator> Endpoint<A> {
         requires few { self.old.made < 2 ^ 40 }
         // `guard` returns why it disconnects, or `None` (`overdue`).
         ensures why { result ≡ overdue now self.old }
-        // `guard` closes the end if the timeout check fails, and otherwise changes nothing (`guards`).
-        ensures left { self.new ≡ (guards now self.old).left }
-        // `guard` hands out a DiscReq if the timeout check fails, otherwise nothing (`guards`).
-        ensures made { Out O.makes self.old.settings.rule out.old (guards now self.old) out.new }
+        // `guard` closes the end if the timeout check fails, and otherwise changes nothing (`guard_turn`).
+        ensures left { self.new ≡ (guard_turn now self.old).left }
+        // `guard` hands out a DiscReq if the timeout check fails, otherwise nothing (`guard_turn`).
+        ensures made { Out O.makes self.old.settings.rule out.old (guard_turn now self.old) out.new }
     {
         let why = self.overdue(now);
         if let Some((reason, detail)) = why {
@@ -136,10 +136,10 @@ impl<A: Allocator> Endpoint<A> {
     /// Makes a heartbeat if one is due.
     fn beat_by_time<O: PduOut>(&mut self, now: Milliseconds, out: &mut O)
         requires few { self.old.made < 2 ^ 40 }
-        // `beat_by_time` counts a heartbeat if one is due, and otherwise changes nothing (`beats`).
-        ensures left { self.new ≡ (beats now self.old).left }
-        // `beat_by_time` hands out a heartbeat if one is due, otherwise nothing (`beats`).
-        ensures made { Out O.makes self.old.settings.rule out.old (beats now self.old) out.new }
+        // `beat_by_time` counts a heartbeat if one is due, and otherwise changes nothing (`heartbeat_turn`).
+        ensures left { self.new ≡ (heartbeat_turn now self.old).left }
+        // `beat_by_time` hands out a heartbeat if one is due, otherwise nothing (`heartbeat_turn`).
+        ensures made { Out O.makes self.old.settings.rule out.old (heartbeat_turn now self.old) out.new }
     {
         if self.beat_due(now) {
             self.beat(now, out);

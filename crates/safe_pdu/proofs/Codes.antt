@@ -6,7 +6,7 @@ use Rattle.std.proofs.lemmas.Bool.Decides.{Decides-eqb, Decides-and, Decides-lik
 use Rattle.std.proofs.lemmas.List.{take-append-drop, take_at, drop_at, take-take, drop-take, take_all, append_assoc}
 use Rattle.std.proofs.lemmas.Slice.Eq.{bytes_eq-Decides}
 use Rattle.byteorder.specs.Endian.{little_bytes, little_number}
-use Rattle.md4.specs.Digest.{digest, spelled}
+use Rattle.md4.specs.Digest.{digest, octets_of_words}
 use Rattle.octets.proofs.Fields.{FitOctets, Splits, field_at, field_reads, FitOctets-drop}
 use Rattle.safe_pdu.specs.declared.CodeRule.{CodeRule}
 use Rattle.safe_pdu.specs.declared.CodeLength.{CodeLength}
@@ -57,12 +57,12 @@ abbrev two_words : List ℕ → ℕ → List ℕ
 two_words words k = little_bytes 4 (slice_index words k) ++ little_bytes 4 (slice_index words (k + 1))
 
 -- a code of sixteen bytes is the four words
-sixteen : (rule : CodeRule) (words front : List ℕ) → rule.length ≡ Sixteen → spelled words ≡ digest rule.initial_value front
+sixteen : (rule : CodeRule) (words front : List ℕ) → rule.length ≡ Sixteen → octets_of_words words ≡ digest rule.initial_value front
     → code_over rule front ≡ two_words words 0 ++ two_words words 2
 sixteen rule words front is spells =
     ap (λ (n : CodeLength). take (code_octets n) (digest rule.initial_value front)) is ∙ ap (take 16) (sym spells)
 
-pub sixteen_eq : (rule : CodeRule) (words front code : List ℕ) → rule.length ≡ Sixteen → spelled words ≡ digest rule.initial_value front
+pub sixteen_eq : (rule : CodeRule) (words front code : List ℕ) → rule.length ≡ Sixteen → octets_of_words words ≡ digest rule.initial_value front
     → length code ≡ code_octets rule.length
     → (bytes_eq (take 8 code) (two_words words 0) && bytes_eq (take 8 (drop 8 code)) (two_words words 2)) ≡ bytes_eq code (code_over rule front)
 sixteen_eq rule words front code is spells size =
@@ -71,7 +71,7 @@ sixteen_eq rule words front code is spells size =
     rw (behind, sixteen rule words front is spells) (eq_parts 8 code (two_words words 0) (two_words words 2) refl)
 
 -- a code of sixteen bytes is written by two words and then two more
-pub sixteen_written : (rule : CodeRule) (words front a b : List ℕ) (size : ℕ) → rule.length ≡ Sixteen → spelled words ≡ digest rule.initial_value front
+pub sixteen_written : (rule : CodeRule) (words front a b : List ℕ) (size : ℕ) → rule.length ≡ Sixteen → octets_of_words words ≡ digest rule.initial_value front
     → take (size + 8) a ≡ front ++ little_bytes 4 (slice_index words 0) ++ little_bytes 4 (slice_index words 1)
     → take (size + 8 + 8) b ≡ take (size + 8) a ++ little_bytes 4 (slice_index words 2) ++ little_bytes 4 (slice_index words 3)
     → take (size + code_octets rule.length) b ≡ front ++ code_over rule front

@@ -6,13 +6,13 @@ use Rattle.toml.specs.Data.{Data, table, Members, no_members, member, Items, no_
 use Rattle.toml.specs.Parse.{parse_document}
 use Rattle.end_settings.specs.declared.Side.{Side}
 use Rattle.end_settings.specs.declared.Side.TheVariants as side
-use Rattle.settings_file.specs.declared.Word.{Word}
-use Rattle.settings_file.specs.declared.Word.TheVariants as word
+use Rattle.settings_file.specs.declared.Subcommand.{Subcommand}
+use Rattle.settings_file.specs.declared.Subcommand.TheVariants as word
 use Rattle.settings_file.specs.declared.keys.Key.{Key}
 use Rattle.settings_file.specs.declared.keys.Key.TheVariants as key
 use Rattle.settings_file.specs.declared.keys.KeyFault.{KeyFault}
-use Rattle.settings_file.specs.declared.keys.Wanted.TheVariants as expected
-use Rattle.settings_file.specs.declared.keys.Found.TheVariants as found
+use Rattle.settings_file.specs.declared.keys.ExpectedValue.TheVariants as expected
+use Rattle.settings_file.specs.declared.keys.PresentValue.TheVariants as found
 use Rattle.settings_file.specs.declared.keys.SettingsFault.{SettingsFault}
 use Rattle.settings_file.specs.declared.keys.SettingsFault.TheVariants as fault
 use Rattle.settings_file.specs.declared.all_faults.Finding.{Finding}
@@ -36,12 +36,12 @@ abbrev pub plain : Wrong → FindingSeen
 plain w = record { wrong = Some w; entry = None; text = None }
 
 -- a text, if it has at most 80 bytes
-abbrev pub shown : List ℕ → Option (List ℕ)
-shown t = if nat_le (length t) TEXT_MOST then Some t else None
+abbrev pub short_text : List ℕ → Option (List ℕ)
+short_text t = if nat_le (length t) TEXT_MOST then Some t else None
 
 -- the short text of a value
 abbrev pub text_in : Data → Option (List ℕ)
-text_in d = option_and_then shown (as_str d)
+text_in d = option_and_then short_text (as_str d)
 
 -- the fault at `peer_id`: its own, or that it equals `id`, if `id` is valid
 abbrev pub peer_fault : Data → Result ℕ KeyFault → Result ℕ KeyFault → Option KeyFault
@@ -145,13 +145,13 @@ pair_findings ms =
     unknown_in is_end None ms ++ named_findings side.Interlocking (table ms) ++ named_findings side.FieldElement (table ms)
 
 -- the faults of a file's table for the ends of a word
-abbrev pub members_findings : Word → Members → List FindingSeen
+abbrev pub members_findings : Subcommand → Members → List FindingSeen
 members_findings word.Il ms = end_findings side.Interlocking None (table ms)
 members_findings word.Fe ms = end_findings side.FieldElement None (table ms)
 members_findings word.Pair ms = pair_findings ms
 
 -- all faults of a text for the ends of a word; of one that is not TOML only that
-abbrev pub findings_of : Word → List ℕ → List FindingSeen
+abbrev pub findings_of : Subcommand → List ℕ → List FindingSeen
 findings_of w text = option_map_or (members_findings w) (parse_document text) (plain no_document ∷ [])
 
 -- the fault of a finding as a plain value, without the line

@@ -9,7 +9,7 @@ use Rattle.settings_file.specs.Keys.{◌>>=◌}
 use Rattle.std.specs.Prelude.{◌==◌, if◌then◌else◌}
 use Rattle.pdi_session.specs.telegram.Tele.{owned_characters}
 use Rattle.end_settings.specs.declared.Side.{Side}
-use Rattle.settings_file.specs.declared.keys.Wanted.TheVariants as expected
+use Rattle.settings_file.specs.declared.keys.ExpectedValue.TheVariants as expected
 use Rattle.settings_file.specs.declared.values.Put.{Put}
 use Rattle.settings_file.specs.declared.values.Identity.{Identity}
 use Rattle.settings_file.specs.declared.values.Beginning.{Beginning}

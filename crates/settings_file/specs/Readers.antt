@@ -13,26 +13,26 @@ use Rattle.settings_file.specs.declared.keys.Key.{Key}
 use Rattle.settings_file.specs.declared.keys.Key.TheVariants as key
 use Rattle.end_settings.specs.declared.Side.{Side}
 use Rattle.end_settings.specs.declared.Side.TheVariants as side
-use Rattle.settings_file.specs.declared.keys.Wanted.{Wanted}
-use Rattle.settings_file.specs.declared.keys.Wanted.TheVariants as expected
+use Rattle.settings_file.specs.declared.keys.ExpectedValue.{ExpectedValue}
+use Rattle.settings_file.specs.declared.keys.ExpectedValue.TheVariants as expected
 use Rattle.settings_file.specs.declared.keys.KeyFault.{KeyFault}
-use Rattle.settings_file.specs.declared.keys.Found.{Found}
-use Rattle.settings_file.specs.declared.keys.Found.TheVariants as found
+use Rattle.settings_file.specs.declared.keys.PresentValue.{PresentValue}
+use Rattle.settings_file.specs.declared.keys.PresentValue.TheVariants as found
 use Rattle.byteorder.specs.Endian.{little_number}
 use Rattle.md4.specs.declared.TheConstants.{INITIAL_VALUE}
 use Rattle.pdi_session.specs.declared.TheConstants.{CHECKSUM_MAX}
 use Rattle.settings_file.specs.Keys.{text_of}
 
 -- what a table has at a key: nothing, a whole number, or another value
-abbrev pub found_at : Data → Key → Found
+abbrev pub found_at : Data → Key → PresentValue
 found_at d k = option_map_or (λ v. option_map_or found.Number (as_integer v) found.Other) (get (text_of k) d) found.Nothing
 
 -- the fault at a key that expects `e`
-abbrev pub wrong_at : Data → Key → Wanted → KeyFault
+abbrev pub wrong_at : Data → Key → ExpectedValue → KeyFault
 wrong_at d k e = record { key = k; expected = e; found = found_at d k }
 
 -- the value that `read` has of a key, or the default if the key is missing; else the fault
-abbrev pub at_key : {T : Type 0} → Data → Key → Wanted → Option T → (Data → Option T) → Result T KeyFault
+abbrev pub at_key : {T : Type 0} → Data → Key → ExpectedValue → Option T → (Data → Option T) → Result T KeyFault
 at_key d k e default read = ok_or (option_map_or read (get (text_of k) d) default) (wrong_at d k e)
 
 -- the whole number, if it is in this range

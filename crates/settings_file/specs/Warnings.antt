@@ -29,9 +29,9 @@ stands_before t [] = false
 stands_before t (u ∷ us) = if bytes_eq t u then true else stands_before t us
 
 -- a warning for each address that is in the list again, numbered from `n`
-abbrev pub repeats : Key → ℕ → List (List ℕ) → List Warning
-repeats k n [] = []
-repeats k n (t ∷ ts) = if_so (stands_before t ts) (warning.Repeated k n) ++ repeats k (n + 1) ts
+abbrev pub repeat_warnings : Key → ℕ → List (List ℕ) → List Warning
+repeat_warnings k n [] = []
+repeat_warnings k n (t ∷ ts) = if_so (stands_before t ts) (warning.Repeated k n) ++ repeat_warnings k (n + 1) ts
 
 -- the address begins with a bracket, so it is of IPv6
 abbrev pub is_v6 : List ℕ → Bool
@@ -51,7 +51,7 @@ channel_warnings n (t ∷ ts) [] = []
 -- the warnings of all addresses
 abbrev pub address_warnings : (local remote : List (List ℕ)) → List Warning
 address_warnings local remote =
-    ports key.Local 1 local ++ ports key.Remote 1 remote ++ repeats key.Local 1 local ++ repeats key.Remote 1 remote ++ channel_warnings 1 local remote
+    ports key.Local 1 local ++ ports key.Remote 1 remote ++ repeat_warnings key.Local 1 local ++ repeat_warnings key.Remote 1 remote ++ channel_warnings 1 local remote
 
 -- how many heartbeats confirm the units of a full window
 abbrev pub heartbeats_of : (window mwa : ℕ) → ℕ

@@ -8,14 +8,14 @@ use Rattle.settings_file.specs.declared.keys.Key.TheVariants as key
 use Rattle.end_settings.specs.declared.Side.{Side}
 use Rattle.end_settings.specs.declared.Side.TheVariants as side
 use Rattle.settings_file.specs.declared.keys.KeyFault.{KeyFault}
-use Rattle.settings_file.specs.declared.keys.Wanted.TheVariants as expected
+use Rattle.settings_file.specs.declared.keys.ExpectedValue.TheVariants as expected
 use Rattle.settings_file.specs.declared.values.Limits.{Limits}
 use Rattle.settings_file.specs.declared.values.Settings.{Settings}
 use Rattle.settings_file.specs.declared.values.Ends.{Ends}
 use Rattle.settings_file.specs.declared.values.Ends.TheVariants as ends
-use Rattle.settings_file.specs.declared.Word.{Word}
-use Rattle.settings_file.specs.declared.Word.TheVariants as word
-use Rattle.settings_file.specs.declared.keys.Found.TheVariants as found
+use Rattle.settings_file.specs.declared.Subcommand.{Subcommand}
+use Rattle.settings_file.specs.declared.Subcommand.TheVariants as word
+use Rattle.settings_file.specs.declared.keys.PresentValue.TheVariants as found
 use Rattle.end_settings.specs.EndSettings.{EndSettings}
 use Rattle.end_settings.specs.Configured.{settings_of, code_of}
 use Rattle.settings_file.specs.declared.keys.SettingsFault.{SettingsFault}
@@ -146,13 +146,13 @@ MemoryInTable e d (fault.Memory refused) =
 MemoryInTable e d _ = Unit {0}
 
 -- the result of a table, its fault named with the table
-abbrev pub lifted : {A : Type 0} → Option Side → Result A KeyFault → Result A Wrong
-lifted named (Ok x) = Ok x
-lifted named (Err f) = Err (at named f)
+abbrev pub with_table : {A : Type 0} → Option Side → Result A KeyFault → Result A Wrong
+with_table named (Ok x) = Ok x
+with_table named (Err f) = Err (at named f)
 
 -- the settings in a table, all of whose keys must be known
 abbrev pub known_settings : Side → Option Side → Data → Members → Result SettingsSeen Wrong
-known_settings e named d ms = option_map_or (λ k. Err (unknown named k)) (first_unknown ms) (lifted named (end_of e d))
+known_settings e named d ms = option_map_or (λ k. Err (unknown named k)) (first_unknown ms) (with_table named (end_of e d))
 
 -- the settings in a value, which must be a table
 abbrev pub end_settings : Side → Option Side → Data → Result SettingsSeen Wrong
@@ -180,14 +180,14 @@ abbrev pub fe_settings : Data → Result SettingsSeen Wrong
 fe_settings d = option_map_or (end_settings side.FieldElement (Some side.FieldElement)) (get (codes "fe") d) (Err (no_table side.FieldElement))
 
 -- both results, or the first fault
-abbrev pub both : Result SettingsSeen Wrong → Result SettingsSeen Wrong → Result (SettingsSeen × SettingsSeen) Wrong
-both (Ok x) (Ok y) = Ok (x, y)
-both (Ok x) (Err e) = Err e
-both (Err e) r = Err e
+abbrev pub both_or_fault : Result SettingsSeen Wrong → Result SettingsSeen Wrong → Result (SettingsSeen × SettingsSeen) Wrong
+both_or_fault (Ok x) (Ok y) = Ok (x, y)
+both_or_fault (Ok x) (Err e) = Err e
+both_or_fault (Err e) r = Err e
 
 -- the settings in both tables, beside which nothing may be
 abbrev pub tables_settings : Members → Result (SettingsSeen × SettingsSeen) Wrong
-tables_settings ms = option_map_or (λ k. Err (unknown None k)) (first_strange ms) (both (il_settings (table ms)) (fe_settings (table ms)))
+tables_settings ms = option_map_or (λ k. Err (unknown None k)) (first_strange ms) (both_or_fault (il_settings (table ms)) (fe_settings (table ms)))
 
 -- the settings in a file for both ends
 abbrev pub pair_settings : List ℕ → Result (SettingsSeen × SettingsSeen) Wrong
@@ -214,10 +214,10 @@ read_all f (Ok x) = Ok (f x)
 read_all f (Err e) = Err e
 
 -- the content of a text for the ends of a word, or the first fault
-abbrev pub ends_of : Word → List ℕ → Result EndsSeen Wrong
+abbrev pub ends_of : Subcommand → List ℕ → Result EndsSeen Wrong
 ends_of word.Il text = read_all il_seen (file_settings side.Interlocking text)
 ends_of word.Fe text = read_all fe_seen (file_settings side.FieldElement text)
-ends_of word.Pair text = read_all (λ both. pair_seen both.0 both.1) (pair_settings text)
+ends_of word.Pair text = read_all (λ both_or_fault. pair_seen both_or_fault.0 both_or_fault.1) (pair_settings text)
 
 -- the fault is that of the result; its line is not compared. Of want of memory nothing is claimed, since parsing any text takes some.
 abbrev pub IsWrong : {A : Type 0} → Result A Wrong → SettingsFault → Type 0
@@ -244,12 +244,12 @@ abbrev pub line_at : ℕ → List ℕ → ℕ
 line_at place text = 1 + count_by (λ o. o == 10) (take place text)
 
 -- the word that a file is for: both ends if it has the table of one, a field element if it has what only that has, and else an interlocking
-abbrev pub word_in : Data → Word
+abbrev pub word_in : Data → Subcommand
 word_in d =
     if is_some (get (codes "il") d) || is_some (get (codes "fe") d) then word.Pair
     else if is_some (get (codes "versions") d) || is_some (get (codes "checksum") d) then word.Fe
     else word.Il
 
 -- the same, of the keys of a table
-abbrev pub word_shown : Members → Word
+abbrev pub word_shown : Members → Subcommand
 word_shown ms = word_in (table ms)

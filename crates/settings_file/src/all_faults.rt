@@ -11,11 +11,11 @@ ghost use Rattle.end_settings.specs.declared.Side.TheVariants as side_of;
 ghost use Rattle.settings_file.specs.declared.keys.Key.TheVariants as key_of;
 ghost use Rattle.settings_file.specs.Groups.{limit_at};
 ghost use Rattle.settings_file.specs.Whole.{is_end, is_known, no_table, unknown};
-ghost use Rattle.settings_file.specs.Findings.{address_faults, at_entry, at_its_key, end_findings, entry_faults, fault_at, faults_at, finding_seen, findings_of, heartbeat_fault, if_any, is_put, members_findings, named_findings, pair_findings, peer_fault, plain, put_faults, shown, table_findings, text_in, unknown_in};
+ghost use Rattle.settings_file.specs.Findings.{address_faults, at_entry, at_its_key, end_findings, entry_faults, fault_at, faults_at, finding_seen, findings_of, heartbeat_fault, if_any, is_put, members_findings, named_findings, pair_findings, peer_fault, plain, put_faults, short_text, table_findings, text_in, unknown_in};
 
-use crate::Word;
+use crate::Subcommand;
 use crate::groups::limit;
-use crate::keys::{Found, Key, KeyFault, ReadFault, SettingsFault, Wanted, prefix};
+use crate::keys::{ExpectedValue, Key, KeyFault, PresentValue, ReadFault, SettingsFault, prefix};
 use crate::lists::{addresses, put, puts};
 use crate::readers::{
     checksum, code, first_number, identifier, initial_value, name, octet, versions, wrong,
@@ -54,8 +54,8 @@ const PLAIN_KEYS: [Key; 18] = [
 /// The fault of lists of addresses that differ in length.
 const UNEQUAL: KeyFault = KeyFault {
     key: Key::Remote,
-    expected: Wanted::Addresses,
-    found: Found::Other,
+    expected: ExpectedValue::Addresses,
+    found: PresentValue::Other,
 };
 
 /// A fault of a file.
@@ -77,7 +77,7 @@ pub struct Finding {
 /// # Errors
 ///
 /// - Returns the error if an allocation fails.
-pub fn findings(alloc: Global, word: Word, text: &str) -> Result<Vec<Finding>, AllocError>
+pub fn findings(alloc: Global, word: Subcommand, text: &str) -> Result<Vec<Finding>, AllocError>
     // If `findings` succeeds, it returns exactly the list of all faults in the text for the word, in its order,
     // each with its entry of a list and its short text. The line in a text that is not TOML is not stated here.
     ensures { IfOk result (λ all. map finding_seen all.items ≡ findings_of word text.now) }
@@ -94,7 +94,7 @@ pub fn findings(alloc: Global, word: Word, text: &str) -> Result<Vec<Finding>, A
 /// Adds the faults of a whole file.
 fn in_file(
     alloc: Global,
-    word: Word,
+    word: Subcommand,
     table: Table,
     list: &mut Vec<Finding>,
 ) -> Result<(), AllocError>
@@ -102,9 +102,9 @@ fn in_file(
     ensures { OnOk result (map finding_seen list.new.items ≡ map finding_seen list.old.items ++ members_findings word (table_view table)) }
 {
     match word {
-        Word::Il => in_end(alloc, Side::Interlocking, None, &Value::Table(table), list),
-        Word::Fe => in_end(alloc, Side::FieldElement, None, &Value::Table(table), list),
-        Word::Pair => in_pair(alloc, table, list),
+        Subcommand::Il => in_end(alloc, Side::Interlocking, None, &Value::Table(table), list),
+        Subcommand::Fe => in_end(alloc, Side::FieldElement, None, &Value::Table(table), list),
+        Subcommand::Pair => in_pair(alloc, table, list),
     }
 }
 
@@ -287,7 +287,9 @@ fn peer_fault(table: &Value) -> Option<KeyFault>
 {
     match (identifier(table, Key::Id), identifier(table, Key::PeerId)) {
         (_, Err(fault)) => Some(fault),
-        (Ok(id), Ok(peer)) if peer == id => { Some(wrong(table, Key::PeerId, Wanted::AnotherId)) }
+        (Ok(id), Ok(peer)) if peer == id => {
+            Some(wrong(table, Key::PeerId, ExpectedValue::AnotherId))
+        }
         _ => None,
     }
 }
@@ -384,7 +386,7 @@ fn find_puts(
             alloc,
             named,
             table,
-            wrong(table, Key::Puts, Wanted::Puts),
+            wrong(table, Key::Puts, ExpectedValue::Puts),
             list,
         ),
     }
@@ -436,8 +438,8 @@ fn find_entry(
 /// The fault of an entry that is not a telegram.
 const NO_TELEGRAM: KeyFault = KeyFault {
     key: Key::Puts,
-    expected: Wanted::Put,
-    found: Found::Other,
+    expected: ExpectedValue::Put,
+    found: PresentValue::Other,
 };
 
 /// Returns whether an item is a telegram.
@@ -457,7 +459,7 @@ impl fmt::Display for Finding {
         let SettingsFault::Key(named, fault) = &self.fault else {
             return write!(f, "{}", self.fault);
         };
-        if fault.expected == Wanted::Absent {
+        if fault.expected == ExpectedValue::Absent {
             return write!(f, "{}", self.fault);
         }
         write!(f, "{}{}: ", prefix(*named), fault.key.text())?;

@@ -5,7 +5,7 @@ ghost use Rattle.toml.specs.View.{view};
 ghost use Rattle.settings_file.specs.Groups.{limit_at, limits_of, identity_of, identity_seen, beginning_of, beginning_seen};
 ghost use Rattle.settings_file.specs.Readers.{read_as};
 
-use crate::keys::{Key, KeyFault, Wanted};
+use crate::keys::{ExpectedValue, Key, KeyFault};
 use crate::readers::{
     checksum, code, first_number, identifier, initial_value, name, number, octet, versions, wrong,
 };
@@ -30,7 +30,7 @@ pub fn read_identity(table: &Value) -> Result<Identity, KeyFault>
     let id = identifier(table, Key::Id)?;
     let peer_id = identifier(table, Key::PeerId)?;
     if peer_id == id {
-        return Err(wrong(table, Key::PeerId, Wanted::AnotherId));
+        return Err(wrong(table, Key::PeerId, ExpectedValue::AnotherId));
     }
     let own_name = name(table, Key::Name)?;
     let peer_name = name(table, Key::PeerName)?;

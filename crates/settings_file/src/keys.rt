@@ -59,7 +59,7 @@ pub enum Key {
 
 /// The value that a key expects.
 #[derive(Clone, Copy, Debug, PartialEq, Eq)]
-pub enum Wanted {
+pub enum ExpectedValue {
     /// A whole number in this range.
     Whole {
         /// The least number.
@@ -93,7 +93,7 @@ pub enum Wanted {
 
 /// The value that a key has.
 #[derive(Clone, Copy, Debug, PartialEq, Eq)]
-pub enum Found {
+pub enum PresentValue {
     /// None, and the default is missing or not valid.
     Nothing,
     /// This whole number.
@@ -108,9 +108,9 @@ pub struct KeyFault {
     /// The key.
     pub key: Key,
     /// The value that it expects.
-    pub expected: Wanted,
+    pub expected: ExpectedValue,
     /// The value that it has.
-    pub found: Found,
+    pub found: PresentValue,
 }
 
 /// Why a file is not a settings file. In a file for both ends a key is named with its table.
@@ -186,32 +186,32 @@ impl Key {
     }
 }
 
-impl fmt::Display for Wanted {
+impl fmt::Display for ExpectedValue {
     fn fmt<W: fmt::Write>(&self, f: &mut fmt::Formatter<W>) -> fmt::Result {
         let text = match self {
-            Wanted::Whole { low, high } => return write!(f, "{low} to {high}"),
-            Wanted::FirstNumber => "0 to 4294967295 or \"random\"",
-            Wanted::Name => "1 to 20 printable ASCII characters, no space or underscore",
-            Wanted::CodeLength => "8 or 16",
-            Wanted::SixteenOctets => "32 hex digits",
-            Wanted::UpToSixteenOctets => "0 to 16 bytes as hex digits",
-            Wanted::DifferentVersions => "1 to 4 different numbers from 0 to 255",
-            Wanted::Addresses => "1 to 4 texts, as many in local as in remote",
-            Wanted::Puts => "a list of texts TYPE:HEX",
-            Wanted::Put => "a text TYPE:HEX",
-            Wanted::AnotherId => "a number other than id",
-            Wanted::Absent => "not allowed here",
+            ExpectedValue::Whole { low, high } => return write!(f, "{low} to {high}"),
+            ExpectedValue::FirstNumber => "0 to 4294967295 or \"random\"",
+            ExpectedValue::Name => "1 to 20 printable ASCII characters, no space or underscore",
+            ExpectedValue::CodeLength => "8 or 16",
+            ExpectedValue::SixteenOctets => "32 hex digits",
+            ExpectedValue::UpToSixteenOctets => "0 to 16 bytes as hex digits",
+            ExpectedValue::DifferentVersions => "1 to 4 different numbers from 0 to 255",
+            ExpectedValue::Addresses => "1 to 4 texts, as many in local as in remote",
+            ExpectedValue::Puts => "a list of texts TYPE:HEX",
+            ExpectedValue::Put => "a text TYPE:HEX",
+            ExpectedValue::AnotherId => "a number other than id",
+            ExpectedValue::Absent => "not allowed here",
         };
         f.write_str(text)
     }
 }
 
-impl fmt::Display for Found {
+impl fmt::Display for PresentValue {
     fn fmt<W: fmt::Write>(&self, f: &mut fmt::Formatter<W>) -> fmt::Result {
         match self {
-            Found::Nothing => f.write_str("nothing"),
-            Found::Number(number) => write!(f, "{number}"),
-            Found::Other => f.write_str("another value"),
+            PresentValue::Nothing => f.write_str("nothing"),
+            PresentValue::Number(number) => write!(f, "{number}"),
+            PresentValue::Other => f.write_str("another value"),
         }
     }
 }
@@ -219,7 +219,7 @@ impl fmt::Display for Found {
 impl fmt::Display for KeyFault {
     fn fmt<W: fmt::Write>(&self, f: &mut fmt::Formatter<W>) -> fmt::Result {
         let key = self.key.text();
-        if self.expected == Wanted::Absent {
+        if self.expected == ExpectedValue::Absent {
             return write!(f, "{key}: {}", self.expected);
         }
         write!(f, "{key}: expected {}, found {}", self.expected, self.found)

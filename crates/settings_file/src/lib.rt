@@ -19,7 +19,7 @@ mod whole;
 
 pub use all_faults::{Finding, findings};
 use end_settings::Side;
-pub use keys::{Found, Key, KeyFault, SettingsFault, Wanted};
+pub use keys::{ExpectedValue, Key, KeyFault, PresentValue, SettingsFault};
 pub use lists::put;
 pub use mistakes::{Warning, warnings};
 use std::alloc::Global;
@@ -29,7 +29,7 @@ pub use whole::{single, word_of};
 
 /// The subcommands of the program that read a settings file, each with the ends that its file is for.
 #[derive(Clone, Copy, Debug, PartialEq, Eq)]
-pub enum Word {
+pub enum Subcommand {
     /// Only the interlocking: its keys are at the top of the file.
     Il,
     /// Only the field element: its keys are at the top of the file.
@@ -51,7 +51,7 @@ pub enum Word {
 /// - `Key` if the value of a key is not what it expects, in the order of the groups;
 /// - `Memory` if an allocation fails. That can happen only while the text is parsed, or when an unknown key or the
 ///   lists of addresses and telegrams are copied.
-pub fn settings(alloc: Global, word: Word, text: &str) -> Result<Ends, SettingsFault>
+pub fn settings(alloc: Global, word: Subcommand, text: &str) -> Result<Ends, SettingsFault>
     // If `settings` succeeds, its result is exactly the settings that the file's text has for the word.
     ensures ok { IfOk result (λ s. ends_of word text.now ≡ Ok (ends_seen s)) }
     // If `settings` fails, its fault is the first that the text has for the word. The line in a text that is not
@@ -59,9 +59,9 @@ pub fn settings(alloc: Global, word: Word, text: &str) -> Result<Ends, SettingsF
     ensures err { IfErr result (IsWrong (ends_of word text.now)) }
 {
     match word {
-        Word::Il => Ok(Ends::Il(single(alloc, Side::Interlocking, text)?)),
-        Word::Fe => Ok(Ends::Fe(single(alloc, Side::FieldElement, text)?)),
-        Word::Pair => {
+        Subcommand::Il => Ok(Ends::Il(single(alloc, Side::Interlocking, text)?)),
+        Subcommand::Fe => Ok(Ends::Fe(single(alloc, Side::FieldElement, text)?)),
+        Subcommand::Pair => {
             let (il, fe) = pair(alloc, text)?;
             Ok(Ends::Pair(il, fe))
         }

@@ -6,7 +6,7 @@ ghost use Rattle.settings_file.specs.Readers.{texts_of, few_texts, addresses_at,
 ghost use Rattle.settings_file.specs.declared.keys.Key.TheVariants as key_of;
 ghost use Rattle.settings_file.specs.Groups.{put_seen};
 
-use crate::keys::{Key, ReadFault, Wanted};
+use crate::keys::{ExpectedValue, Key, ReadFault};
 use crate::readers::wrong;
 use crate::values::Put;
 use hex::FromHexError;
@@ -54,7 +54,7 @@ pub fn addresses(alloc: Global, table: &Value, key: Key) -> Result<Vec<String>, 
     // If `addresses` fails with `Key`, it is the fault of the list at the key.
     ensures err { IfErr result (IsFaultOf (addresses_at (view table.now) key)) }
 {
-    let fault = ReadFault::Key(wrong(table, key, Wanted::Addresses));
+    let fault = ReadFault::Key(wrong(table, key, ExpectedValue::Addresses));
     let Some(value) = table.get(key.text()) else {
         return Err(fault);
     };
@@ -136,7 +136,7 @@ pub fn puts(alloc: Global, table: &Value) -> Result<Vec<Put>, ReadFault>
     ensures err { IfErr result (IsFaultOf (puts_at (view table.now) key_of.Puts)) }
 {
     let key = Key::Puts;
-    let fault = ReadFault::Key(wrong(table, key, Wanted::Puts));
+    let fault = ReadFault::Key(wrong(table, key, ExpectedValue::Puts));
     let Some(value) = table.get(key.text()) else {
         return Ok(Vec::new(alloc));
     };

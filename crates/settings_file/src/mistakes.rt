@@ -7,7 +7,7 @@ ghost use Rattle.pdi_session.specs.telegram.Tele.{owned_characters};
 ghost use Rattle.end_settings.specs.Lists.{checksum_in};
 ghost use Rattle.settings_file.specs.Groups.{put_seen};
 ghost use Rattle.settings_file.specs.Whole.{settings_seen};
-ghost use Rattle.settings_file.specs.Warnings.{address_warnings, are_two_kinds, channel_warnings, ends_early, heartbeats_of, identity_warnings, if_so, is_unsent, is_v6, limit_warnings, long_payloads, names_no_port, number_warnings, overruns, ports, repeats, stands_before, warnings_of};
+ghost use Rattle.settings_file.specs.Warnings.{address_warnings, are_two_kinds, channel_warnings, ends_early, heartbeats_of, identity_warnings, if_so, is_unsent, is_v6, limit_warnings, long_payloads, names_no_port, number_warnings, overruns, ports, repeat_warnings, stands_before, warnings_of};
 
 use crate::keys::Key;
 use crate::values::{Put, Settings};
@@ -295,7 +295,7 @@ fn find_repeats(
     requires { place + length texts.now < 2 ^ 64 }
     // If `find_repeats` succeeds, it has appended a warning for each text that occurs again later in the list,
     // numbered from `place`.
-    ensures { OnOk result (list.new.items ≡ list.old.items ++ repeats key place (map string_bytes texts.now)) }
+    ensures { OnOk result (list.new.items ≡ list.old.items ++ repeat_warnings key place (map string_bytes texts.now)) }
 {
     let [text, others @ ..] = texts else {
         return Ok(());

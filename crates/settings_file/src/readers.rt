@@ -10,7 +10,7 @@ ghost use Rattle.end_settings.specs.Lists.{versions_in, checksum_in};
 ghost use Rattle.pdi_session.specs.declared.TheConstants.{VERSIONS_MAX};
 ghost use Rattle.settings_file.specs.declared.keys.Key.TheVariants as key_of;
 
-use crate::keys::{Found, Key, KeyFault, Wanted};
+use crate::keys::{ExpectedValue, Key, KeyFault, PresentValue};
 use arrayvec::ArrayVec;
 use end_settings::{Checksum, Side, Versions};
 use md4::INITIAL_VALUE;
@@ -20,16 +20,16 @@ use pdi_session::{CHECKSUM_MAX, VERSIONS_MAX};
 use toml::Value;
 
 /// Returns the fault at a key, with the value that the table has there.
-pub fn wrong(table: &Value, key: Key, expected: Wanted) -> KeyFault
+pub fn wrong(table: &Value, key: Key, expected: ExpectedValue) -> KeyFault
     // `wrong` returns a fault with this key, the value it expects and the value found: nothing, a whole number, or
     // another value.
     ensures { result ≡ wrong_at (view table.now) key expected }
 {
     let found = match table.get(key.text()) {
-        None => Found::Nothing,
+        None => PresentValue::Nothing,
         Some(value) => match value.as_integer() {
-            Some(number) => Found::Number(number),
-            None => Found::Other,
+            Some(number) => PresentValue::Number(number),
+            None => PresentValue::Other,
         },
     };
     KeyFault {
@@ -53,7 +53,7 @@ pub fn number(
     // The number that `number` returns is at most `high`.
     ensures within { IfOk result (λ n. n ≤ high) }
 {
-    let expected = Wanted::Whole { low, high };
+    let expected = ExpectedValue::Whole { low, high };
     let fault = wrong(table, key, expected);
     let number = match table.get(key.text()) {
         Some(value) => match value.as_integer() {
@@ -105,7 +105,7 @@ pub fn first_number(table: &Value) -> Result<Option<u32>, KeyFault>
     ensures { result ≡ first_number_at (view table.now) key_of.FirstSn }
 {
     let key = Key::FirstSn;
-    let fault = wrong(table, key, Wanted::FirstNumber);
+    let fault = wrong(table, key, ExpectedValue::FirstNumber);
     let Some(value) = table.get(key.text()) else {
         return Ok(Some(1));
     };
@@ -137,7 +137,7 @@ pub fn code(table: &Value) -> Result<u64, KeyFault>
     match value.as_integer() {
         Some(8) => Ok(8),
         Some(16) => Ok(16),
-        _ => Err(wrong(table, key, Wanted::CodeLength)),
+        _ => Err(wrong(table, key, ExpectedValue::CodeLength)),
     }
 }
 
@@ -146,7 +146,7 @@ pub fn name(table: &Value, key: Key) -> Result<OwnedName, KeyFault>
     // `name` returns the characters of the text at the key if they are a name, and else a fault.
     ensures { read_as owned_characters result ≡ name_at (view table.now) key }
 {
-    let fault = wrong(table, key, Wanted::Name);
+    let fault = wrong(table, key, ExpectedValue::Name);
     let Some(value) = table.get(key.text()) else {
         return Err(fault);
     };
@@ -167,7 +167,7 @@ pub fn initial_value(table: &Value) -> Result<[u32; 4], KeyFault>
     ensures { result ≡ initial_value_at (view table.now) key_of.InitialValue }
 {
     let key = Key::InitialValue;
-    let fault = wrong(table, key, Wanted::SixteenOctets);
+    let fault = wrong(table, key, ExpectedValue::SixteenOctets);
     let Some(value) = table.get(key.text()) else {
         return Ok(INITIAL_VALUE);
     };
@@ -210,7 +210,7 @@ pub fn checksum(table: &Value) -> Result<Checksum, KeyFault>
     ensures { read_as checksum_in result ≡ checksum_at (view table.now) key_of.Checksum }
 {
     let key = Key::Checksum;
-    let fault = wrong(table, key, Wanted::UpToSixteenOctets);
+    let fault = wrong(table, key, ExpectedValue::UpToSixteenOctets);
     let text = match table.get(key.text()) {
         None => "",
         Some(value) => match value.as_str() {
@@ -316,7 +316,7 @@ fn for_interlocking(table: &Value) -> Result<Versions, KeyFault>
     ensures { read_as versions_in result ≡ il_versions (view table.now) }
 {
     if table.get(Key::Versions.text()).is_some() {
-        return Err(wrong(table, Key::Versions, Wanted::Absent));
+        return Err(wrong(table, Key::Versions, ExpectedValue::Absent));
     }
     one(table)
 }
@@ -331,11 +331,11 @@ fn for_field_element(table: &Value) -> Result<Versions, KeyFault>
         return one(table);
     };
     if table.get(Key::Version.text()).is_some() {
-        return Err(wrong(table, Key::Version, Wanted::Absent));
+        return Err(wrong(table, Key::Version, ExpectedValue::Absent));
     }
     match different(value) {
         Some(versions) => Ok(versions),
-        None => Err(wrong(table, Key::Versions, Wanted::DifferentVersions)),
+        None => Err(wrong(table, Key::Versions, ExpectedValue::DifferentVersions)),
     }
 }
 

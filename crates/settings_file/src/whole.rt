@@ -13,9 +13,9 @@ ghost use Rattle.toml.specs.Parse.{parse_document};
 ghost use Rattle.settings_file.specs.declared.keys.SettingsFault.TheVariants as settings_fault;
 ghost use Rattle.std.specs.Prelude.{◌==◌, ◌≤◌, Some, alloc_error, count_by, length, map, option_map, string_bytes};
 
-use crate::Word;
+use crate::Subcommand;
 use crate::groups::{read_beginning, read_identity, read_limits};
-use crate::keys::{Found, Key, KeyFault, ReadFault, SettingsFault, Wanted};
+use crate::keys::{ExpectedValue, Key, KeyFault, PresentValue, ReadFault, SettingsFault};
 use crate::lists::{addresses, puts};
 use crate::values::{Beginning, Identity, Limits, Settings};
 use end_settings::{EndConfig, Side};
@@ -34,8 +34,8 @@ fn matched(local: &[String], remote: Vec<String>) -> Result<Vec<String>, KeyFaul
     } else {
         Err(KeyFault {
             key: Key::Remote,
-            expected: Wanted::Addresses,
-            found: Found::Other,
+            expected: ExpectedValue::Addresses,
+            found: PresentValue::Other,
         })
     }
 }
@@ -283,7 +283,7 @@ fn feeds(octets: &[u8]) -> usize
 ///
 /// - `Document` if the text is not a TOML document;
 /// - `Memory` if an allocation fails.
-pub fn word_of(alloc: Global, text: &str) -> Result<Word, SettingsFault>
+pub fn word_of(alloc: Global, text: &str) -> Result<Subcommand, SettingsFault>
     // If `word_of` succeeds, its result is the word that the keys of the text's table show.
     ensures ok { IfOk result (λ w. option_map word_shown (parse_document text.now) ≡ Some w) }
     // `word_of` fails only if the text is not TOML, with `Document`, or with `Memory`.
@@ -294,17 +294,17 @@ pub fn word_of(alloc: Global, text: &str) -> Result<Word, SettingsFault>
 }
 
 /// Returns the word that the keys of a table show.
-fn word_shown(file: &Value) -> Word
+fn word_shown(file: &Value) -> Subcommand
     // `word_shown` returns `Pair` for a table with `il` or `fe`, else `Fe` for one with `versions` or `checksum`,
     // and else `Il`.
     ensures { result ≡ word_in (view file.now) }
 {
     if file.get("il").is_some() || file.get("fe").is_some() {
-        Word::Pair
+        Subcommand::Pair
     } else if file.get("versions").is_some() || file.get("checksum").is_some() {
-        Word::Fe
+        Subcommand::Fe
     } else {
-        Word::Il
+        Subcommand::Il
     }
 }
 

@@ -5,7 +5,7 @@ use Rattle.std.proofs.lemmas.List.{take-append-le}
 use Rattle.end_settings.specs.declared.Side.{Side}
 use Rattle.end_settings.specs.declared.Side.TheVariants.{Interlocking, FieldElement}
 use Rattle.sim.specs.Made.{MadePdu, fresh, is_named_at, named_at, with_name}
-use Rattle.sim.specs.Ledger.{chosen, named_by}
+use Rattle.sim.specs.Ledger.{list_of_side, named_by}
 use Rattle.sim.specs.declared.label.Label.{Label}
 
 both_left : (a b : Bool) → (a && b) ≡ true → a ≡ true
@@ -37,7 +37,7 @@ stays_named_before (p ∷ ps) datagram (suc j) h = stays_named_before ps datagra
 
 side_stays : (il fe il' fe' : List MadePdu) → ((j : ℕ) → is_named_at j il ≡ true → is_named_at j il' ≡ true)
     → ((j : ℕ) → is_named_at j fe ≡ true → is_named_at j fe' ≡ true) → (side : Side) (place : ℕ)
-    → is_named_at place (chosen side il fe) ≡ true → is_named_at place (chosen side il' fe') ≡ true
+    → is_named_at place (list_of_side side il fe) ≡ true → is_named_at place (list_of_side side il' fe') ≡ true
 side_stays il fe il' fe' a b Interlocking place h = a place h
 side_stays il fe il' fe' a b FieldElement place h = b place h
 

@@ -16,13 +16,13 @@ abbrev pub no_pdus : Ledger
 no_pdus = record { il = []; fe = []; order = [] }
 
 -- The list of an end, of two lists.
-abbrev pub chosen : Side → List MadePdu → List MadePdu → List MadePdu
-chosen Interlocking il fe = il
-chosen FieldElement il fe = fe
+abbrev pub list_of_side : Side → List MadePdu → List MadePdu → List MadePdu
+list_of_side Interlocking il fe = il
+list_of_side FieldElement il fe = fe
 
 -- The PDUs of an end.
 abbrev pub made_by : Side → Ledger → List MadePdu
-made_by side l = chosen side l.il l.fe
+made_by side l = list_of_side side l.il l.fe
 
 -- The datagram of a PDU, if it has been made.
 abbrev pub datagram_of : Label → Ledger → Option (List ℕ)
@@ -30,7 +30,7 @@ datagram_of label l = datagram_at label.place (made_by label.side l)
 
 -- A line has named the PDU of this label, among these of the interlocking and these of the field element.
 abbrev pub named_by : List MadePdu → List MadePdu → Label → Bool
-named_by il fe label = is_named_at label.place (chosen label.side il fe)
+named_by il fe label = is_named_at label.place (list_of_side label.side il fe)
 
 -- A line has named the PDU of this label.
 abbrev pub is_named : Ledger → Label → Bool

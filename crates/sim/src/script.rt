@@ -7,8 +7,8 @@ use crate::{
 };
 use end_settings::Side;
 use octets::Milliseconds;
-use pdu_text::Standing;
-use stack_engine::{ApplyFault, Call, Doing, Event, Pair};
+use pdu_text::EndReport;
+use stack_engine::{Action, ApplyFault, Call, Event, Pair};
 use std::alloc::Allocator;
 use std::io;
 use std::io::{ErrorKind, Read, Write};
@@ -165,7 +165,7 @@ impl<W: Write + Drop, A: Allocator + Copy> Script<W, A> {
         let event = Event {
             side,
             time: now,
-            doing: Doing::Call(call),
+            doing: Action::Call(call),
         };
         self.happen(&event, is_tick)
     }
@@ -200,7 +200,7 @@ impl<W: Write + Drop, A: Allocator + Copy> Script<W, A> {
         let event = Event {
             side,
             time: *self.clocks.of(side),
-            doing: Doing::Open {
+            doing: Action::Open {
                 config: self.settings.config(side),
                 first_sn: self.settings.first_sn(side),
             },
@@ -385,7 +385,7 @@ fn arrive<A: Allocator + Copy>(
     let event = Event {
         side,
         time: now,
-        doing: Doing::Call(call),
+        doing: Action::Call(call),
     };
     Arrival {
         is_dead,
@@ -394,11 +394,11 @@ fn arrive<A: Allocator + Copy>(
 }
 
 /// Returns the state of an end; `None` if it was never opened.
-fn standing<A: Allocator + Copy>(pair: &Pair<A>, side: Side) -> Option<Standing> {
+fn standing<A: Allocator + Copy>(pair: &Pair<A>, side: Side) -> Option<EndReport> {
     let end = pair.end_of(side)?;
     let last = pair.incarnations(side).checked_sub(1)?;
     let entry = pair.report(side, last)?;
-    Some(Standing {
+    Some(EndReport {
         state: end.state(),
         phase: end.phase(),
         put: entry.put.len() as u64,

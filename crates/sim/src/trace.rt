@@ -9,7 +9,7 @@ use end_settings::Side;
 use octets::limits::{Q_MAX, RED_HEADER, SAFE_HEADER};
 use octets::places::{u16_at, u32_at};
 use pdu_text::{
-    Standing, phase_name, red_cause, side_name, state_name, step_cause, write_refusal,
+    EndReport, phase_name, red_cause, side_name, state_name, step_cause, write_refusal,
     write_report, write_take,
 };
 use red_layer::RedEvent;
@@ -148,7 +148,7 @@ impl<W: Write + Drop, A: Allocator + Copy> Trace<W, A> {
     pub fn report(
         &mut self,
         side: Side,
-        standing: Option<Standing>,
+        standing: Option<EndReport>,
     ) -> Result<(), ScriptLineFault> {
         check_written(write_report(&mut self.out, side, standing))
     }

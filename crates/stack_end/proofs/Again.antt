@@ -1,11 +1,11 @@
 -- An end that is opened again: no call changes its settings, so that each layer is as newly opened.
 use Rattle.stack_end.proofs.Words.{[], ap, Arrives, Bool, by_cond, ClosedByUser, Closes, Completes, Datagram, datagrams, Dialogue, EndSettings, Err, Event, false}
-use Rattle.stack_end.proofs.Words.{if◌then◌else◌, Input, Inside, is_nil, judge_messages, judge_read, judge_units, judge_unpacked, Judged, Leaving, length, List, meets, None, number_behind}
-use Rattle.stack_end.proofs.Words.{Ok, opens, Option, Part, passed_by, Puts, Receiver, red_after, RedTick, refl, Result, rises, rule_of, sendings, session_in, Settings, Some, subst}
+use Rattle.stack_end.proofs.Words.{if◌then◌else◌, Input, Inside, is_nil, judge_messages, judge_read, judge_units, judge_unpacked, Judged, Leaving, length, List, process_event, None, number_behind}
+use Rattle.stack_end.proofs.Words.{Ok, opening_turn, Option, Part, parts_passed, Puts, Receiver, red_after, RedTick, refl, Result, rises, rule_of, sendings, session_in, Settings, Some, subst}
 use Rattle.stack_end.proofs.Words.{suc, sym, Tele, tele_seen, TeleFault, true, unit_seen, unit_text, unless_leaving, Unspecified, View, zero, ℕ, ◌%◌, ◌^◌, ◌∙◌, ◌∷◌, ◌≡◌, PackFault, take, comes_up}
-use Rattle.pdi_session.specs.SessionStep.{opened as session_opened, SessionState}
+use Rattle.pdi_session.specs.SessionStep.{new_session as session_opened, SessionState}
 use Rattle.red_layer.specs.FiniteMap.{has_number}
-use Rattle.red_layer.specs.Redundancy.{after_release, arrival, decoded, deferred, follow, heard as red_heard, is_due, least_waiting, opened as red_opened, Stepped}
+use Rattle.red_layer.specs.Redundancy.{after_release, arrival, decoded, defer, follow, step_decoded as red_heard, is_due, least_waiting, new_receiver as red_opened, ReceiverStep}
 use Rattle.red_layer.specs.declared.pdu.RedFault.{RedFault}
 use Rattle.octets.specs.declared.limits.TheConstants.{REACH}
 use Rattle.safe_machine.specs.Turned.{HasMade}
@@ -14,9 +14,9 @@ use Rattle.safe_machine.proofs.one.Identified.{settings_law_holds}
 use Rattle.safe_machine.proofs.one.Turning.{opened-cases, opening_law_holds}
 use Rattle.safe_machine.specs.Moves.{Move, move}
 use Rattle.safe_machine.specs.Moves.Move.{Guards, Leaves, Sends, Ticks}
-use Rattle.safe_machine.specs.Octets.{arrive_octets, heard as heard_move, seen_by}
+use Rattle.safe_machine.specs.Octets.{arrive_octets, move_of as heard_move, seen_by}
 use Rattle.safe_machine.specs.State.{State}
-use Rattle.safe_machine.specs.Step.{may_send, opened}
+use Rattle.safe_machine.specs.Step.{may_send, new_state}
 use Rattle.safe_machine.specs.View.{kept_of}
 use Rattle.safe_machine.specs.World.{Side}
 use Rattle.safe_machine.specs.World.Side.{Il, Fe}
@@ -25,7 +25,7 @@ use Rattle.stack_end.proofs.Turning.{behind-wrap, datagrams-are, opens-made}
 use Rattle.stack_end.specs.Ends.{answered, Call, call, Close, Deliver, did, EndState, goes_on, handed_up, heard, InitDone, is_shut, leaves, moved, new_end, packed, packed_up_to}
 use Rattle.stack_end.specs.Ends.{part, parts, Put, receives, sends, settle, Tick, with_input, with_machine, with_session}
 use Rattle.stack_end.specs.Fields.{BothStand, Stands}
-use Rattle.stack_end.specs.Reopening.{after_calls, AgainLaw, IsAgain, reopens}
+use Rattle.stack_end.specs.Reopening.{after_calls, AgainLaw, IsAgain, reopening_turn}
 use Rattle.stack_end.specs.Statistics.{none_made, with_made}
 use Rattle.std.proofs.Common.{zero-add}
 
@@ -40,7 +40,7 @@ same d = record { addressing = refl; role = refl }
 same-then : (d e f : Dialogue) → Same d e → Same e f → Same d f
 same-then d e f h k = record { addressing = k.addressing ∙ h.addressing; role = k.role ∙ h.role }
 
-same-meets : (e : Event) (d : Dialogue) → Same d (meets e d)
+same-meets : (e : Event) (d : Dialogue) → Same d (process_event e d)
 same-meets e d = record { addressing = refl; role = refl }
 
 same-read : (r : Result Tele TeleFault) (d : Dialogue) → Same d (judge_read r d).left
@@ -88,7 +88,7 @@ still-if : (b : Bool) (r q p : Receiver) → Still r q → Still r p → Still r
 still-if true r q p h k = h
 still-if false r q p h k = k
 
-steps-if : (b : Bool) (r : Receiver) (s t : Stepped) → Still r s.left → Still r t.left → Still r (if b then s else t).left
+steps-if : (b : Bool) (r : Receiver) (s t : ReceiverStep) → Still r s.left → Still r t.left → Still r (if b then s else t).left
 steps-if true r s t h k = h
 steps-if false r s t h k = k
 
@@ -98,7 +98,7 @@ still-follow now n r = record { q = refl; t_seq = refl }
 still-release : (now : ℕ) (r : Receiver) → Still r (after_release now r)
 still-release now r = still-if (is_due now r) r _ _ (still-follow now (least_waiting r.waiting) r) (still r)
 
-still-deferred : (now : ℕ) (p : Part) (r : Receiver) → Still r (deferred now p r).left
+still-deferred : (now : ℕ) (p : Part) (r : Receiver) → Still r (defer now p r).left
 still-deferred now p r =
     steps-if (has_number p.0 r.waiting) r _ _ (still r) (steps-if (length r.waiting == r.q) r _ _ (still r) (record { q = refl; t_seq = refl }))
 
@@ -143,7 +143,7 @@ kept-if false x y z h k = k
 kept-machine : (m : Move) (x : EndState) → Kept x (with_machine (move m x.machine) x)
 kept-machine m x = record { settings = refl; red = still x.red; machine = settings_law_holds m x.machine; session = same x.session }
 
-kept-meets : (e : Event) (x : EndState) → Kept x (with_session (meets e x.session) x)
+kept-meets : (e : Event) (x : EndState) → Kept x (with_session (process_event e x.session) x)
 kept-meets e x = record { settings = refl; red = still x.red; machine = refl; session = same-meets e x.session }
 
 kept-settle : (x : EndState) → Kept x (settle x)
@@ -187,7 +187,7 @@ kept-receives : (now : ℕ) (i : Input) (x : EndState) → Kept x (receives now 
 kept-receives now i x =
     let y = with_input i x in
     let red : Kept x y = record { settings = refl; red = still-after i x.red; machine = refl; session = same x.session } in
-    kept-then x y (receives now i x) red (kept-parts now (passed_by i x.red) y)
+    kept-then x y (receives now i x) red (kept-parts now (parts_passed i x.red) y)
 
 kept-packed : (now : ℕ) (x : EndState) → Kept x (packed now x)
 kept-packed now x =
@@ -217,11 +217,11 @@ kept-did : (c : Call) (x : EndState) → Kept x (did c x)
 kept-did (Close now) x = kept-moved (Leaves ClosedByUser Unspecified now) x
 kept-did (Put kind payload now) x =
     let e = Puts kind payload (length x.session.waiting) in
-    let y = with_session (meets e x.session) x in
+    let y = with_session (process_event e x.session) x in
     kept-then x y (sends now y) (kept-meets e x) (kept-sends now y)
 kept-did (InitDone now) x =
     let e = Completes (length x.session.waiting) in
-    let y = with_session (meets e x.session) x in
+    let y = with_session (process_event e x.session) x in
     kept-then x y (sends now y) (kept-meets e x) (kept-sends now y)
 kept-did (Tick now) x =
     let y = moved (Ticks now) x in
@@ -243,7 +243,7 @@ kept-calls (c ∷ cs) x =
     kept-then x y (after_calls cs y) (kept-call c x) (kept-calls cs y)
 
 -- an opening
-opened-settings : (settings : Settings) (first now : ℕ) → (opened settings first now).settings ≡ settings
+opened-settings : (settings : Settings) (first now : ℕ) → (new_state settings first now).settings ≡ settings
 opened-settings settings first now = opened-cases (λ t. t.settings ≡ settings) settings first now (λ _. refl) (λ _. refl)
 
 rule-same : (side : Side) (s : EndSettings) → (connection_of side s).rule ≡ rule_of s
@@ -252,17 +252,17 @@ rule-same Fe s = refl
 
 -- the machine of an end that opens again
 record Machine (side : Side) (s : EndSettings) (first now : ℕ) (m : Settings) (n : ℕ) : Type 0 where
-  stands : (opens m first now).left ≡ kept_of (opened (connection_of side s) first now)
-  has_made : HasMade (opens m first now).left
-  numbers : number_behind 0 (opens m first now).made ≡ length (opened (connection_of side s) first now).made % 2 ^ 32
-  made : with_made (opens m first now).made none_made ≡ with_made (opened (connection_of side s) first now).made none_made
-  sent : datagrams m.rule n 0 (opens m first now).made ≡ sendings s 0 (opened (connection_of side s) first now).made
+  stands : (opening_turn m first now).left ≡ kept_of (new_state (connection_of side s) first now)
+  has_made : HasMade (opening_turn m first now).left
+  numbers : number_behind 0 (opening_turn m first now).made ≡ length (new_state (connection_of side s) first now).made % 2 ^ 32
+  made : with_made (opening_turn m first now).made none_made ≡ with_made (new_state (connection_of side s) first now).made none_made
+  sent : datagrams m.rule n 0 (opening_turn m first now).made ≡ sendings s 0 (new_state (connection_of side s) first now).made
 
 machine-new : (side : Side) (s : EndSettings) (first now : ℕ) → Machine side s first now (connection_of side s) s.channels
 machine-new side s first now =
     let m = connection_of side s in
     let law = opening_law_holds m first now in
-    let made = (opens m first now).made in
+    let made = (opening_turn m first now).made in
     record {
       stands = law.stands;
       has_made = opens-made m first now;

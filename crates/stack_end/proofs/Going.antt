@@ -1,11 +1,11 @@
 -- Turns of an end one after the other, what the calls of a session do to its dialogue, and the parts and datagrams that come one by one.
 use Rattle.stack_end.proofs.Words.{[], above, added_by, after, ap, append-nil, append_assoc, arith, Arrives, Bool, Closed, ConnectionState, datagrams, Dialogue}
 use Rattle.stack_end.proofs.Words.{dialogue_of, Down, drop, end_of, Err, Event, false, Fields, FoldsTo, followed, if_ended, if◌then◌else◌, Input, Inside}
-use Rattle.stack_end.proofs.Words.{is_closed, is_over, Item, judge_messages, judge_read, judge_units, judge_unpacked, Judged, judged, Judges, Keeps, Leaving}
-use Rattle.stack_end.proofs.Words.{length, length-append, List, machine_turn, MachineTurn, Made, meets, next_number, None, number_behind, Ok, on_channels}
-use Rattle.stack_end.proofs.Words.{Option, PackFault, Part, part, parts, passed_by, Receiver, receives, red_after, red_text, refl, Result, RetrReq, RetrRun}
+use Rattle.stack_end.proofs.Words.{is_closed, is_over, Item, judge_messages, judge_read, judge_units, judge_unpacked, Judged, judge_telegram, Judges, Keeps, Leaving}
+use Rattle.stack_end.proofs.Words.{length, length-append, List, machine_turn, MachineTurn, Made, process_event, next_number, None, number_behind, Ok, on_channels}
+use Rattle.stack_end.proofs.Words.{Option, PackFault, Part, part, parts, parts_passed, Receiver, receives, red_after, red_text, refl, Result, RetrReq, RetrRun}
 use Rattle.stack_end.proofs.Words.{SendsOne, session_in, session_turn, Some, Speaks, Start, still, subst, suc, sym, taken_by, Tele, tele_seen, TeleFault}
-use Rattle.stack_end.proofs.Words.{text_of, Told, Turn, unit_seen, unless_leaving, Up, View, WentAlone, zero, ℕ, ◌%◌, ◌++◌, ◌+◌, ◌<◌, ◌^◌, ◌∙◌, ◌∷◌, ◌≡◌}
+use Rattle.stack_end.proofs.Words.{text_of, ChannelHistory, Turn, unit_seen, unless_leaving, Up, View, WentAlone, zero, ℕ, ◌%◌, ◌++◌, ◌+◌, ◌<◌, ◌^◌, ◌∙◌, ◌∷◌, ◌≡◌}
 use Rattle.stack_end.proofs.Words.{◌≤◌}
 use Rattle.byteorder.specs.Endian.{little_bytes, little_number}
 use Rattle.channels.specs.Told.{Sending}
@@ -26,7 +26,7 @@ use Rattle.stack_end.specs.Statistics.{with_kind, with_known, with_made, with_pd
 use Rattle.stack_end.specs.Talk.{judge_next, Spoke, Talk, texts_of as talk_texts, Took}
 use Rattle.stack_end.specs.Turns.{accepts, put_answer, Went}
 use Rattle.stack_end.specs.declared.statistics.MadeCounts.{MadeCounts}
-use Rattle.stack_end.specs.declared.upper.Upper.{Upper}
+use Rattle.stack_end.specs.declared.upper.UpperLayers.{UpperLayers}
 use Rattle.std.proofs.Common.{add-one, get_or}
 use Rattle.std.proofs.lemmas.Bool.Decides.{nat_tests}
 use Rattle.std.specs.Prelude.{nat_lt}
@@ -35,7 +35,7 @@ use Rattle.std.specs.Prelude.{is_none, min, ◌-◌}
 use Rattle.stack_end.proofs.Words.{Puts}
 
 -- one turn, and then another
-pub went-then : {V T : Type 0} (takes : T → Item → T → Type 0) (t : Turn V) (next : V → Turn V) (a b c : Told) (x y z : T) (v w : V) → Went takes t a x v b y
+pub went-then : {V T : Type 0} (takes : T → Item → T → Type 0) (t : Turn V) (next : V → Turn V) (a b c : ChannelHistory) (x y z : T) (v w : V) → Went takes t a x v b y
     → Went takes (next v) b y w c z
     → Went takes (followed t next) a x w c z
 went-then takes t next a b c x y z v w h k =
@@ -45,7 +45,7 @@ went-then takes t next a b c x y z v w h k =
       taken = FoldsTo-append takes t.taken (next t.left).taken x y z h.taken (subst (λ q. FoldsTo takes y (next q).taken z) h.left k.taken);
     }
 
-pub alone-then : {V : Type 0} (t : Turn V) (next : V → Turn V) (a b c : Told) (v w : V) → WentAlone t a v b → WentAlone (next v) b w c
+pub alone-then : {V : Type 0} (t : Turn V) (next : V → Turn V) (a b c : ChannelHistory) (v w : V) → WentAlone t a v b → WentAlone (next v) b w c
     → WentAlone (followed t next) a w c
 alone-then t next a b c v w h k =
     record {
@@ -55,35 +55,35 @@ alone-then t next a b c v w h k =
     }
 
 -- who takes is left as he was
-pub went-alone : {V T : Type 0} (takes : T → Item → T → Type 0) (t : Turn V) (a b : Told) (x : T) (v : V) → WentAlone t a v b → Went takes t a x v b x
+pub went-alone : {V T : Type 0} (takes : T → Item → T → Type 0) (t : Turn V) (a b : ChannelHistory) (x : T) (v : V) → WentAlone t a v b → Went takes t a x v b x
 went-alone takes t a b x v h = record { left = h.left; sent = h.sent; taken = subst (λ xs. FoldsTo takes x xs x) (sym h.none) refl }
 
-pub alone-still : {V : Type 0} (v : V) (a : Told) → WentAlone (still v) a v a
+pub alone-still : {V : Type 0} (v : V) (a : ChannelHistory) → WentAlone (still v) a v a
 alone-still v a = record { left = refl; sent = refl; none = refl }
 
 -- by an equal turn
-pub went-as : {V T : Type 0} (takes : T → Item → T → Type 0) (t u : Turn V) (a b : Told) (x y : T) (v : V) → t ≡ u → Went takes t a x v b y
+pub went-as : {V T : Type 0} (takes : T → Item → T → Type 0) (t u : Turn V) (a b : ChannelHistory) (x y : T) (v : V) → t ≡ u → Went takes t a x v b y
     → Went takes u a x v b y
 went-as takes t u a b x y v e h = subst (λ q. Went takes q a x v b y) e h
 
-pub alone-as : {V : Type 0} (t u : Turn V) (a b : Told) (v : V) → t ≡ u → WentAlone t a v b → WentAlone u a v b
+pub alone-as : {V : Type 0} (t u : Turn V) (a b : ChannelHistory) (v : V) → t ≡ u → WentAlone t a v b → WentAlone u a v b
 alone-as t u a b v e h = subst (λ q. WentAlone q a v b) e h
 
 -- nothing is sent, and this is left
-pub alone-left : {V : Type 0} (v w : V) (a : Told) → w ≡ v → WentAlone (still v) a w a
+pub alone-left : {V : Type 0} (v w : V) (a : ChannelHistory) → w ≡ v → WentAlone (still v) a w a
 alone-left v w a e = record { left = e; sent = refl; none = refl }
 
 -- an event of the session at which nothing is taken
-pub event-went : (event : Event) (v : Fields) (session : SessionState) (waiting : List (List ℕ)) (a : Told) → session ≡ after event v.session
+pub event-went : (event : Event) (v : Fields) (session : SessionState) (waiting : List (List ℕ)) (a : ChannelHistory) → session ≡ after event v.session
     → waiting ≡ v.waiting ++ texts_of (added_by event v.session) → taken_by event v.session ≡ []
-    → WentAlone (session_turn (meets event (dialogue_of v)) v) a (record v { session = session; waiting = waiting }) a
+    → WentAlone (session_turn (process_event event (dialogue_of v)) v) a (record v { session = session; waiting = waiting }) a
 event-went event v session waiting a left added none = record { left = λ i. record v { session = left i; waiting = added i }; sent = refl; none = none }
 
 -- the telegram that is put, and its count
-pub put-went : (kind : ℕ) (payload : List ℕ) (v : Fields) (session : SessionState) (waiting : List (List ℕ)) (n : ℕ) (a : Told)
+pub put-went : (kind : ℕ) (payload : List ℕ) (v : Fields) (session : SessionState) (waiting : List (List ℕ)) (n : ℕ) (a : ChannelHistory)
     → put_answer kind payload v ≡ None → session ≡ after (Puts kind payload (length v.waiting)) v.session
     → waiting ≡ v.waiting ++ texts_of (added_by (Puts kind payload (length v.waiting)) v.session) → n ≡ min (v.accepted + 1) (2 ^ 64 - 1)
-    → let d = meets (Puts kind payload (length v.waiting)) (dialogue_of v) in
+    → let d = process_event (Puts kind payload (length v.waiting)) (dialogue_of v) in
     WentAlone (session_turn d (accepts d v)) a (record v { session = session; waiting = waiting; accepted = n }) a
 put-went kind payload v session waiting n a answer left added more =
     let count : n ≡ min (v.accepted + length (put_by (Puts kind payload (length v.waiting)) v.session)) (2 ^ 64 - 1) =
@@ -91,7 +91,7 @@ put-went kind payload v session waiting n a answer left added more =
     record { left = λ i. record v { session = left i; waiting = added i; accepted = count i }; sent = refl; none = refl }
 
 -- the session goes on to the end of a dialogue that began here
-pub session-went : {T : Type 0} (takes : T → Item → T → Type 0) (d e : Dialogue) (v : Fields) (a : Told) (s t : Talk T) → d.history.taken ≡ []
+pub session-went : {T : Type 0} (takes : T → Item → T → Type 0) (d e : Dialogue) (v : Fields) (a : ChannelHistory) (s t : Talk T) → d.history.taken ≡ []
     → Spoke takes d e s t
     → Went takes (session_turn e v) a s.taker (record v { session = t.session; waiting = t.waiting }) a t.taker
 session-went takes d e v a s t none h =
@@ -102,11 +102,11 @@ session-went takes d e v a s t none h =
     }
 
 -- notes change nothing that the channels show
-pub went-told : {V T : Type 0} (takes : T → Item → T → Type 0) (t : Turn V) (a b c : Told) (x y : T) (v : V) → c ≡ b → Went takes t a x v b y
+pub went-told : {V T : Type 0} (takes : T → Item → T → Type 0) (t : Turn V) (a b c : ChannelHistory) (x y : T) (v : V) → c ≡ b → Went takes t a x v b y
     → Went takes t a x v c y
 went-told takes t a b c x y v e h = subst (λ q. Went takes t a x v q y) (sym e) h
 
-pub alone-told : {V : Type 0} (t : Turn V) (a b c : Told) (v : V) → c ≡ b → WentAlone t a v b → WentAlone t a v c
+pub alone-told : {V : Type 0} (t : Turn V) (a b c : ChannelHistory) (v : V) → c ≡ b → WentAlone t a v b → WentAlone t a v c
 alone-told t a b c v e h = subst (λ q. WentAlone t a v q) (sym e) h
 
 -- a PDU that was made is counted by its type
@@ -136,7 +136,7 @@ counts-kind rule m c =
     counts-known p.kind (SAFE_HEADER + length p.body + code_octets rule.length) ((numbers ++ p.body) ++ code_over rule (front_text rule p)) c
 
 -- The PDUs' bytes, passed one by one to the part that numbers them and sends them on all channels.
-module _ {S : Type 0} (channels : S → Told) (numbers count : S → ℕ) (counts : S → MadeCounts) (R : S → List ℕ → S → Type 0)
+module _ {S : Type 0} (channels : S → ChannelHistory) (numbers count : S → ℕ) (counts : S → MadeCounts) (R : S → List ℕ → S → Type 0)
     (step : (s : S) (pdu : List ℕ) (t : S) → R s pdu t → (count t ≡ count s) × (counts t ≡ with_pdu pdu (counts s))
     × (numbers t ≡ (numbers s + 1) % 2 ^ 32) × FoldsTo SendsOne (channels s) (on_channels (count s) (red_text (numbers s) pdu)) (channels t)) where
   pub datagrams-out : (rule : CodeRule) (ms : List Made) (s t : S) → FoldsTo R s (texts rule ms) t
@@ -174,14 +174,14 @@ module _ {S : Type 0} (channels : S → Told) (numbers count : S → ℕ) (count
       }
 
 -- what calls keep
-pub keeps-none : {C A : Type 0} (u : Upper C A) → Keeps 0 u u
+pub keeps-none : {C A : Type 0} (u : UpperLayers C A) → Keeps 0 u u
 keeps-none u = record { same = refl; near = omega arith; few = λ h. h }
 
-pub keeps-then : {C A : Type 0} (m n : ℕ) (u v w : Upper C A) → Keeps m u v → Keeps n v w → Keeps (m + n) u w
+pub keeps-then : {C A : Type 0} (m n : ℕ) (u v w : UpperLayers C A) → Keeps m u v → Keeps n v w → Keeps (m + n) u w
 keeps-then m n u v w h k = record { same = k.same ∙ h.same; near = omega (arith, h.near, k.near); few = λ few. k.few (h.few few) }
 
 -- one channel more
-pub FoldsTo-channel : (R : Told → Sending → Told → Type 0) (n : ℕ) (octets : List ℕ) (s t u : Told) → FoldsTo R s (on_channels n octets) t
+pub FoldsTo-channel : (R : ChannelHistory → Sending → ChannelHistory → Type 0) (n : ℕ) (octets : List ℕ) (s t u : ChannelHistory) → FoldsTo R s (on_channels n octets) t
     → R t (n + 1, octets) u → FoldsTo R s (on_channels (n + 1) octets) u
 FoldsTo-channel R n octets s t u h k =
     subst (λ m. FoldsTo R s (on_channels m octets) u) (sym (add-one n))
@@ -194,7 +194,7 @@ heard-more R s t u n h k =
     let long = length-append h.0 (k.0 ∷ []) in
     (h.0 ++ k.0 ∷ [], long ∙ ap (λ m. m + 1) h.1, FoldsTo-append R h.0 (k.0 ∷ []) s t u h.2 (u, k.1, refl))
 
-module _ {S T : Type 0} (takes : T → Item → T → Type 0) (told : S → Told) (fields_of : S → Fields) (taker : S → T) (time : S → ℕ) (R : S → Part → S → Type 0)
+module _ {S T : Type 0} (takes : T → Item → T → Type 0) (told : S → ChannelHistory) (fields_of : S → Fields) (taker : S → T) (time : S → ℕ) (R : S → Part → S → Type 0)
     (step : (s : S) (p : Part) (u : S) → R s p u → (time u ≡ time s)
     × Went takes (part (time s) p.1 (fields_of s)) (told s) (taker s) (fields_of u) (told u) (taker u)) where
   pub parts-went : (now : ℕ) (ps : List Part) (s u : S) → FoldsTo R s ps u → time s ≡ now
@@ -206,13 +206,13 @@ module _ {S T : Type 0} (takes : T → Item → T → Type 0) (told : S → Told
       went-then takes (part now p.1 (fields_of s)) (parts now ps) _ _ _ _ _ _ _ _ one (parts-went now ps j u rest (a.0 ∙ n))
 
 -- what comes to the redundancy layer changes nothing above it
-pub receives-went : {T : Type 0} (takes : T → Item → T → Type 0) (now : ℕ) (i : Input) (v : Inside) (a b : Told) (t u : T) (r : Receiver) (w : Fields)
-    → r ≡ red_after i v.red → Went takes (parts now (passed_by i v.red) v.upper) a t w b u
+pub receives-went : {T : Type 0} (takes : T → Item → T → Type 0) (now : ℕ) (i : Input) (v : Inside) (a b : ChannelHistory) (t u : T) (r : Receiver) (w : Fields)
+    → r ≡ red_after i v.red → Went takes (parts now (parts_passed i v.red) v.upper) a t w b u
     → Went takes (receives now i v) a t (record { red = r; upper = w }) b u
 receives-went takes now i v a b t u r w layer h = record { left = λ k. record { red = layer k; upper = h.left k }; sent = h.sent; taken = h.taken }
 
 -- a turn above it
-pub above-went : (next : Fields → Turn Fields) (v : Inside) (w : Fields) (a b : Told) → WentAlone (next v.upper) a w b
+pub above-went : (next : Fields → Turn Fields) (v : Inside) (w : Fields) (a b : ChannelHistory) → WentAlone (next v.upper) a w b
     → WentAlone (above next v) a (record { red = v.red; upper = w }) b
 above-went next v w a b h = record { left = ap (λ q. record { red = v.red; upper = q }) h.left; sent = h.sent; none = h.none }
 
@@ -225,7 +225,7 @@ not-closed RetrReq h = refl
 not-closed RetrRun h = refl
 
 -- the end is not closed, as its machine says, and this is done
-pub open-went : {T : Type 0} (takes : T → Item → T → Type 0) (v : Inside) (turn : Turn Inside) (c : ConnectionState) (a b : Told) (t u : T) (w : Inside)
+pub open-went : {T : Type 0} (takes : T → Item → T → Type 0) (v : Inside) (turn : Turn Inside) (c : ConnectionState) (a b : ChannelHistory) (t u : T) (w : Inside)
     → c ≡ v.upper.machine.connection → (c ≡ Closed → ⊥) → Went takes turn a t w b u
     → Went takes (if is_over v then still v else turn) a t w b u
 open-went takes v turn c a b t u w e is h =
@@ -256,7 +256,7 @@ spoke-then takes d e f s t u h k = record { speaks = k.speaks; took = took-then 
 -- an event of the session
 pub meets-spoke : {T : Type 0} (takes : T → Item → T → Type 0) (e : Event) (s t : Talk T) → t.session ≡ after e s.session
     → t.waiting ≡ s.waiting ++ session_texts (added_by e s.session) → FoldsTo takes s.taker (taken_by e s.session) t.taker → (d : Dialogue)
-    → Speaks s.session s.waiting d → Spoke takes d (meets e d) s t
+    → Speaks s.session s.waiting d → Spoke takes d (process_event e d) s t
 meets-spoke takes e s t left added taken d h =
     record {
       speaks =
@@ -270,10 +270,10 @@ meets-spoke takes e s t left added taken d h =
 -- a message that is read
 pub judged-message : {T : Type 0} (takes : T → Item → T → Type 0) (r : Result Tele TeleFault) (x : Tele) (s t : Talk T) (asked : Option Leaving) → Ok x ≡ r
     → t.session ≡ after (Arrives x) s.session → t.waiting ≡ s.waiting ++ session_texts (added_by (Arrives x) s.session)
-    → FoldsTo takes s.taker (taken_by (Arrives x) s.session) t.taker → asked ≡ if_ended (end_of (judged s.session x)) → Judges takes (judge_read r) s t asked
+    → FoldsTo takes s.taker (taken_by (Arrives x) s.session) t.taker → asked ≡ if_ended (end_of (judge_telegram s.session x)) → Judges takes (judge_read r) s t asked
 judged-message takes r x s t asked is left added taken answer =
     subst (λ (q : Result Tele TeleFault). Judges takes (judge_read q) s t asked) is
-    (λ d h. (meets-spoke takes (Arrives x) s t left added taken d h, answer ∙ ap (λ y. if_ended (end_of (judged y x))) h.state))
+    (λ d h. (meets-spoke takes (Arrives x) s t left added taken d h, answer ∙ ap (λ y. if_ended (end_of (judge_telegram y x))) h.state))
 
 -- and one that is not
 pub judged-no_message : {T : Type 0} (takes : T → Item → T → Type 0) (r : Result Tele TeleFault) (fault : TeleFault) (s : Talk T) → Err fault ≡ r

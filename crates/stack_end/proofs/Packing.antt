@@ -1,19 +1,19 @@
 -- Messages that go out in units, unit by unit, and what an arrival and a tick deliver.
 use Rattle.stack_end.proofs.Words.{[], above, ap, append-nil, append_assoc, arith, arrives, Bool, by_cond, can_pack, Closed, Closes, comes_up, Completes}
 use Rattle.stack_end.proofs.Words.{completes, ConnectionState, Datagram, DatagramRecent, dialogue_of, Down, drop, false, Fields, FoldsTo, followed}
-use Rattle.stack_end.proofs.Words.{goes_on, goes_up, guards, has_room, HasHeard, hears, hears_units, if◌then◌else◌, inl, Input, inr, Inside, is_closed, is_nil}
-use Rattle.stack_end.proofs.Words.{is_none, is_over, Item, judge_units, judged_at, leaves, Leaving, length, List, machine_still, meets, None, not}
-use Rattle.stack_end.proofs.Words.{notes, Option, packs, packs_once, packs_up_to, Part, part, parts, passed_by, passes, PutOut, Puts, puts, receives, RedTick}
+use Rattle.stack_end.proofs.Words.{goes_on, goes_up, guards, has_room, HasHeard, hears, octets_units, if◌then◌else◌, inl, Input, inr, Inside, is_closed, is_nil}
+use Rattle.stack_end.proofs.Words.{is_none, is_over, Item, judge_units, judged_at, leaves, Leaving, length, List, machine_still, process_event, None, not}
+use Rattle.stack_end.proofs.Words.{notes, Option, packs, packs_once, packs_up_to, Part, part, parts, parts_passed, passes, PutOut, Puts, puts, receives, RedTick}
 use Rattle.stack_end.proofs.Words.{refl, RetrReq, RetrRun, rises, sends, session_turn, settles, Some, Start, still, subst, suc, sym, take, TakesPart, texts}
-use Rattle.stack_end.proofs.Words.{TickRecent, Told, true, true≢false, Turn, unit_text, Up, WentAlone, zero, ℕ, ◌&&◌, ◌++◌, ◌+◌, ◌<◌, ◌∙◌, ◌∷◌, ◌≡◌, ◌≢◌, ◌≤◌}
+use Rattle.stack_end.proofs.Words.{TickRecent, ChannelHistory, true, true≢false, Turn, unit_text, Up, WentAlone, zero, ℕ, ◌&&◌, ◌++◌, ◌+◌, ◌<◌, ◌∙◌, ◌∷◌, ◌≡◌, ◌≢◌, ◌≤◌}
 use Rattle.stack_end.proofs.Words.{◌⊎◌}
 use Rattle.pdi_session.specs.packing.UnitText.{UnitText}
 use Rattle.pdi_session.specs.Telegrams.{telegram}
 use Rattle.pdi_session.specs.declared.PutFault.{PutFault}
 use Rattle.safe_machine.proofs.code.Properties.{recent_law_holds}
 use Rattle.safe_machine.specs.Connections.{in_turn}
-use Rattle.safe_machine.specs.Turns.{sends_unit}
-use Rattle.safe_machine.specs.Turns.{guards as machine_guards, ticks as machine_ticks}
+use Rattle.safe_machine.specs.Turns.{send_unit_turn}
+use Rattle.safe_machine.specs.Turns.{guard_turn as machine_guards, tick_turn as machine_ticks}
 use Rattle.stack_end.proofs.Words.{machine_turn}
 use Rattle.stack_end.specs.Hearing.{Listens}
 use Rattle.stack_end.specs.Outstanding.{each, GoesOut, put_message, units_in}
@@ -80,7 +80,7 @@ some-nil (m ∷ w) n h = refl
 pub can-pack : (v : Fields) (n : ℕ) (octets : List ℕ) → has_room v.machine ≡ true → UnitText (take n v.waiting) octets → can_pack v ≡ true
 can-pack v n octets may t = ap (λ b. not b && has_room v.machine) (some-nil v.waiting n t.some) ∙ may
 
-pub once-packs : (now : ℕ) (v : Fields) (a : Told) (w : Fields) (b : Told) → can_pack v ≡ true → WentAlone (packs now v) a w b
+pub once-packs : (now : ℕ) (v : Fields) (a : ChannelHistory) (w : Fields) (b : ChannelHistory) → can_pack v ≡ true → WentAlone (packs now v) a w b
     → WentAlone (packs_once now v) a w b
 once-packs now v a w b can h = subst (λ q. WentAlone (if q then packs now v else still v) a w b) (sym can) h
 
@@ -172,10 +172,10 @@ sends-empties now v k = up_to-empties (length v.waiting) now v k (omega arith)
 
 pub puts-empties : (kind : ℕ) (payload : List ℕ) (now : ℕ) (v : Fields) → 1 ≤ v.max → can_pack (puts kind payload now v).left ≡ false
 puts-empties kind payload now v k =
-    let d = meets (Puts kind payload (length v.waiting)) (dialogue_of v) in sends-empties now (session_turn d (accepts d v)).left k
+    let d = process_event (Puts kind payload (length v.waiting)) (dialogue_of v) in sends-empties now (session_turn d (accepts d v)).left k
 
 pub completes-empties : (now : ℕ) (v : Fields) → 1 ≤ v.max → can_pack (completes now v).left ≡ false
-completes-empties now v k = sends-empties now (session_turn (meets (Completes (length v.waiting)) (dialogue_of v)) v).left k
+completes-empties now v k = sends-empties now (session_turn (process_event (Completes (length v.waiting)) (dialogue_of v)) v).left k
 
 -- no message is let go
 packs-out : (now : ℕ) (v : Fields) → can_pack v ≡ true → GoesOut v v.waiting (packs now v).left
@@ -183,7 +183,7 @@ packs-out now v can =
     let unit = unit_text (take v.max v.waiting) in
     let may : has_room v.machine ≡ true = (and_parts (not (is_nil v.waiting)) (has_room v.machine) can).1 in
     let ring : units_in (packs now v).left.machine ≡ units_in v.machine ++ unit ∷ [] =
-    ap (λ (b : Bool). units_in (if b then sends_unit unit now v.machine else machine_still v.machine).left) may
+    ap (λ (b : Bool). units_in (if b then send_unit_turn unit now v.machine else machine_still v.machine).left) may
     ∙ each-append v.machine.ring _ (λ u. u.octets) in
     goes-one v (packs now v).left v.max unit refl refl ring
 
@@ -197,7 +197,7 @@ up_to-out (suc n) now v =
 -- a telegram that is put goes out, or waits last
 pub puts-out : (kind : ℕ) (payload : List ℕ) (now : ℕ) (v : Fields) → put_answer kind payload v ≡ None → PutOut kind payload v (puts kind payload now v).left
 puts-out kind payload now v accepted =
-    let d = meets (Puts kind payload (length v.waiting)) (dialogue_of v) in
+    let d = process_event (Puts kind payload (length v.waiting)) (dialogue_of v) in
     let w = (session_turn d (accepts d v)).left in
     let out = up_to-out (length w.waiting) now w in
     let one = telegram v.session.addressing kind payload in
@@ -211,7 +211,7 @@ either P true t u h k = h
 either P false t u h k = k
 
 settles-none : (v : Fields) → (settles v).taken ≡ []
-settles-none v = either (λ t. t.taken ≡ []) (is_closed v.machine.connection) (session_turn (meets Closes (dialogue_of v)) v) (still v) refl refl
+settles-none v = either (λ t. t.taken ≡ []) (is_closed v.machine.connection) (session_turn (process_event Closes (dialogue_of v)) v) (still v) refl refl
 
 leaves-none : (now : ℕ) (why : Option Leaving) (v : Fields) → (leaves now why v).taken ≡ []
 leaves-none now None v = refl
@@ -256,9 +256,9 @@ some-none x xs e = cc
 
 -- At a part nothing is taken, or the part is recent.
 part-recent : (now : ℕ) (octets : List ℕ) (v : Fields) → ((part now octets v).taken ≡ []) ⊎ RecentAt now octets v
-part-recent now octets v = by-units (hears_units octets now v.machine) refl
+part-recent now octets v = by-units (octets_units octets now v.machine) refl
   where
-    by-units : (us : List (List ℕ)) → hears_units octets now v.machine ≡ us → ((part now octets v).taken ≡ []) ⊎ RecentAt now octets v
+    by-units : (us : List (List ℕ)) → octets_units octets now v.machine ≡ us → ((part now octets v).taken ≡ []) ⊎ RecentAt now octets v
     by-units [] e = inl (part-taken now octets v ∙ ap (λ us. (judge_units us (dialogue_of v)).left.history.taken) e)
     by-units (u ∷ us) e = inr (recent_law_holds octets now v.machine (λ none. some-none u us (sym e ∙ none)))
 
@@ -275,15 +275,15 @@ input-recent : {T : Type 0} (takes : T → Item → T → Type 0) (now : ℕ) (i
     → InputRecent takes now i v t u
 input-recent {T} takes now i v t u h = (
   λ over. subst (λ b. FoldsTo takes t (if b then still v else all).taken u) over h,
-  λ live. parts-recent takes now (passed_by i v.red) v.upper t u (gone (subst (λ b. FoldsTo takes t (if b then still v else all).taken u) live h)),
+  λ live. parts-recent takes now (parts_passed i v.red) v.upper t u (gone (subst (λ b. FoldsTo takes t (if b then still v else all).taken u) live h)),
 )
   where
     all : Turn Inside
     all = followed (receives now i v) (above (sends now))
 
-    gone : FoldsTo takes t all.taken u → FoldsTo takes t (parts now (passed_by i v.red) v.upper).taken u
+    gone : FoldsTo takes t all.taken u → FoldsTo takes t (parts now (parts_passed i v.red) v.upper).taken u
     gone k =
-        let first = (parts now (passed_by i v.red) v.upper).taken in
+        let first = (parts now (parts_passed i v.red) v.upper).taken in
         subst (λ xs. FoldsTo takes t xs u) (ap (λ xs. first ++ xs) (sends-none now (receives now i v).left.upper) ∙ append-nil first) k
 
 pub guards-none : (now : ℕ) (v : Fields) → (guards now v).taken ≡ []
@@ -338,15 +338,15 @@ takes-part {T} takes now octets v t u h number upper listens passed =
     let one = (part now upper w.upper).taken in
     let all : (arrives now octets v).taken ≡ (judged_at now upper w.upper).left.history.taken =
     ap (λ (q : Turn Inside). q.taken) (listening now octets v listens)
-    ∙ (ap (λ xs. xs ++ ((parts now (passed_by i w.red) w.upper).taken ++ rest)) (guards-none now v.upper)
-    ∙ (ap (λ xs. (parts now (passed_by i w.red) w.upper).taken ++ xs) (sends-none now (receives now i w).left.upper)
-    ∙ (append-nil (parts now (passed_by i w.red) w.upper).taken
+    ∙ (ap (λ xs. xs ++ ((parts now (parts_passed i w.red) w.upper).taken ++ rest)) (guards-none now v.upper)
+    ∙ (ap (λ xs. (parts now (parts_passed i w.red) w.upper).taken ++ xs) (sends-none now (receives now i w).left.upper)
+    ∙ (append-nil (parts now (parts_passed i w.red) w.upper).taken
     ∙ (ap (λ ps. (parts now ps w.upper).taken) passed ∙ (append-nil one ∙ part-taken now upper w.upper))))) in
     subst (λ xs. FoldsTo takes t xs u) all h
 
 -- Nothing waits then, or the machine may not send.
 settles-max : (v : Fields) → (settles v).left.max ≡ v.max
-settles-max v = either (λ t. t.left.max ≡ v.max) (is_closed v.machine.connection) (session_turn (meets Closes (dialogue_of v)) v) (still v) refl refl
+settles-max v = either (λ t. t.left.max ≡ v.max) (is_closed v.machine.connection) (session_turn (process_event Closes (dialogue_of v)) v) (still v) refl refl
 
 leaves-max : (now : ℕ) (why : Option Leaving) (v : Fields) → (leaves now why v).left.max ≡ v.max
 leaves-max now None v = refl
@@ -382,7 +382,7 @@ goes-empties : (now : ℕ) (i : Input) (v : Inside) → 1 ≤ v.upper.max → ca
 goes-empties now i v k = by-over (is_over v) refl
   where
     some : 1 ≤ (receives now i v).left.upper.max
-    some = subst (λ n. 1 ≤ n) (sym (parts-max now (passed_by i v.red) v.upper)) k
+    some = subst (λ n. 1 ≤ n) (sym (parts-max now (parts_passed i v.red) v.upper)) k
 
     by-over : (b : Bool) → is_over v ≡ b → can_pack (if b then still v else followed (receives now i v) (above (sends now))).left.upper ≡ false
     by-over true e = over-empty v e

@@ -1,20 +1,20 @@
 -- An end that is not stale takes the next request of a peer that was just opened.
 use Rattle.stack_end.proofs.Words.{[], above, ap, arith, Bool, ConnectionState, Datagram, Deliver, Down, false, Fields, followed, goes_on, guards}
-use Rattle.stack_end.proofs.Words.{has_room, Inside, is_nil, is_over, hears_units, List, machine_hears, MachineTurn, not, Ok, packs_up_to, Part, part, parts}
-use Rattle.stack_end.proofs.Words.{passed_by, Receiver, receives, red_after, refl, sends, Some, Start, still, subst, suc, sym, true, true≢false, Turn, turn}
+use Rattle.stack_end.proofs.Words.{has_room, Inside, is_nil, is_over, octets_units, List, machine_hears, MachineTurn, not, Ok, packs_up_to, Part, part, parts}
+use Rattle.stack_end.proofs.Words.{parts_passed, Receiver, receives, red_after, refl, sends, Some, Start, still, subst, suc, sym, true, true≢false, Turn, turn}
 use Rattle.stack_end.proofs.Words.{View, zero, ℕ, ◌&&◌, ◌∙◌, ◌∷◌, ◌≡◌, if◌then◌else◌, Option}
 use Rattle.red_layer.specs.Begun.{has_begun}
-use Rattle.red_layer.specs.Redundancy.{decoded, heard as red_heard}
+use Rattle.red_layer.specs.Redundancy.{decoded, step_decoded as red_heard}
 use Rattle.safe_pdu.specs.Pdu.{Pdu}
 use Rattle.safe_pdu.specs.declared.Kind.TheVariants.{ConnReq}
 use Rattle.safe_machine.specs.Connections.{is_closed}
 use Rattle.safe_machine.specs.Decision.{is_foreign, is_ours}
-use Rattle.safe_machine.specs.Octets.{heard as heard_move}
-use Rattle.safe_machine.specs.Turned.{turn as machine_move, handed}
+use Rattle.safe_machine.specs.Octets.{move_of as heard_move}
+use Rattle.safe_machine.specs.Turned.{turn as machine_move, units_of_move}
 use Rattle.safe_machine.specs.Made.{opening_body}
 use Rattle.safe_machine.specs.Settings.{Settings}
-use Rattle.safe_machine.specs.Turns.{accepts, arrives as machine_arrives, hands, opens, says}
-use Rattle.safe_machine.specs.Turns.{still as machine_still, unsaid}
+use Rattle.safe_machine.specs.Turns.{acceptance_turn, arrival_turn as machine_arrives, handed_units, opening_turn, sending_turn}
+use Rattle.safe_machine.specs.Turns.{still as machine_still, new_view}
 use Rattle.end_settings.specs.EndSettings.{connection_of}
 use Rattle.stack_end.specs.Stale.{HasTaken, TakesRequestLaw, FreshLaw, stale_in}
 use Rattle.stack_end.proofs.Words.{dialogue_of, goes_up, judge_units, leaves, machine_turn, notes, packs, session_turn, settles}
@@ -25,16 +25,16 @@ use Rattle.std.specs.Prelude.{nat_lt, ◌||◌}
 
 -- A machine in Down accepts the request.
 accepts-turn : (m : View) (p : Pdu) (now : ℕ) → m.connection ≡ Down → is_foreign m.settings p ≡ false → p.kind ≡ ConnReq → is_ours p.body ≡ true
-    → machine_arrives p now m ≡ accepts p now m
+    → machine_arrives p now m ≡ acceptance_turn p now m
 accepts-turn m p now down known request ours = rw (down, known, request, ours) refl
 
 accepts-hands : (m : View) (p : Pdu) (now : ℕ) → m.connection ≡ Down → is_foreign m.settings p ≡ false → p.kind ≡ ConnReq → is_ours p.body ≡ true
-    → hands p now m ≡ []
+    → handed_units p now m ≡ []
 accepts-hands m p now down known request ours = rw (down, known, request, ours) refl
 
 -- the part of the request
 record Accepted (upper : List ℕ) (p : Pdu) (now : ℕ) (u w : Fields) : Type 0 where
-  machine : w.machine ≡ (accepts p now u.machine).left
+  machine : w.machine ≡ (acceptance_turn p now u.machine).left
   request : w.request ≡ Some upper
 
 -- a part from its state before, the machine's turn, the units delivered and the cause of a departure
@@ -46,14 +46,14 @@ part-by before t units cause now octets u =
     settles)
     (departs cause)
 
-part-accepts : (upper : List ℕ) (p : Pdu) (now : ℕ) (u : Fields) → u.machine.connection ≡ Down → machine_hears upper now u.machine ≡ accepts p now u.machine
-    → hears_units upper now u.machine ≡ []
+part-accepts : (upper : List ℕ) (p : Pdu) (now : ℕ) (u : Fields) → u.machine.connection ≡ Down → machine_hears upper now u.machine ≡ acceptance_turn p now u.machine
+    → octets_units upper now u.machine ≡ []
     → Accepted upper p now u (part now upper u).left
 part-accepts upper p now u down turns none =
     let t = machine_hears upper now u.machine in
-    let us = hears_units upper now u.machine in
+    let us = octets_units upper now u.machine in
     let cause = closing now upper u in
-    let a = accepts p now u.machine in
+    let a = acceptance_turn p now u.machine in
     record {
       machine =
           ap (λ b. (part-by b t us cause now upper u).left.machine) down
@@ -105,9 +105,9 @@ is-fresh : (r : Receiver) → has_begun r ≡ false → r ≡ record r { expecte
 is-fresh r h = ap (λ (n : ℕ). record r { expected = n }) (expects-first r h) ∙ ap (λ (ps : List Part). record r { expected = 0; waiting = ps }) (nil-of r.waiting (none-waits r h))
 
 passes-first : (r : Receiver) (octets upper : List ℕ) (now : ℕ) → has_begun r ≡ false → decoded octets ≡ Ok (0, upper)
-    → passed_by (Datagram octets now) r ≡ (0, upper) ∷ []
+    → parts_passed (Datagram octets now) r ≡ (0, upper) ∷ []
 passes-first r octets upper now h coded =
-    ap (λ (s : Receiver). passed_by (Datagram octets now) s) (is-fresh r h)
+    ap (λ (s : Receiver). parts_passed (Datagram octets now) s) (is-fresh r h)
     ∙ ap (λ d. (red_heard now d (record r { expected = 0; waiting = [] })).passed) coded
 
 expects-one : (r : Receiver) (octets upper : List ℕ) (now : ℕ) → has_begun r ≡ false → decoded octets ≡ Ok (0, upper)
@@ -128,10 +128,10 @@ pub takes_request_holds : TakesRequestLaw
 takes_request_holds v channel now octets upper p fresh down r =
     let m = v.upper.machine in
     let begun = not-begun m.connection (has_begun v.red) fresh down in
-    let hears : machine_hears upper now m ≡ accepts p now m =
+    let hears : machine_hears upper now m ≡ acceptance_turn p now m =
     ap (λ d. machine_move (heard_move d now) m) r.coded ∙ accepts-turn m p now down r.known r.request r.ours in
-    let none : hears_units upper now m ≡ [] =
-    ap (λ d. handed (heard_move d now) m) r.coded ∙ accepts-hands m p now down r.known r.request r.ours in
+    let none : octets_units upper now m ≡ [] =
+    ap (λ d. units_of_move (heard_move d now) m) r.coded ∙ accepts-hands m p now down r.known r.request r.ours in
     let taken = part-accepts upper p now v.upper down hears none in
     let i = Datagram octets now in
     let w : Inside = record { red = red_after i v.red; upper = (part now upper v.upper).left } in
@@ -155,12 +155,12 @@ takes_request_holds v channel now octets upper p fresh down r =
     }
 
 -- a newly opened end waits for the answer to its request, or for a request
-opens-fresh : (settings : Settings) (first now : ℕ) → stale_in (opens settings first now).left.connection false ≡ false
+opens-fresh : (settings : Settings) (first now : ℕ) → stale_in (opening_turn settings first now).left.connection false ≡ false
 opens-fresh settings first now = by_client settings.client
   where
     by_client : (client : Bool) → stale_in
-        (if client then says ConnReq (opening_body settings.n_sendmax) now (unsaid settings first now Start) else machine_still
-        (unsaid settings first now Down)).left.connection
+        (if client then sending_turn ConnReq (opening_body settings.n_sendmax) now (new_view settings first now Start) else machine_still
+        (new_view settings first now Down)).left.connection
         false ≡ false
     by_client true = refl
     by_client false = refl

@@ -1,5 +1,5 @@
 -- Which telegrams the application takes: of those that do not end the session, the ones that leave its phase as it was.
-use Rattle.stack_end.proofs.Words.{after, ap, Arrives, Bool, end_of, Err, false, is_none, judged, None, Ok, Option, refl, Result, Some, subst, sym, Tele, TeleFault}
+use Rattle.stack_end.proofs.Words.{after, ap, Arrives, Bool, end_of, Err, false, is_none, judge_telegram, None, Ok, Option, refl, Result, Some, subst, sym, Tele, TeleFault}
 use Rattle.stack_end.proofs.Words.{true, true≢false, ◌∙◌, ◌≡◌, if◌then◌else◌, ℕ, List}
 use denote.Enum.Bare.{sameb}
 use Rattle.std.specs.Prelude.{◌==◌}
@@ -18,13 +18,13 @@ use Rattle.pdi_session.specs.declared.SessionDetail.{SessionDetail}
 use Rattle.pdi_session.specs.declared.SessionDetail.TheVariants as detail
 use Rattle.pdi_session.specs.declared.Verdict.{Verdict}
 use Rattle.pdi_session.specs.declared.Verdict.TheVariants.{Answers, Ends, Goes, Takes}
-use Rattle.stack_end.specs.Dialogue.{is_taken, takes}
+use Rattle.stack_end.specs.Dialogue.{is_taken, is_take}
 
 -- a verdict that ends the session hands nothing to the application
 none-of : {A : Type 0} {x : A} → Some x ≡ None → {B : Type 0} → B
 none-of e = absurd (true≢false (sym (ap is_none e)))
 
-pub ends-takes : (v : Verdict) (why : SessionDetail) → end_of v ≡ Some why → false ≡ takes v
+pub ends-takes : (v : Verdict) (why : SessionDetail) → end_of v ≡ Some why → false ≡ is_take v
 ends-takes Takes why e = none-of (sym e)
 ends-takes (Goes next) why e = refl
 ends-takes (Answers next n) why e = refl
@@ -32,18 +32,18 @@ ends-takes (Ends d) why e = refl
 
 -- a verdict in a phase: if it does not end the session, the phase stays if and only if the telegram is taken
 abbrev Stays : Phase → Verdict → Type 0
-Stays p v = end_of v ≡ None → sameb the_type (phase_by p v) p ≡ takes v
+Stays p v = end_of v ≡ None → sameb the_type (phase_by p v) p ≡ is_take v
 
 -- the rows that compare versions
 equal-row : (b : Bool)
     → let v = if b then Answers phase.Requesting notice.InitialisationRequest else Ends detail.OutOfOrder in
-    sameb the_type (phase_by phase.Checking v) phase.Checking ≡ takes v
+    sameb the_type (phase_by phase.Checking v) phase.Checking ≡ is_take v
 equal-row true = refl
 equal-row false = refl
 
 check-row : (b : Bool) (version : ℕ) (versions : List ℕ)
     → let v = if b then Answers phase.AwaitRequest (notice.VersionEqual version) else Answers phase.Refused (notice.VersionDiffers (first_version versions)) in
-    sameb the_type (phase_by phase.AwaitCheck v) phase.AwaitCheck ≡ takes v
+    sameb the_type (phase_by phase.AwaitCheck v) phase.AwaitCheck ≡ is_take v
 check-row true version versions = refl
 check-row false version versions = refl
 
@@ -123,13 +123,13 @@ addressed true role p form e = stays role p form e
 addressed false role p form e = none-of e
 
 pub stays-takes : (read : Result Tele TeleFault) (t : Tele) (s u : SessionState) (before p : Phase) (b : Bool) → read ≡ Ok t → u ≡ after (Arrives t) s
-    → end_of (judged s t) ≡ None → before ≡ s.phase → p ≡ u.phase → b ≡ sameb the_type p before → b ≡ is_taken read s
+    → end_of (judge_telegram s t) ≡ None → before ≡ s.phase → p ≡ u.phase → b ≡ sameb the_type p before → b ≡ is_taken read s
 stays-takes read t s u before p b coded left goes was now same =
     same
     ∙ (ap (λ q. sameb the_type p q) was
     ∙ (ap (λ q. sameb the_type q s.phase) (now ∙ ap (λ (w : SessionState). w.phase) left)
     ∙ (addressed (is_addressed s.addressing t) s.role s.phase (form_of t.kind t.payload) goes ∙ sym (ap (λ r. is_taken r s) coded))))
 
-pub ends-taken : (read : Result Tele TeleFault) (t : Tele) (s : SessionState) (why : SessionDetail) → read ≡ Ok t → end_of (judged s t) ≡ Some why
+pub ends-taken : (read : Result Tele TeleFault) (t : Tele) (s : SessionState) (why : SessionDetail) → read ≡ Ok t → end_of (judge_telegram s t) ≡ Some why
     → false ≡ is_taken read s
-ends-taken read t s why coded ends = ends-takes (judged s t) why ends ∙ sym (ap (λ r. is_taken r s) coded)
+ends-taken read t s why coded ends = ends-takes (judge_telegram s t) why ends ∙ sym (ap (λ r. is_taken r s) coded)

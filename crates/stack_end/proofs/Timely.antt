@@ -1,18 +1,18 @@
 -- The own time last confirmed never goes back in a call, and what is taken comes after a timeout check that passed.
-use Rattle.stack_end.proofs.Words.{[], above, ap, append-nil, arith, Bool, dialogue_of, false, Fields, followed, goes_on, goes_up, guards, hears, hears_units, if◌then◌else◌}
+use Rattle.stack_end.proofs.Words.{[], above, ap, append-nil, arith, Bool, dialogue_of, false, Fields, followed, goes_on, goes_up, guards, hears, octets_units, if◌then◌else◌}
 use Rattle.stack_end.proofs.Words.{Inside, inl, inr, Input, is_closed, is_over, judge_units, judged_at, Leaving, leaves, List, machine_hears, machine_turn, MachineTurn, None}
-use Rattle.stack_end.proofs.Words.{notes, Ok, Option, packs, packs_up_to, Part, part, parts, passed_by, receives, refl, rules, sends, session_turn, settles, Some, still}
-use Rattle.stack_end.proofs.Words.{Closes, meets, RedTick, subst, suc, sym, true, Turn, View, zero, ℕ, ◌++◌, ◌+◌, ◌<◌, ◌∙◌, ◌∷◌, ◌≡◌, ◌≢◌, ◌⊎◌, Err, Result, Datagram, can_pack}
+use Rattle.stack_end.proofs.Words.{notes, Ok, Option, packs, packs_up_to, Part, part, parts, parts_passed, receives, refl, rules, sends, session_turn, settles, Some, still}
+use Rattle.stack_end.proofs.Words.{Closes, process_event, RedTick, subst, suc, sym, true, Turn, View, zero, ℕ, ◌++◌, ◌+◌, ◌<◌, ◌∙◌, ◌∷◌, ◌≡◌, ◌≢◌, ◌⊎◌, Err, Result, Datagram, can_pack}
 use Rattle.std.specs.Prelude.{◌-◌, nat_le, nat_lt, ◌&&◌}
 use Rattle.safe_machine.specs.Connections.{in_turn, is_live}
 use Rattle.safe_machine.specs.Decision.{as_client, by_connection, by_table, cts_step, distance}
 use Rattle.safe_machine.specs.Deadlines.{beat_due}
-use Rattle.safe_machine.specs.Made.{carries, leaving_body}
-use Rattle.safe_machine.specs.Octets.{heard as heard_move}
-use Rattle.safe_machine.specs.Turned.{turn as machine_move, handed}
-use Rattle.safe_machine.specs.Turns.{accepts as machine_accepts, answers_ahead, answers_early, answers_next, asks, both_confirmed, carries_out, responds, counted, guards as machine_guards, hands, leaves as machine_leaves}
-use Rattle.safe_machine.specs.Turns.{passed, replies, requested, resends, says, sends as machine_sends, sends_unit, has_room, still as machine_still, takes_unit, ticks as machine_ticks}
-use Rattle.safe_machine.specs.Turns.{units_confirmed, beats}
+use Rattle.safe_machine.specs.Made.{is_carrier_kind, leaving_body}
+use Rattle.safe_machine.specs.Octets.{move_of as heard_move}
+use Rattle.safe_machine.specs.Turned.{turn as machine_move, units_of_move}
+use Rattle.safe_machine.specs.Turns.{acceptance_turn as machine_accepts, answer_ahead_turn, answer_early_turn, answer_next_turn, request_turn, both_confirmed, decision_turn, response_turn, count_pdu, guard_turn as machine_guards, handed_units, leave_turn as machine_leaves}
+use Rattle.safe_machine.specs.Turns.{move_past, reply_turn, mark_answered, resend_turn, sending_turn, send_turn as machine_sends, send_unit_turn, has_room, still as machine_still, take_unit_turn, tick_turn as machine_ticks}
+use Rattle.safe_machine.specs.Turns.{units_confirmed, heartbeat_turn}
 use Rattle.safe_machine.specs.declared.ConnectionState.{ConnectionState}
 use Rattle.safe_machine.specs.declared.ConnectionState.TheVariants.{Closed, Down, RetrReq as Requesting, RetrRun, Start, Up}
 use Rattle.safe_machine.specs.retrans.Units.{octets_of}
@@ -70,8 +70,8 @@ closed-ages now v t c h = record { limit = h.limit; stays = h.stays }
 
 leaves-ages : (reason : Reason) (detail : Detail) (now : ℕ) (v : View) → Aged now v (machine_leaves reason detail now v)
 leaves-ages reason detail now v =
-    closed-ages now v (if is_live v.connection then says DiscReq (leaving_body reason detail) now v else machine_still v) Closed
-    (choice (Aged now v) (is_live v.connection) (says DiscReq (leaving_body reason detail) now v) (machine_still v) (ages-same now v _ refl refl)
+    closed-ages now v (if is_live v.connection then sending_turn DiscReq (leaving_body reason detail) now v else machine_still v) Closed
+    (choice (Aged now v) (is_live v.connection) (sending_turn DiscReq (leaving_body reason detail) now v) (machine_still v) (ages-same now v _ refl refl)
     (ages-same now v _ refl refl))
 
 guards-ages : (now : ℕ) (v : View) → Aged now v (machine_guards now v)
@@ -89,44 +89,44 @@ ticks-ages : (now : ℕ) (v : View) → Aged now v (machine_ticks now v)
 ticks-ages now v =
     let u = (machine_guards now v).left in
     then-ages now v u _ (guards-ages now v)
-    (choice (Aged now u) (beat_due now u) (says Heartbeat [] now u) (machine_still u) (ages-same now u _ refl refl) (ages-same now u _ refl refl))
+    (choice (Aged now u) (beat_due now u) (sending_turn Heartbeat [] now u) (machine_still u) (ages-same now u _ refl refl) (ages-same now u _ refl refl))
 
 -- an answer: units that are sent again change neither T_max nor the time last confirmed
-resends-ages : (us : List (List ℕ)) (now : ℕ) (v : View) → Aged now v (resends us now v)
+resends-ages : (us : List (List ℕ)) (now : ℕ) (v : View) → Aged now v (resend_turn us now v)
 resends-ages [] now v = ages-same now v _ refl refl
-resends-ages (u ∷ us) now v = then-ages now v (counted now v) _ (ages-same now v _ refl refl) (resends-ages us now (counted now v))
+resends-ages (u ∷ us) now v = then-ages now v (count_pdu now v) _ (ages-same now v _ refl refl) (resends-ages us now (count_pdu now v))
 
-replies-ages : (now : ℕ) (v : View) → Aged now v (replies now v)
+replies-ages : (now : ℕ) (v : View) → Aged now v (reply_turn now v)
 replies-ages now v =
-    let u = (resends (octets_of v.ring) now (counted now v)).left in
-    then-ages now v (counted now v) _ (ages-same now v _ refl refl)
-    (then-ages now (counted now v) u _ (resends-ages (octets_of v.ring) now (counted now v)) (ages-same now u _ refl refl))
+    let u = (resend_turn (octets_of v.ring) now (count_pdu now v)).left in
+    then-ages now v (count_pdu now v) _ (ages-same now v _ refl refl)
+    (then-ages now (count_pdu now v) u _ (resends-ages (octets_of v.ring) now (count_pdu now v)) (ages-same now u _ refl refl))
 
-unit-ages : (p : Pdu) (now : ℕ) (v : View) → Aged now v (takes_unit p now v)
+unit-ages : (p : Pdu) (now : ℕ) (v : View) → Aged now v (take_unit_turn p now v)
 unit-ages p now v =
     let u = record v { since = v.since + 1 } in
-    let said = says Heartbeat [] now u in
+    let said = sending_turn Heartbeat [] now u in
     let one = if nat_le v.settings.mwa u.since then said else machine_still u in
-    choice (Aged now v) (carries p.kind) one (machine_still v)
+    choice (Aged now v) (is_carrier_kind p.kind) one (machine_still v)
     (choice (Aged now v) (nat_le v.settings.mwa u.since) said (machine_still u) (ages-same now v said.left refl refl) (ages-same now v u refl refl))
     (ages-same now v v refl refl)
 
-ahead-ages : (p : Pdu) (now : ℕ) (v : View) → Aged now v (answers_ahead p now v)
+ahead-ages : (p : Pdu) (now : ℕ) (v : View) → Aged now v (answer_ahead_turn p now v)
 ahead-ages p now v =
-    let u = requested (distance v p) (units_confirmed p v) in then-ages now v u _ (ages-same now v u refl refl) (replies-ages now u)
+    let u = mark_answered (distance v p) (units_confirmed p v) in then-ages now v u _ (ages-same now v u refl refl) (replies-ages now u)
 
-next-ages : (p : Pdu) (now : ℕ) (v : View) → Aged now v (answers_next p now v)
+next-ages : (p : Pdu) (now : ℕ) (v : View) → Aged now v (answer_next_turn p now v)
 next-ages p now v =
-    let u = passed p 0 (requested 0 (both_confirmed p v)) in then-ages now v u _ (ages-on now (cts_step v p) v u refl refl) (replies-ages now u)
+    let u = move_past p 0 (mark_answered 0 (both_confirmed p v)) in then-ages now v u _ (ages-on now (cts_step v p) v u refl refl) (replies-ages now u)
 
-early-ages : (p : Pdu) (now : ℕ) (v : View) → Aged now v (answers_early p now v)
+early-ages : (p : Pdu) (now : ℕ) (v : View) → Aged now v (answer_early_turn p now v)
 early-ages p now v =
-    let t = answers_ahead p now v in
-    let u = (asks now t.left).left in
+    let t = answer_ahead_turn p now v in
+    let u = (request_turn now t.left).left in
     grind (arith, ahead-ages, ages-same, then-ages)
 
 -- each decision: of a client that waits for its answer, by the table, and by the state of the connection
-client-ages : (k : Kind) (p : Pdu) (now : ℕ) (v : View) → Aged now v (carries_out p now (as_client v p now k) v)
+client-ages : (k : Kind) (p : Pdu) (now : ℕ) (v : View) → Aged now v (decision_turn p now (as_client v p now k) v)
 client-ages ConnResp p now v = grind (arith, leaves-ages, ages-on)
 client-ages ConnReq p now v = leaves-ages UnexpectedPdu Unspecified now v
 client-ages RetrReq p now v = leaves-ages UnexpectedPdu Unspecified now v
@@ -137,7 +137,7 @@ client-ages Data p now v = leaves-ages UnexpectedPdu Unspecified now v
 client-ages RetrData p now v = leaves-ages UnexpectedPdu Unspecified now v
 
 table-ages : (c : ConnectionState) (k : Kind) (p : Pdu) (now d : ℕ) (v : View) → v.connection ≡ c → p.kind ≡ k
-    → Aged now v (carries_out p now (by_table v p now d) v)
+    → Aged now v (decision_turn p now (by_table v p now d) v)
 table-ages Closed k p now d v e f = grind (arith, ages-same)
 table-ages Down k p now d v e f = grind (arith, ages-same)
 table-ages Start ConnReq p now d v e f = grind (arith, leaves-ages, unit-ages, ages-same, ages-on, then-ages)
@@ -174,7 +174,7 @@ table-ages RetrRun Data p now d v e f = grind (arith, leaves-ages, unit-ages, ag
 table-ages RetrRun RetrData p now d v e f = grind (arith, leaves-ages, unit-ages, ages-same, ages-on, then-ages)
 
 connection-ages : (c : ConnectionState) (k : Kind) (p : Pdu) (now : ℕ) (v : View) → v.connection ≡ c → p.kind ≡ k
-    → Aged now v (carries_out p now (by_connection v p now v.connection) v)
+    → Aged now v (decision_turn p now (by_connection v p now v.connection) v)
 connection-ages Closed k p now v e f = grind (arith, ages-same)
 connection-ages Down k p now v e f = grind (arith, ages-same, ages-now)
 connection-ages Start k p now v e f = grind (arith, client-ages, table-ages, ages-same)
@@ -182,7 +182,7 @@ connection-ages Up k p now v e f = grind (arith, table-ages, ages-same)
 connection-ages Requesting k p now v e f = grind (arith, table-ages, ages-same)
 connection-ages RetrRun k p now v e f = grind (arith, table-ages, ages-same)
 
-responds-ages : (p : Pdu) (now : ℕ) (v : View) → Aged now v (responds p now v)
+responds-ages : (p : Pdu) (now : ℕ) (v : View) → Aged now v (response_turn p now v)
 responds-ages p now v =
     let h = connection-ages v.connection p.kind p now v refl refl in
     grind (arith, h, ages-same)
@@ -194,10 +194,10 @@ read-ages (Ok p) now v =
 read-ages (Err fault) now v = guards-ages now v
 
 -- what is handed up comes after a timeout check that passed
-hands-timely : (p : Pdu) (now : ℕ) (v : View) → hands p now v ≢ [] → now < v.confirmed_at + v.settings.t_max
+hands-timely : (p : Pdu) (now : ℕ) (v : View) → handed_units p now v ≢ [] → now < v.confirmed_at + v.settings.t_max
 hands-timely p now v = search rules
 
-read-timely : (read : Result Pdu SafeFault) (now : ℕ) (v : View) → handed (heard_move read now) v ≢ [] → now < v.confirmed_at + v.settings.t_max
+read-timely : (read : Result Pdu SafeFault) (now : ℕ) (v : View) → units_of_move (heard_move read now) v ≢ [] → now < v.confirmed_at + v.settings.t_max
 read-timely (Ok p) now v some = hands-timely p now v some
 read-timely (Err fault) now v some = absurd (some refl)
 
@@ -231,7 +231,7 @@ below v = v.upper.machine
 
 settles-machine : (v : Fields) → (settles v).left.machine ≡ v.machine
 settles-machine v =
-    choice (λ (t : Turn Fields). t.left.machine ≡ v.machine) (is_closed v.machine.connection) (session_turn (meets Closes (dialogue_of v)) v) (still v) refl refl
+    choice (λ (t : Turn Fields). t.left.machine ≡ v.machine) (is_closed v.machine.connection) (session_turn (process_event Closes (dialogue_of v)) v) (still v) refl refl
 
 leaves-up : (now : ℕ) (why : Option Leaving) (v : Fields) → Ages now v.machine (leaves now why v).left.machine
 leaves-up now None v = ages-same now v.machine v.machine refl refl
@@ -253,9 +253,9 @@ before-part : (c m now : ℕ) → 0 < m → now < c + m → now - c < m
 before-part c m now positive h = omega (arith, positive, h)
 
 part-tells : (now : ℕ) (octets : List ℕ) (v : Fields) → 0 < v.machine.settings.t_max → Tells machine_of now v (part now octets v)
-part-tells now octets v positive = record { taken = by-units (hears_units octets now v.machine) refl; ages = part-ages now octets v }
+part-tells now octets v positive = record { taken = by-units (octets_units octets now v.machine) refl; ages = part-ages now octets v }
   where
-    by-units : (us : List (List ℕ)) → hears_units octets now v.machine ≡ us
+    by-units : (us : List (List ℕ)) → octets_units octets now v.machine ≡ us
         → ((part now octets v).taken ≡ []) ⊎ (now - (part now octets v).left.machine.confirmed_at < (part now octets v).left.machine.settings.t_max)
     by-units [] e = inl (part-taken now octets v ∙ ap (λ us. (judge_units us (dialogue_of v)).left.history.taken) e)
     by-units (u ∷ us) e =
@@ -272,7 +272,7 @@ parts-tells now (p ∷ ps) v positive =
 
 packs-ages : (now : ℕ) (v : Fields) → Ages now v.machine (packs now v).left.machine
 packs-ages now v =
-    choice (Aged now v.machine) (has_room v.machine) (sends_unit _ now v.machine) (machine_still v.machine) (ages-same now v.machine _ refl refl)
+    choice (Aged now v.machine) (has_room v.machine) (send_unit_turn _ now v.machine) (machine_still v.machine) (ages-same now v.machine _ refl refl)
     (ages-same now v.machine _ refl refl)
 
 up-to-ages : (n now : ℕ) (v : Fields) → Ages now v.machine (packs_up_to n now v).left.machine
@@ -307,7 +307,7 @@ above-tells now next v h = record { taken = h.taken; ages = h.ages }
 
 goes_on-tells : (now : ℕ) (i : Input) (v : Inside) → 0 < t_max_of v → Tells below now v (goes_on now i v)
 goes_on-tells now i v positive =
-    let h = parts-tells now (passed_by i v.red) v.upper positive in
+    let h = parts-tells now (parts_passed i v.red) v.upper positive in
     let u = (receives now i v).left in
     choice (Tells below now v) (is_over v) (still v) (followed (receives now i v) (above (sends now))) (still-tells below now v)
     (then-tells below now v (receives now i v) (above (sends now)) record { taken = h.taken; ages = h.ages }

@@ -1,13 +1,13 @@
 -- What a state of an end keeps takes the turn of each call; and before the first deadline a tick does nothing.
 use Rattle.stack_end.proofs.Words.{[], above, added_by, after, ap, append-nil, append_assoc, arith, Arrives, Bool, by_cond, can_pack, ClosedByUser, Closes}
 use Rattle.stack_end.proofs.Words.{comes_up, Completes, completes, ConnectionState, Datagram, datagrams, Deliver, Dialogue, dialogue_of, Down, drop, end_of}
-use Rattle.stack_end.proofs.Words.{EndSettings, Err, Event, false, Fields, followed, goes_on, goes_up, has_room, HasMade, hears, hears_units, if_ended}
+use Rattle.stack_end.proofs.Words.{EndSettings, Err, Event, false, Fields, followed, goes_on, goes_up, has_room, HasMade, hears, octets_units, if_ended}
 use Rattle.stack_end.proofs.Words.{if◌then◌else◌, inl, Input, inr, Inside, is_closed, is_nil, is_none, is_over, IsBefore, IsReachedAt, Item, judge_messages}
-use Rattle.stack_end.proofs.Words.{judge_read, judge_units, judge_unpacked, Judged, judged, judged_at, kept_of, leaves, Leaving, length, length-append, List}
-use Rattle.stack_end.proofs.Words.{machine_hears, machine_still, machine_turn, MachineTurn, Made, meets, next_number, None, not, notes, number_behind, Ok}
-use Rattle.stack_end.proofs.Words.{on_channels, opens, Option, PackFault, packs, packs_up_to, Part, part, parts, passed_by, Puts, puts, Receiver, receives}
+use Rattle.stack_end.proofs.Words.{judge_read, judge_units, judge_unpacked, Judged, judge_telegram, judged_at, kept_of, leaves, Leaving, length, length-append, List}
+use Rattle.stack_end.proofs.Words.{machine_hears, machine_still, machine_turn, MachineTurn, Made, process_event, next_number, None, not, notes, number_behind, Ok}
+use Rattle.stack_end.proofs.Words.{on_channels, opening_turn, Option, PackFault, packs, packs_up_to, Part, part, parts, parts_passed, Puts, puts, Receiver, receives}
 use Rattle.stack_end.proofs.Words.{red_after, red_text, RedTick, refl, Result, rises, rule_of, sendings, sends, session_in, session_turn, Settings, settles}
-use Rattle.stack_end.proofs.Words.{Some, Speaks, Start, subst, suc, sym, take, taken_by, Tele, tele_seen, TeleFault, text_of, texts, ticks, Told, true}
+use Rattle.stack_end.proofs.Words.{Some, Speaks, Start, subst, suc, sym, take, taken_by, Tele, tele_seen, TeleFault, text_of, texts, tick_turn, ChannelHistory, true}
 use Rattle.stack_end.proofs.Words.{true≢false, turn, unit_seen, unit_text, unless_leaving, Unspecified, View, zero, ℕ, ◌%◌, ◌&&◌, ◌++◌, ◌+◌, ◌^◌, ◌∙◌, ◌∷◌, ◌≡◌}
 use Rattle.stack_end.proofs.Words.{◌≢◌, ◌≤◌, ◌⊎◌}
 use Rattle.byteorder.specs.Endian.{little_bytes}
@@ -25,18 +25,18 @@ use Rattle.safe_machine.proofs.one.Turning.{turns_law_holds as machine_turns}
 use Rattle.safe_machine.specs.Made.{opening_body}
 use Rattle.safe_machine.specs.Moves.{Move, move}
 use Rattle.safe_machine.specs.Moves.Move.{Guards, Leaves, Sends, Ticks}
-use Rattle.safe_machine.specs.Octets.{arrive_octets, heard as heard_move, heard_answer, seen_by}
+use Rattle.safe_machine.specs.Octets.{arrive_octets, move_of as heard_move, decoded_answer, seen_by}
 use Rattle.safe_machine.specs.declared.Step.{Step as Outcome}
 use Rattle.safe_machine.specs.State.{State, unconfirmed}
 use Rattle.safe_machine.specs.Step.{may_send, send, tick}
 use Rattle.safe_machine.specs.Turned.{MaySend, turn as machine_move, Turned as MachineTurned}
-use Rattle.safe_machine.specs.Turns.{says, still, Turn, unsaid}
+use Rattle.safe_machine.specs.Turns.{sending_turn, still, Turn, new_view}
 use Rattle.safe_machine.specs.View.{StandsFor}
 use Rattle.safe_machine.specs.retrans.Units.{octets_of}
-use Rattle.safe_machine.specs.World.{joins}
+use Rattle.safe_machine.specs.World.{is_joining}
 use Rattle.safe_pdu.specs.Places.{safe_seen}
 use Rattle.safe_pdu.specs.declared.Kind.TheVariants.{ConnReq}
-use Rattle.stack_end.specs.Certain.{confirmed_in, confirmed_of, counted, found_messages, found_telegram, items_in_units, items_waiting, messages_in}
+use Rattle.stack_end.specs.Certain.{confirmed_in, confirmed_of, cap_count, found_messages, found_telegram, items_in_units, items_waiting, messages_in}
 use Rattle.stack_end.specs.Certain.{telegrams_in}
 use Rattle.stack_end.specs.Datagrams.{upper_of}
 use Rattle.stack_end.specs.Deadlines.{earliest}
@@ -69,7 +69,7 @@ pub record RidesJudged (before : List Item) (j k : Judged) : Type 0 where
   pub left : Rides before j.left k.left
   pub leaving : j.leaving ≡ k.leaving
 
-pub rides-meets : (event : Event) (before : List Item) (d e : Dialogue) → Rides before d e → Rides before (meets event d) (meets event e)
+pub rides-meets : (event : Event) (before : List Item) (d e : Dialogue) → Rides before d e → Rides before (process_event event d) (process_event event e)
 rides-meets event before d e h =
     record {
       speaks =
@@ -91,7 +91,7 @@ rides-rises a b before d e same h = subst (λ q. Rides before (rises a d) (rises
     both false = h
 
 rides-read : (before : List Item) (r : Result Tele TeleFault) (d e : Dialogue) → Rides before d e → RidesJudged before (judge_read r d) (judge_read r e)
-rides-read before (Ok t) d e h = record { left = rides-meets (Arrives t) before d e h; leaving = ap (λ s. if_ended (end_of (judged s t))) h.speaks.state }
+rides-read before (Ok t) d e h = record { left = rides-meets (Arrives t) before d e h; leaving = ap (λ s. if_ended (end_of (judge_telegram s t))) h.speaks.state }
 rides-read before (Err fault) d e h = record { left = h; leaving = refl }
 
 rides-unless : (before : List Item) (a b : Option Leaving) (first rest first_too rest_too : Judged) → a ≡ b → RidesJudged before first first_too
@@ -147,14 +147,14 @@ same-state s t kept made taken = λ i.
     }
 
 -- a tick changes a history if and only if it changes what is kept of it
-pub quiet-tick : (now : ℕ) (v : View) (s : State) → StandsFor v s → ticks now v ≡ still v → tick now s ≡ s
+pub quiet-tick : (now : ℕ) (v : View) (s : State) → StandsFor v s → tick_turn now v ≡ still v → tick now s ≡ s
 quiet-tick now v s h quiet =
     let one = machine_turns (Ticks now) v s tt h in
     same-state s (tick now s) (sym one.stands ∙ (ap (λ (t : Turn). t.left) quiet ∙ h))
     (one.made ∙ (ap (λ (t : Turn). s.made ++ t.made) quiet ∙ append-nil s.made))
     (one.taken ∙ append-nil s.taken)
 
-pub fallen-tick : (now : ℕ) (v : View) (s : State) → StandsFor v s → (ticks now v).left ≢ v → tick now s ≢ s
+pub fallen-tick : (now : ℕ) (v : View) (s : State) → StandsFor v s → (tick_turn now v).left ≢ v → tick now s ≢ s
 fallen-tick now v s h changes same = changes ((machine_turns (Ticks now) v s tt h).stands ∙ (ap kept_of same ∙ sym h))
 
 pub before-both : (now : ℕ) (a b : Option ℕ) → IsBefore now (earliest a b) → IsBefore now a × IsBefore now b
@@ -177,7 +177,7 @@ undue true late now r n l h = rw n refl
 undue false true now r n l h = let k = rw n at h in let m = leb-true (r.since + r.t_seq) now l in absurd (omega (arith, k, m))
 undue false false now r n l h = rw (n, l) refl
 
-pub red-before : (now : ℕ) (r : Receiver) → IsBefore now (deadline_of r) → (red_after (RedTick now) r ≡ r) × (passed_by (RedTick now) r ≡ [])
+pub red-before : (now : ℕ) (r : Receiver) → IsBefore now (deadline_of r) → (red_after (RedTick now) r ≡ r) × (parts_passed (RedTick now) r ≡ [])
 red-before now r h =
     let e = undue (is_nil r.waiting) (nat_le (r.since + r.t_seq) now) now r refl refl h in
     (rw e refl, rw e refl)
@@ -196,7 +196,7 @@ sends-history (suc n) now x =
 pub puts-last : (kind : ℕ) (payload : List ℕ) (now : ℕ) (x : EndState) → put_refusal (session_in x.session) kind payload (length x.session.waiting) ≡ None
     → (did (Put kind payload now) x).session.history.put ≡ x.session.history.put ++ (kind, payload) ∷ []
 puts-last kind payload now x accepted =
-    let y : EndState = with_session (meets (Puts kind payload (length x.session.waiting)) x.session) x in
+    let y : EndState = with_session (process_event (Puts kind payload (length x.session.waiting)) x.session) x in
     ap (λ (h : History). h.put) (sends-history (length y.session.waiting) now y)
     ∙ ap (λ r. x.session.history.put ++ (if is_none r then (kind, payload) ∷ [] else [])) accepted
 
@@ -241,12 +241,12 @@ made-append [] ns c = refl
 made-append (m ∷ ms) ns c = made-append ms ns (with_kind m.pdu.kind c)
 
 -- who is opened sends nothing in turn
-pub opens-made : (settings : Settings) (first now : ℕ) → HasMade (opens settings first now).left
+pub opens-made : (settings : Settings) (first now : ℕ) → HasMade (opening_turn settings first now).left
 opens-made settings first now = by_client settings.client
   where
     by_client : (client : Bool) → HasMade
-        (if client then says ConnReq (opening_body settings.n_sendmax) now (unsaid settings first now Start) else machine_still
-        (unsaid settings first now Down)).left
+        (if client then sending_turn ConnReq (opening_body settings.n_sendmax) now (new_view settings first now Start) else machine_still
+        (new_view settings first now Down)).left
     by_client true turn = absurd (true≢false (sym turn))
     by_client false turn = absurd (true≢false (sym turn))
 
@@ -372,7 +372,7 @@ counted-more : (n m : ℕ) → min (min n (2 ^ 64 - 1) + m) (2 ^ 64 - 1) ≡ min
 counted-more n m = omega arith
 
 -- the session goes on
-upper-counted : (n : ℕ) (d e : Dialogue) (v : Fields) (x : EndState) → n ≡ counted (length e.history.put) → Rides x.session.history.taken d e → Stands v x
+upper-counted : (n : ℕ) (d e : Dialogue) (v : Fields) (x : EndState) → n ≡ cap_count (length e.history.put) → Rides x.session.history.taken d e → Stands v x
     → UpperTurned (session_turn d (record v { accepted = n })) x (with_session e x)
 upper-counted n d e v x c r h =
     record {
@@ -396,17 +396,17 @@ upper-counted n d e v x c r h =
 -- if nothing is put
 upper-session : (d e : Dialogue) (v : Fields) (x : EndState) → e.history.put ≡ x.session.history.put → Rides x.session.history.taken d e → Stands v x
     → UpperTurned (session_turn d v) x (with_session e x)
-upper-session d e v x put r h = upper-counted v.accepted d e v x (h.accepted ∙ ap (λ (is : List Item). counted (length is)) (sym put)) r h
+upper-session d e v x put r h = upper-counted v.accepted d e v x (h.accepted ∙ ap (λ (is : List Item). cap_count (length is)) (sym put)) r h
 
 rides-here : (v : Fields) (x : EndState) → Stands v x → Rides x.session.history.taken (dialogue_of v) x.session
 rides-here v x h = record { speaks = h.speaks; taken = sym (append-nil x.session.history.taken) }
 
 upper-settles : (v : Fields) (x : EndState) → Stands v x → UpperTurned (settles v) x (settle x)
 upper-settles v x h =
-    choose (λ t y. UpperTurned t x y) (is_closed v.machine.connection) (is_shut x) (session_turn (meets Closes (dialogue_of v)) v) (end_still v)
-    (with_session (meets Closes x.session) x) x
+    choose (λ t y. UpperTurned t x y) (is_closed v.machine.connection) (is_shut x) (session_turn (process_event Closes (dialogue_of v)) v) (end_still v)
+    (with_session (process_event Closes x.session) x) x
     (ap (λ (m : View). is_closed m.connection) h.machine)
-    (upper-session (meets Closes (dialogue_of v)) (meets Closes x.session) v x (append-nil x.session.history.put)
+    (upper-session (process_event Closes (dialogue_of v)) (process_event Closes x.session) v x (append-nil x.session.history.put)
     (rides-meets Closes x.session.history.taken (dialogue_of v) x.session (rides-here v x h)) h) (upper-still v x h)
 
 upper-moved : (m : Move) (v : Fields) (x : EndState) → MaySend m v.machine → Stands v x
@@ -431,7 +431,7 @@ heard_alone now octets x =
     with_session (judge_units (handed_up x s) x.session).left (with_machine s x)
 
 abbrev noted_from : ConnectionState → List ℕ → EndState → EndState
-noted_from before octets x = record x { request = noted (joins before x.machine.connection) octets x.request }
+noted_from before octets x = record x { request = noted (is_joining before x.machine.connection) octets x.request }
 
 abbrev rises_from : ConnectionState → EndState → EndState
 rises_from before x = with_session (rises (comes_up before x.machine.connection) x.session) x
@@ -441,7 +441,7 @@ upper-hears : (now : ℕ) (octets : List ℕ) (v : Fields) (x : EndState) → St
 upper-hears now octets v x h =
     let s : State = arrive_octets octets now x.machine in
     let m = machine_hears octets now v.machine in
-    let units = hears_units octets now v.machine in
+    let units = octets_units octets now v.machine in
     let one = octets_law_holds octets now v.machine x.machine h.machine in
     let has_made = made_law_holds (heard_move (safe_seen v.machine.settings.rule octets) now) v.machine x.machine h.has_made h.machine in
     let first = upper-machine m units v x s one has_made (settings_law_holds (heard_move (seen_by x.machine octets) now) x.machine) h in
@@ -456,8 +456,8 @@ upper-hears now octets v x h =
 upper-notes : (before : ConnectionState) (octets : List ℕ) (v : Fields) (x : EndState) → Stands v x
     → UpperTurned (notes before octets v) x (noted_from before octets x)
 upper-notes before octets v x h =
-    let same : noted (joins before v.machine.connection) octets v.request ≡ noted (joins before x.machine.connection) octets x.request =
-    ap (λ (m : View). noted (joins before m.connection) octets v.request) h.machine ∙ ap (noted (joins before x.machine.connection) octets) h.request in
+    let same : noted (is_joining before v.machine.connection) octets v.request ≡ noted (is_joining before x.machine.connection) octets x.request =
+    ap (λ (m : View). noted (is_joining before m.connection) octets v.request) h.machine ∙ ap (noted (is_joining before x.machine.connection) octets) h.request in
     record {
       stands = record {
         machine = h.machine;
@@ -545,7 +545,7 @@ upper-part now octets v x h =
     let h4 = upper-then t3 settles x x3 (settle x3) h3 (upper-settles t3.left x3 h3.stands) in
     subst (UpperTurned (part now octets v) x)
     (ap (λ (q : ConnectionState). settle (end_leaves now asked (rises_from q (noted_from q octets x0)))) (ap (λ (m : View). m.connection) h.machine))
-    (upper-counts (heard_answer (safe_seen v.machine.settings.rule octets) now v.machine) (waited now v) now
+    (upper-counts (decoded_answer (safe_seen v.machine.settings.rule octets) now v.machine) (waited now v) now
     (followed (followed t3 settles) (departs (closing now octets v))) x (settle x3)
     (upper-departs (closing now octets v) (followed t3 settles) x (settle x3) h4))
 
@@ -618,15 +618,15 @@ upper-sends now v x h = subst (λ ws. UpperTurned (sends now v) x (packed_up_to 
 
 -- an event of the session that knows how many messages wait, and then sending
 upper-event : (event : ℕ → Event) (n now : ℕ) (v : Fields) (x : EndState)
-    → n ≡ counted (length (meets (event (length x.session.waiting)) x.session).history.put) → Stands v x
-    → UpperTurned (followed (session_turn (meets (event (length v.waiting)) (dialogue_of v)) (record v { accepted = n })) (sends now)) x
-    (end_sends now (with_session (meets (event (length x.session.waiting)) x.session) x))
+    → n ≡ cap_count (length (process_event (event (length x.session.waiting)) x.session).history.put) → Stands v x
+    → UpperTurned (followed (session_turn (process_event (event (length v.waiting)) (dialogue_of v)) (record v { accepted = n })) (sends now)) x
+    (end_sends now (with_session (process_event (event (length x.session.waiting)) x.session) x))
 upper-event event n now v x c h =
-    let d = meets (event (length v.waiting)) (dialogue_of v) in
-    let e = meets (event (length x.session.waiting)) x.session in
+    let d = process_event (event (length v.waiting)) (dialogue_of v) in
+    let e = process_event (event (length x.session.waiting)) x.session in
     let before = x.session.history.taken in
     let rides : Rides before d e =
-    subst (λ ws. Rides before d (meets (event (length ws)) x.session)) h.speaks.waits
+    subst (λ ws. Rides before d (process_event (event (length ws)) x.session)) h.speaks.waits
     (rides-meets (event (length v.waiting)) before (dialogue_of v) x.session (rides-here v x h)) in
     let y : EndState = with_session e x in
     let one = upper-counted n d e v x c rides h in
@@ -636,15 +636,15 @@ upper-event event n now v x c h =
 -- a telegram that is put is counted
 puts-counted : (kind : ℕ) (payload : List ℕ) (v : Fields) (x : EndState) → Stands v x
     → min (v.accepted + length (put_by (Puts kind payload (length v.waiting)) v.session)) (2 ^ 64 - 1)
-    ≡ counted (length (meets (Puts kind payload (length x.session.waiting)) x.session).history.put)
+    ≡ cap_count (length (process_event (Puts kind payload (length x.session.waiting)) x.session).history.put)
 puts-counted kind payload v x h =
     let before = x.session.history.put in
     let more = put_by (Puts kind payload (length x.session.waiting)) (session_in x.session) in
     ap (λ (n : ℕ). min (n + length (put_by (Puts kind payload (length v.waiting)) v.session)) (2 ^ 64 - 1)) h.accepted
-    ∙ ap (λ s. min (counted (length before) + length (put_by (Puts kind payload (length v.waiting)) s)) (2 ^ 64 - 1)) h.speaks.state
-    ∙ ap (λ (ws : List (List ℕ)). min (counted (length before) + length (put_by (Puts kind payload (length ws)) (session_in x.session))) (2 ^ 64 - 1))
+    ∙ ap (λ s. min (cap_count (length before) + length (put_by (Puts kind payload (length v.waiting)) s)) (2 ^ 64 - 1)) h.speaks.state
+    ∙ ap (λ (ws : List (List ℕ)). min (cap_count (length before) + length (put_by (Puts kind payload (length ws)) (session_in x.session))) (2 ^ 64 - 1))
     h.speaks.waits
-    ∙ counted-more (length before) (length more) ∙ ap counted (sym (length-append before more))
+    ∙ counted-more (length before) (length more) ∙ ap cap_count (sym (length-append before more))
 
 -- All layers.
 whole-still : (v : Inside) (x : EndState) → BothStand v x → Turned (end_still v) x x
@@ -678,8 +678,8 @@ whole-receives now i v x h =
       rule = s.rule;
       t_max = s.t_max;
     } in
-    let k = subst (λ (r : Receiver). UpperTurned (parts now (passed_by i v.red) v.upper) y (end_parts now (passed_by i r) y)) h.red
-    (upper-parts now (passed_by i v.red) v.upper y noted_too) in
+    let k = subst (λ (r : Receiver). UpperTurned (parts now (parts_passed i v.red) v.upper) y (end_parts now (parts_passed i r) y)) h.red
+    (upper-parts now (parts_passed i v.red) v.upper y noted_too) in
     record {
       stands = record { red = ap (red_after i) h.red ∙ sym k.red; upper = k.stands };
       grew = record { settings = k.grew.settings; more = k.grew.more; made = k.grew.made; sent = k.grew.sent; taken = k.grew.taken };
@@ -721,7 +721,7 @@ turns_did (Put kind payload now) v x h =
     whole-above (puts kind payload now) v x (did (Put kind payload now) x) h (upper-event (λ n. Puts kind payload n) _ now v.upper x
     (puts-counted kind payload v.upper x h.upper) h.upper)
 turns_did (InitDone now) v x h = whole-above (completes now) v x (did (InitDone now) x) h (upper-event (λ n. Completes n) v.upper.accepted now v.upper x
-    (h.upper.accepted ∙ ap (λ (is : List Item). counted (length is)) (sym (append-nil x.session.history.put))) h.upper)
+    (h.upper.accepted ∙ ap (λ (is : List Item). cap_count (length is)) (sym (append-nil x.session.history.put))) h.upper)
 turns_did (Tick now) v x h = whole-first (Ticks now) now (RedTick now) v x tt h
 turns_did (Deliver channel octets now) v x h = whole-first (Guards now) now (Datagram octets now) v x tt h
 
@@ -797,8 +797,8 @@ confirmed-tells v x h =
     let units = ap items_in_units held ∙ units-counted (unconfirmed x.machine) ∙ items-counted (messages_in (unconfirmed x.machine)) in
     let waits = ap items_in h.speaks.waits ∙ items-counted x.session.waiting in
     ap (λ n. n - (items_in v.waiting + items_in_units (octets_of v.machine.ring))) h.accepted
-    ∙ ap (λ n. counted (length x.session.history.put) - (n + items_in_units (octets_of v.machine.ring))) waits
-    ∙ ap (λ n. counted (length x.session.history.put) - (length (items_waiting x) + n)) units
+    ∙ ap (λ n. cap_count (length x.session.history.put) - (n + items_in_units (octets_of v.machine.ring))) waits
+    ∙ ap (λ n. cap_count (length x.session.history.put) - (length (items_waiting x) + n)) units
 
 pub tells_law_holds : TellsLaw
 tells_law_holds v x h =
@@ -824,7 +824,7 @@ pub any_channel_law_holds : AnyChannelLaw
 any_channel_law_holds channel other octets now v = refl
 
 -- a turn of the layers of an end is its turn
-pub layers-turn : {C A T : Type 0} (told : C → Told) (takes : T → Item → T → Type 0) (next : Inside → EndTurn Inside) (l m : Layers C A) (time now : ℕ)
+pub layers-turn : {C A T : Type 0} (told : C → ChannelHistory) (takes : T → Item → T → Type 0) (next : Inside → EndTurn Inside) (l m : Layers C A) (time now : ℕ)
     (r s : List ReceptionCounts) (v : EndValue C A) (t u : T) → record { layers = l; time = time; receptions = r } ≡ v → BothDo told takes next l t m u
     → EndTurns told takes next v t (record { layers = m; time = now; receptions = s }) u
 layers-turn {C} {A} told takes next l m time now r s v t u e h =

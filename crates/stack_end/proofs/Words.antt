@@ -4,7 +4,7 @@ pub use Rattle.std.proofs.Common.{Result, rules, Some, subst, suc, sym, take, tr
 pub use Rattle.std.proofs.lemmas.Bool.{true≢false}
 pub use Rattle.std.specs.List.{FoldsTo}
 pub use Rattle.std.specs.Prelude.{if◌then◌else◌, is_none, Option}
-pub use Rattle.channels.specs.Told.{SendsOne, Told}
+pub use Rattle.channels.specs.Told.{SendsOne, ChannelHistory}
 pub use Rattle.end_settings.specs.Configured.{settings_of, side_of}
 pub use Rattle.end_settings.specs.EndSettings.{EndSettings, rule_of}
 pub use Rattle.octets.proofs.Choices.{by_cond}
@@ -13,17 +13,17 @@ pub use Rattle.octets.specs.declared.limits.TheConstants.{UNIT_MESSAGES}
 pub use Rattle.pdi_session.specs.packing.Places.{unit_seen}
 pub use Rattle.pdi_session.specs.packing.UnitText.{unit_text}
 pub use Rattle.pdi_session.specs.declared.packing.PackFault.{PackFault}
-pub use Rattle.pdi_session.specs.SessionStep.{added_by, after, Arrives, Closes, end_of, Event, InitDone as Completes, Item, judged, Puts, taken_by, texts}
+pub use Rattle.pdi_session.specs.SessionStep.{added_by, after, Arrives, Closes, end_of, Event, InitDone as Completes, Item, judge_telegram, Puts, taken_by, texts}
 pub use Rattle.red_layer.specs.Parts.{is_nil, Part}
-pub use Rattle.red_layer.specs.Redundancy.{after as red_after, Datagram, Input, passed_by, Receiver, Tick as RedTick}
+pub use Rattle.red_layer.specs.Redundancy.{after as red_after, Datagram, Input, parts_passed, Receiver, Tick as RedTick}
 pub use Rattle.red_layer.specs.pdu.RedText.{red_text}
 pub use Rattle.safe_machine.specs.Connections.{is_closed}
 pub use Rattle.safe_machine.specs.Deadlines.{IsBefore, IsReachedAt}
 pub use Rattle.safe_machine.specs.Made.{Made}
-pub use Rattle.safe_machine.specs.Octets.{hears as machine_hears, hears_units}
+pub use Rattle.safe_machine.specs.Octets.{octets_turn as machine_hears, octets_units}
 pub use Rattle.safe_machine.specs.Settings.{Settings}
 pub use Rattle.safe_machine.specs.Turned.{HasMade}
-pub use Rattle.safe_machine.specs.Turns.{has_room, opens, still as machine_still, ticks, Turn as MachineTurn}
+pub use Rattle.safe_machine.specs.Turns.{has_room, opening_turn, still as machine_still, tick_turn, Turn as MachineTurn}
 pub use Rattle.safe_machine.specs.View.{kept_of, View}
 unfoldable pub use Rattle.safe_machine.specs.View.{text_of}
 pub use Rattle.safe_machine.specs.declared.ConnectionState.{ConnectionState}
@@ -34,7 +34,7 @@ pub use Rattle.pdi_session.specs.telegram.Places.{tele_seen}
 pub use Rattle.pdi_session.specs.telegram.Tele.{Tele}
 pub use Rattle.pdi_session.specs.declared.telegram.TeleFault.{TeleFault}
 pub use Rattle.stack_end.specs.Datagrams.{on_channels, sendings}
-pub use Rattle.stack_end.specs.Dialogue.{Dialogue, if_ended, judge_messages, judge_read, judge_units, judge_unpacked, Judged, Leaving, meets, session_in}
+pub use Rattle.stack_end.specs.Dialogue.{Dialogue, if_ended, judge_messages, judge_read, judge_units, judge_unpacked, Judged, Leaving, process_event, session_in}
 pub use Rattle.stack_end.specs.Dialogue.{unless_leaving}
 pub use Rattle.stack_end.specs.EndValue.{inside}
 pub use Rattle.stack_end.specs.Ends.{comes_up, Deliver, rises}

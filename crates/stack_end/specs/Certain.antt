@@ -42,12 +42,12 @@ abbrev pub items_unconfirmed : EndState → List Item
 items_unconfirmed x = items_of (telegrams_in (messages_in (unconfirmed x.machine)))
 
 -- a count of 64 bits, which stays at its greatest number
-abbrev pub counted : ℕ → ℕ
-counted n = min n (2 ^ 64 - 1)
+abbrev pub cap_count : ℕ → ℕ
+cap_count n = min n (2 ^ 64 - 1)
 
 -- how many telegrams are confirmed in a state: those put, less those that wait and those in unconfirmed units
 abbrev pub confirmed_of : EndState → ℕ
-confirmed_of x = counted (length x.session.history.put) - (length (items_waiting x) + length (items_unconfirmed x))
+confirmed_of x = cap_count (length x.session.history.put) - (length (items_waiting x) + length (items_unconfirmed x))
 
 -- how many commands or status are in units
 abbrev pub items_in_units : List (List ℕ) → ℕ

@@ -1,7 +1,7 @@
 -- What contracts see of an end: its value, the state that it represents, and what a call of it does.
 use Rattle.std.specs.Prelude.{◌≡◌, ◌-◌, ℕ, List, length}
 use Rattle.pdi_session.specs.SessionStep.{Item}
-use Rattle.channels.specs.Told.{Told}
+use Rattle.channels.specs.Told.{ChannelHistory}
 use Rattle.stack_end.specs.declared.layers.Layers.{Layers}
 use Rattle.stack_end.specs.declared.statistics.ReceptionCounts.{ReceptionCounts}
 use Rattle.stack_end.specs.declared.statistics.Statistics.{Statistics}
@@ -30,14 +30,14 @@ statistics_of v =
     record { channels = v.receptions; parts = u.parts; made = u.made; confirmed = u.made.units - length u.machine.ring }
 
 -- a call takes this turn: the end changes by it, its datagrams are sent or counted as failed, and the taker gets what it delivers
-abbrev pub EndTurns : {C A T : Type 0} → (C → Told) → (T → Item → T → Type 0) → (Inside → Turn Inside) → EndValue C A → T → EndValue C A → T → Type 0
+abbrev pub EndTurns : {C A T : Type 0} → (C → ChannelHistory) → (T → Item → T → Type 0) → (Inside → Turn Inside) → EndValue C A → T → EndValue C A → T → Type 0
 EndTurns told takes turn v before w after = Went takes (turn (inside v)) (told (channels_of v)) before (inside w) (told (channels_of w)) after
 
 -- a call takes this turn and delivers nothing
-abbrev pub EndTurnsAlone : {C A : Type 0} → (C → Told) → (Inside → Turn Inside) → EndValue C A → EndValue C A → Type 0
+abbrev pub EndTurnsAlone : {C A : Type 0} → (C → ChannelHistory) → (Inside → Turn Inside) → EndValue C A → EndValue C A → Type 0
 EndTurnsAlone told turn v w = WentAlone (turn (inside v)) (told (channels_of v)) (inside w) (told (channels_of w))
 
 -- the end, over channels that show this of themselves, represents the state
-pub record EndStands {C A : Type 0} (told : C → Told) (v : EndValue C A) (x : EndState) : Type 0 where
+pub record EndStands {C A : Type 0} (told : C → ChannelHistory) (v : EndValue C A) (x : EndState) : Type 0 where
   pub both : BothStand (inside v) x  -- its layers represent those of the state
   pub time : v.time ≡ x.time  -- it has the time of the state

@@ -2,24 +2,24 @@
 use Rattle.std.specs.Prelude.{ℕ, zero, suc, Bool, true, false, not, ◌&&◌, Option, Some, None, List, [], ◌∷◌, ◌++◌, take, drop, length, if◌then◌else◌}
 use Rattle.pdi_session.specs.packing.UnitText.{unit_text}
 use Rattle.red_layer.specs.Parts.{Part, is_nil}
-use Rattle.red_layer.specs.Redundancy.{Receiver, Input, Datagram, Tick as RedTick, passed_by, after, opened as red_opened}
+use Rattle.red_layer.specs.Redundancy.{Receiver, Input, Datagram, Tick as RedTick, parts_passed, after, new_receiver as red_opened}
 use Rattle.safe_machine.specs.declared.ConnectionState.{ConnectionState}
 use Rattle.safe_machine.specs.declared.ConnectionState.TheVariants.{Start, Up}
 use Rattle.safe_pdu.specs.declared.reasons.Reason.TheVariants.{ClosedByUser}
 use Rattle.safe_pdu.specs.declared.reasons.Detail.TheVariants.{Unspecified}
 use Rattle.safe_machine.specs.State.{State, unconfirmed}
 use Rattle.safe_machine.specs.Decision.{is_closed}
-use Rattle.safe_machine.specs.Step.{leave, may_send, opened, send}
+use Rattle.safe_machine.specs.Step.{leave, may_send, new_state, send}
 use Rattle.safe_machine.specs.Moves.{Move, move}
 use Rattle.safe_machine.specs.Moves.Move.{Guards, Ticks, Leaves}
 use Rattle.safe_machine.specs.Octets.{arrive_octets}
-use Rattle.safe_machine.specs.World.{Side, joins}
+use Rattle.safe_machine.specs.World.{Side, is_joining}
 use Rattle.pdi_session.specs.SessionStep.{Up as GoesUp, Puts, InitDone as Completes, Closes}
 use Rattle.end_settings.specs.EndSettings.{EndSettings, connection_of, session_of}
 use Rattle.end_settings.specs.Configured.{settings_of, side_of}
 use Rattle.end_settings.specs.declared.EndConfig.{EndConfig}
 use Rattle.end_settings.specs.declared.Side.{Side as ConfiguredSide}
-use Rattle.stack_end.specs.Dialogue.{Dialogue, new_dialogue, meets, Leaving, judge_units}
+use Rattle.stack_end.specs.Dialogue.{Dialogue, new_dialogue, process_event, Leaving, judge_units}
 
 -- the state of an end: its layers, with all that ever happened to them
 pub record EndState : Type 0 where
@@ -38,7 +38,7 @@ new_end side settings first now =
       settings = settings;
       red = red_opened settings.q settings.t_seq;
       inputs = [];
-      machine = opened (connection_of side settings) first now;
+      machine = new_state (connection_of side settings) first now;
       session = new_dialogue settings.addressing (session_of side settings);
       request = None;
       time = now;
@@ -62,7 +62,7 @@ with_session d x = record x { session = d }
 
 -- if the machine is closed, the session ends
 abbrev pub settle : EndState → EndState
-settle x = if is_shut x then with_session (meets Closes x.session) x else x
+settle x = if is_shut x then with_session (process_event Closes x.session) x else x
 
 -- a move of the machine only, after which a closed machine ends the session
 abbrev pub moved : Move → EndState → EndState
@@ -80,7 +80,7 @@ comes_up _ _ = false
 
 -- the session goes up if the connection did
 abbrev pub rises : Bool → Dialogue → Dialogue
-rises true d = meets GoesUp d
+rises true d = process_event GoesUp d
 rises false d = d
 
 -- the units that a step of the machine to this state delivered
@@ -96,7 +96,7 @@ answered octets x s =
       inputs = x.inputs;
       machine = s;
       session = rises (comes_up x.machine.connection s.connection) (judge_units (handed_up x s) x.session).left;
-      request = noted (joins x.machine.connection s.connection) octets x.request;
+      request = noted (is_joining x.machine.connection s.connection) octets x.request;
       time = x.time;
     }
 
@@ -126,7 +126,7 @@ with_input i x = record x { red = after i x.red; inputs = x.inputs ++ i ∷ [] }
 
 -- the redundancy layer processes an input, and each part that goes up is processed
 abbrev pub receives : ℕ → Input → EndState → EndState
-receives now i x = parts now (passed_by i x.red) (with_input i x)
+receives now i x = parts now (parts_passed i x.red) (with_input i x)
 
 -- one unit of the first waiting messages is sent
 abbrev pub packed : ℕ → EndState → EndState
@@ -176,8 +176,8 @@ time_of (Deliver channel octets now) = now
 -- what each call does; a put and an init_done are accepted ones
 abbrev pub did : Call → EndState → EndState
 did (Close now) x = moved (Leaves ClosedByUser Unspecified now) x
-did (Put kind payload now) x = sends now (with_session (meets (Puts kind payload (length x.session.waiting)) x.session) x)
-did (InitDone now) x = sends now (with_session (meets (Completes (length x.session.waiting)) x.session) x)
+did (Put kind payload now) x = sends now (with_session (process_event (Puts kind payload (length x.session.waiting)) x.session) x)
+did (InitDone now) x = sends now (with_session (process_event (Completes (length x.session.waiting)) x.session) x)
 did (Tick now) x = if is_shut x then x else goes_on now (RedTick now) (moved (Ticks now) x)
 did (Deliver channel octets now) x = if is_shut x then x else goes_on now (Datagram octets now) (moved (Guards now) x)
 

@@ -4,17 +4,17 @@ use Rattle.pdi_session.specs.SessionStep.{FewWait, Item}
 use Rattle.safe_machine.specs.Turned.{HasMade}
 use Rattle.safe_machine.specs.View.{StandsFor as MachineStandsFor}
 use Rattle.end_settings.specs.EndSettings.{rule_of}
-use Rattle.channels.specs.Told.{Told}
+use Rattle.channels.specs.Told.{ChannelHistory}
 use Rattle.stack_end.specs.Ends.{EndState}
-use Rattle.stack_end.specs.declared.upper.Upper.{Upper}
+use Rattle.stack_end.specs.declared.upper.UpperLayers.{UpperLayers}
 use Rattle.stack_end.specs.declared.layers.Layers.{Layers}
-use Rattle.stack_end.specs.Certain.{counted}
+use Rattle.stack_end.specs.Certain.{cap_count}
 use Rattle.stack_end.specs.Statistics.{none_made, with_made}
 use Rattle.stack_end.specs.Talk.{Speaks}
 use Rattle.stack_end.specs.Turns.{Fields, Inside, Turn, Went, WentAlone}
 
 -- what the code keeps above the redundancy layer
-abbrev pub fields_of : {C A : Type 0} → Upper C A → Fields
+abbrev pub fields_of : {C A : Type 0} → UpperLayers C A → Fields
 fields_of u =
     record {
       numbers = u.numbers;
@@ -36,23 +36,23 @@ abbrev pub inside_of : {C A : Type 0} → Layers C A → Inside
 inside_of l = record { red = l.red; upper = fields_of l.upper }
 
 -- the layers above the redundancy layer take this turn: datagrams are sent or counted as failed, and the taker gets what it delivers
-abbrev pub Does : {C A T : Type 0} → (C → Told) → (T → Item → T → Type 0) → (Fields → Turn Fields) → Upper C A → T → Upper C A → T → Type 0
+abbrev pub Does : {C A T : Type 0} → (C → ChannelHistory) → (T → Item → T → Type 0) → (Fields → Turn Fields) → UpperLayers C A → T → UpperLayers C A → T → Type 0
 Does told takes turn u before w after = Went takes (turn (fields_of u)) (told u.channels) before (fields_of w) (told w.channels) after
 
 -- the layers above the redundancy layer take this turn, which delivers nothing
-abbrev pub DoesAlone : {C A : Type 0} → (C → Told) → (Fields → Turn Fields) → Upper C A → Upper C A → Type 0
+abbrev pub DoesAlone : {C A : Type 0} → (C → ChannelHistory) → (Fields → Turn Fields) → UpperLayers C A → UpperLayers C A → Type 0
 DoesAlone told turn u w = WentAlone (turn (fields_of u)) (told u.channels) (fields_of w) (told w.channels)
 
 -- all layers take this turn: datagrams are sent or counted as failed, and the taker gets what it delivers
-abbrev pub BothDo : {C A T : Type 0} → (C → Told) → (T → Item → T → Type 0) → (Inside → Turn Inside) → Layers C A → T → Layers C A → T → Type 0
+abbrev pub BothDo : {C A T : Type 0} → (C → ChannelHistory) → (T → Item → T → Type 0) → (Inside → Turn Inside) → Layers C A → T → Layers C A → T → Type 0
 BothDo told takes turn l before m after = Went takes (turn (inside_of l)) (told l.upper.channels) before (inside_of m) (told m.upper.channels) after
 
 -- all layers take this turn, which delivers nothing
-abbrev pub BothDoAlone : {C A : Type 0} → (C → Told) → (Inside → Turn Inside) → Layers C A → Layers C A → Type 0
+abbrev pub BothDoAlone : {C A : Type 0} → (C → ChannelHistory) → (Inside → Turn Inside) → Layers C A → Layers C A → Type 0
 BothDoAlone told turn l m = WentAlone (turn (inside_of l)) (told l.upper.channels) (inside_of m) (told m.upper.channels)
 
 -- what every call above the redundancy layer keeps, so that the next call of a layer is allowed
-pub record Keeps {C A : Type 0} (most : ℕ) (u w : Upper C A) : Type 0 where
+pub record Keeps {C A : Type 0} (most : ℕ) (u w : UpperLayers C A) : Type 0 where
   pub same : w.max ≡ u.max  -- how many messages go into one unit
   pub near : w.machine.expected ≤ u.machine.expected + most  -- how far the index of the peer's next PDU moves
   pub few : FewWait u.session u.waiting → FewWait w.session w.waiting  -- there is room among the waiting messages for the session's next one
@@ -66,7 +66,7 @@ pub record Stands (v : Fields) (x : EndState) : Type 0 where
   pub numbers : v.numbers ≡ length x.machine.made % 2 ^ 32  -- the next redundancy number
   pub count : v.count ≡ x.settings.channels  -- the number of channels
   pub max : v.max ≡ x.settings.n_maxpacket  -- how many messages go into one unit
-  pub accepted : v.accepted ≡ counted (length x.session.history.put)  -- how many telegrams were put
+  pub accepted : v.accepted ≡ cap_count (length x.session.history.put)  -- how many telegrams were put
   pub made : v.made ≡ with_made x.machine.made none_made  -- the counts of the PDUs made
   pub rule : x.machine.settings.rule ≡ rule_of x.settings  -- the machine uses the safety code of the settings
   pub t_max : v.t_max ≡ x.machine.settings.t_max  -- T_max is that of the machine

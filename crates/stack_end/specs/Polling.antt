@@ -2,12 +2,12 @@
 use Rattle.std.specs.Prelude.{◌≡◌, ℕ, ◌<◌, ◌≤◌, ◌⊎◌, Bool, true, false, Option, Some, None, List, length, take, Result, Ok, Err}
 use Rattle.std.specs.List.{FoldsTo}
 use Rattle.pdi_session.specs.SessionStep.{Item}
-use Rattle.channels.specs.Told.{Told, after_receive}
+use Rattle.channels.specs.Told.{ChannelHistory, after_receive}
 use Rattle.channels.specs.declared.ChannelFault.{ChannelFault}
 use Rattle.octets.specs.declared.limits.TheConstants.{RED_PDU_MAX}
 use Rattle.stack_end.specs.Recent.{DatagramRecent, TickRecent}
 use Rattle.stack_end.specs.EndValue.{EndTurns, EndValue, channels_of, inside}
-use Rattle.stack_end.specs.Statistics.{received}
+use Rattle.stack_end.specs.Statistics.{count_reception}
 use Rattle.stack_end.specs.Turns.{arrives, event_of, passes}
 
 -- the length in bytes of the buffer of a poll: a longer datagram is cut
@@ -19,7 +19,7 @@ abbrev pub most_datagrams : ℕ
 most_datagrams = 64
 
 -- a datagram was requested of the channels with the whole buffer, and nothing else of the end changed
-pub record Asked {C A : Type 0} (told : C → Told) (result : Result (Option (ℕ × ℕ)) ChannelFault) (buffer : List ℕ) (v w : EndValue C A) : Type 0 where
+pub record Asked {C A : Type 0} (told : C → ChannelHistory) (result : Result (Option (ℕ × ℕ)) ChannelFault) (buffer : List ℕ) (v w : EndValue C A) : Type 0 where
   pub size : length buffer ≡ buffer_size  -- the buffer has its full length
   pub longest : RED_PDU_MAX ≤ length buffer  -- the longest datagram fits it
   pub answer : told (channels_of w) ≡ after_receive result buffer (told (channels_of v))  -- the channels have recorded this result
@@ -32,36 +32,36 @@ abbrev pub With : Type 0 → Type 0 → Type 0 → Type 0
 With C A T = EndValue C A × T
 
 -- a datagram came on a channel, was processed, and counted; anything taken is recent
-abbrev pub Hears : {C A T : Type 0} → (C → Told) → (T → Item → T → Type 0) → ℕ → With C A T → ℕ × List ℕ → With C A T → Type 0
+abbrev pub Hears : {C A T : Type 0} → (C → ChannelHistory) → (T → Item → T → Type 0) → ℕ → With C A T → ℕ × List ℕ → With C A T → Type 0
 Hears {C = C} {A = A} told takes now s d t =
     (size : ℕ) × (buffer : List ℕ) × (asked : EndValue C A)
     × (take size buffer ≡ d.1) × Asked told (Ok (Some (d.0, size))) buffer s.0 asked × EndTurns told takes (arrives now d.1) asked s.1 t.0 t.1
-    × (t.0.time ≡ now) × (t.0.receptions ≡ received d.0 (event_of now d.1 (inside asked)) now asked.receptions)
+    × (t.0.time ≡ now) × (t.0.receptions ≡ count_reception d.0 (event_of now d.1 (inside asked)) now asked.receptions)
     × DatagramRecent takes now d.1 (inside asked) s.1 t.1
 
 -- one request to the channels had this result, and the taker got nothing
-abbrev pub AskedOnce : {C A T : Type 0} → (C → Told) → Result (Option (ℕ × ℕ)) ChannelFault → With C A T → With C A T → Type 0
+abbrev pub AskedOnce : {C A T : Type 0} → (C → ChannelHistory) → Result (Option (ℕ × ℕ)) ChannelFault → With C A T → With C A T → Type 0
 AskedOnce told answer s t = (buffer : List ℕ) × Asked told answer buffer s.0 t.0 × (t.1 ≡ s.1)
 
 -- a datagram came and was processed, or nothing had come
-abbrev pub HeardNext : {C A T : Type 0} → (C → Told) → (T → Item → T → Type 0) → ℕ → (came : Bool) → With C A T → With C A T → Type 0
+abbrev pub HeardNext : {C A T : Type 0} → (C → ChannelHistory) → (T → Item → T → Type 0) → ℕ → (came : Bool) → With C A T → With C A T → Type 0
 HeardNext told takes now true s t = (d : ℕ × List ℕ) × Hears told takes now s d t
 HeardNext told takes now false s t = AskedOnce told (Ok None) s t
 
 -- up to the most datagrams were processed, fewer only if nothing more came
-abbrev pub HeardAll : {C A T : Type 0} → (C → Told) → (T → Item → T → Type 0) → (most now : ℕ) → With C A T → With C A T → Type 0
+abbrev pub HeardAll : {C A T : Type 0} → (C → ChannelHistory) → (T → Item → T → Type 0) → (most now : ℕ) → With C A T → With C A T → Type 0
 HeardAll {C = C} {A = A} {T = T} told takes most now s t =
     (heard : List (ℕ × List ℕ)) × (left : With C A T) × FoldsTo (Hears told takes now) s heard left
     × (((length heard ≡ most) × (t ≡ left)) ⊎ ((length heard < most) × AskedOnce told (Ok None) left t))
 
 -- fewer than the most datagrams were processed before a reception failed
-abbrev pub HeardUntilFault : {C A T : Type 0} → (C → Told) → (T → Item → T → Type 0) → (most now : ℕ) → With C A T → With C A T → Type 0
+abbrev pub HeardUntilFault : {C A T : Type 0} → (C → ChannelHistory) → (T → Item → T → Type 0) → (most now : ℕ) → With C A T → With C A T → Type 0
 HeardUntilFault {C = C} {A = A} {T = T} told takes most now s t =
     (heard : List (ℕ × List ℕ)) × (left : With C A T) × FoldsTo (Hears told takes now) s heard left
     × (length heard < most) × (fault : ChannelFault) × AskedOnce told (Err fault) left t
 
 -- datagrams were processed up to the most, then time passed
-abbrev pub Polled : {C A T : Type 0} → (C → Told) → (T → Item → T → Type 0) → (most now : ℕ) → With C A T → With C A T → Type 0
+abbrev pub Polled : {C A T : Type 0} → (C → ChannelHistory) → (T → Item → T → Type 0) → (most now : ℕ) → With C A T → With C A T → Type 0
 Polled {C = C} {A = A} {T = T} told takes most now s t =
     (left : With C A T) × HeardAll told takes most now s left × EndTurns told takes (passes now) left.0 left.1 t.0 t.1
     × (t.0.time ≡ now) × (t.0.receptions ≡ left.0.receptions) × TickRecent takes now (inside left.0) left.1 t.1

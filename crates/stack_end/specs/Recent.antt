@@ -2,7 +2,7 @@
 use Rattle.std.specs.Prelude.{◌≡◌, ◌⊎◌, ℕ, true, false, List, [], ◌∷◌}
 use Rattle.std.specs.List.{FoldsTo}
 use Rattle.red_layer.specs.Parts.{Part}
-use Rattle.red_layer.specs.Redundancy.{Datagram, Input, Tick as RedTick, passed_by}
+use Rattle.red_layer.specs.Redundancy.{Datagram, Input, Tick as RedTick, parts_passed}
 use Rattle.safe_pdu.specs.Places.{safe_seen}
 use Rattle.safe_machine.specs.Properties.{IsRecent}
 use Rattle.pdi_session.specs.SessionStep.{Item}
@@ -20,7 +20,7 @@ TakesRecent {T = T} takes now (p ∷ ps) v t u =
 
 -- an input of the redundancy layer: at a closed end nothing is taken; at an open one, only from recent parts
 abbrev pub InputRecent : {T : Type 0} → (T → Item → T → Type 0) → ℕ → Input → Inside → T → T → Type 0
-InputRecent takes now i v t u = (is_over v ≡ true → t ≡ u) × (is_over v ≡ false → TakesRecent takes now (passed_by i v.red) v.upper t u)
+InputRecent takes now i v t u = (is_over v ≡ true → t ≡ u) × (is_over v ≡ false → TakesRecent takes now (parts_passed i v.red) v.upper t u)
 
 -- a datagram: anything taken from it, after the timeout check, is recent
 abbrev pub DatagramRecent : {T : Type 0} → (T → Item → T → Type 0) → ℕ → List ℕ → Inside → T → T → Type 0

@@ -1,8 +1,8 @@
 -- An end that is opened again with the settings that it has: every layer is as newly opened, and nothing is sent on the old connection.
 use Rattle.std.specs.Prelude.{◌≡◌, ℕ, None, List, [], ◌∷◌}
-use Rattle.pdi_session.specs.SessionStep.{opened as session_opened}
-use Rattle.red_layer.specs.Redundancy.{opened as red_opened}
-use Rattle.safe_machine.specs.Turns.{opens}
+use Rattle.pdi_session.specs.SessionStep.{new_session as session_opened}
+use Rattle.red_layer.specs.Redundancy.{new_receiver as red_opened}
+use Rattle.safe_machine.specs.Turns.{opening_turn}
 use Rattle.safe_machine.specs.World.{Side}
 use Rattle.end_settings.specs.EndSettings.{EndSettings}
 use Rattle.stack_end.specs.Datagrams.{sent_at_opening}
@@ -12,8 +12,8 @@ use Rattle.stack_end.specs.Statistics.{none_heard, none_made}
 use Rattle.stack_end.specs.Turns.{Fields, Inside, Turn, machine_turn}
 
 -- what is kept above the redundancy layer before anything has happened: only the settings, and the machine of before
-abbrev pub emptied : Fields → Fields
-emptied v =
+abbrev pub empty_fields : Fields → Fields
+empty_fields v =
     record {
       numbers = 0;
       machine = v.machine;
@@ -30,13 +30,13 @@ emptied v =
     }
 
 -- the machine opens again with its settings: an interlocking sends its ConnReq
-abbrev pub machine_reopens : (first now : ℕ) → Fields → Turn Fields
-machine_reopens first now v = machine_turn (opens v.machine.settings first now) v
+abbrev pub machine_reopening_turn : (first now : ℕ) → Fields → Turn Fields
+machine_reopening_turn first now v = machine_turn (opening_turn v.machine.settings first now) v
 
 -- all layers open again
-abbrev pub reopens : (first now : ℕ) → Inside → Turn Inside
-reopens first now v =
-    let t = machine_reopens first now (emptied v.upper) in
+abbrev pub reopening_turn : (first now : ℕ) → Inside → Turn Inside
+reopening_turn first now v =
+    let t = machine_reopening_turn first now (empty_fields v.upper) in
     record { left = record { red = red_opened v.red.q v.red.t_seq; upper = t.left }; sent = t.sent; taken = [] }
 
 -- an end after these calls, in order
@@ -46,8 +46,8 @@ after_calls (c ∷ cs) x = after_calls cs (call c x)
 
 -- an end that keeps this and opens again is as one that is newly opened with these settings on this side, and sends the same datagrams
 pub record IsAgain (side : Side) (s : EndSettings) (first now : ℕ) (v : Inside) : Type 0 where
-  pub stands : BothStand (reopens first now v).left (new_end side s first now)  -- what it keeps is that of a new end
-  pub sent : (reopens first now v).sent ≡ sent_at_opening (new_end side s first now)  -- what it sends is that of an opening
+  pub stands : BothStand (reopening_turn first now v).left (new_end side s first now)  -- what it keeps is that of a new end
+  pub sent : (reopening_turn first now v).sent ≡ sent_at_opening (new_end side s first now)  -- what it sends is that of an opening
 
 -- whatever calls an end has made since it was opened: if it opens again, it is as newly opened with the settings of its opening
 abbrev pub AgainLaw : Type 0

@@ -6,7 +6,7 @@ use Rattle.safe_pdu.specs.Pdu.{Pdu}
 use Rattle.safe_pdu.specs.Places.{safe_seen}
 use Rattle.safe_pdu.specs.declared.Kind.TheVariants.{ConnReq}
 use Rattle.safe_machine.specs.Decision.{is_foreign, is_ours}
-use Rattle.safe_machine.specs.Turns.{accepts}
+use Rattle.safe_machine.specs.Turns.{acceptance_turn}
 use Rattle.safe_machine.specs.View.{View}
 use Rattle.safe_machine.specs.declared.ConnectionState.{ConnectionState}
 use Rattle.safe_machine.specs.declared.ConnectionState.TheVariants.{Closed, Down, Start}
@@ -38,7 +38,7 @@ pub record IsFirstRequest (v : View) (octets upper : List ℕ) (p : Pdu) : Type 
 -- an end has taken the request: it is in Start with the ConnResp made, it keeps the bytes of the request, and number 1 comes next
 pub record HasTaken (before : Inside) (upper : List ℕ) (p : Pdu) (now : ℕ) (after : Inside) : Type 0 where
   pub state : after.upper.machine.connection ≡ Start  -- the state of the connection
-  pub machine : after.upper.machine ≡ (accepts p now before.upper.machine).left  -- the safety machine has accepted the request
+  pub machine : after.upper.machine ≡ (acceptance_turn p now before.upper.machine).left  -- the safety machine has accepted the request
   pub request : after.upper.request ≡ Some upper  -- the bytes that are kept
   pub expected : after.red.expected ≡ 1  -- the next redundancy number
 

@@ -111,7 +111,7 @@ with_event None now c = record c { received = one_more c.received }
 with_event (Some e) now c = with_answer e (with_time e now (record c { received = one_more c.received }))
 
 -- a datagram has come on a channel, from 1 on: its counts change, those of the others stay
-abbrev pub received : (channel : ℕ) → Option RedEvent → (now : ℕ) → List ReceptionCounts → List ReceptionCounts
-received channel e now cs =
+abbrev pub count_reception : (channel : ℕ) → Option RedEvent → (now : ℕ) → List ReceptionCounts → List ReceptionCounts
+count_reception channel e now cs =
     if channel == 0 || nat_lt CHANNELS_MAX channel then cs
     else slice_set cs (channel - 1) (with_event e now (slice_index_or cs (channel - 1) none_received))

@@ -4,7 +4,7 @@ use Rattle.pdi_session.specs.SessionStep.{put_refusal}
 use Rattle.safe_machine.specs.Made.{Made}
 use Rattle.safe_machine.specs.State.{unconfirmed}
 use Rattle.safe_machine.specs.Step.{tick}
-use Rattle.safe_machine.specs.Turns.{still, ticks}
+use Rattle.safe_machine.specs.Turns.{still, tick_turn}
 use Rattle.stack_end.specs.Datagrams.{sendings}
 use Rattle.stack_end.specs.Dialogue.{session_in}
 use Rattle.stack_end.specs.Ends.{Call, Deliver, EndState, Put, call, is_settled}
@@ -39,9 +39,9 @@ pub record Tells (v : Inside) (x : EndState) : Type 0 where
   pub unconfirmed : length v.upper.machine.ring ≡ length (unconfirmed x.machine)  -- how many units are unconfirmed
   pub confirmed : confirmed_in v.upper ≡ confirmed_of x  -- how many telegrams are confirmed
   -- a tick that changes nothing kept changes nothing of the state
-  pub quiet : (now : ℕ) → ticks now v.upper.machine ≡ still v.upper.machine → tick now x.machine ≡ x.machine
+  pub quiet : (now : ℕ) → tick_turn now v.upper.machine ≡ still v.upper.machine → tick now x.machine ≡ x.machine
   -- a tick that changes what is kept changes the state
-  pub fallen : (now : ℕ) → (ticks now v.upper.machine).left ≢ v.upper.machine → tick now x.machine ≢ x.machine
+  pub fallen : (now : ℕ) → (tick_turn now v.upper.machine).left ≢ v.upper.machine → tick now x.machine ≢ x.machine
 
 -- in every state these facts follow from what is kept
 abbrev pub TellsLaw : Type 0

@@ -4,13 +4,13 @@
 use Rattle.std.specs.Prelude.{◌≡◌, ℕ, zero, suc, ◌+◌, ◌-◌, min, ◌%◌, ◌^◌, Bool, not, ◌&&◌, Option, Some, None, List, [], ◌∷◌, ◌++◌, take, drop, length}
 use Rattle.std.specs.Prelude.{if◌then◌else◌}
 use Rattle.std.specs.List.{FoldsTo}
-use Rattle.channels.specs.Told.{Sending, SendsOne, Told}
+use Rattle.channels.specs.Told.{Sending, SendsOne, ChannelHistory}
 use Rattle.pdi_session.specs.packing.UnitText.{unit_text}
 use Rattle.pdi_session.specs.declared.InitFault.{InitFault}
 use Rattle.pdi_session.specs.declared.PutFault.{PutFault}
 use Rattle.pdi_session.specs.SessionStep.{Closes, InitDone as Completes, Item, Puts, SessionState, init_refusal, put_refusal}
 use Rattle.red_layer.specs.Parts.{Part, is_nil}
-use Rattle.red_layer.specs.Redundancy.{Datagram, Input, Receiver, Tick as RedTick, after, judged as red_judged, passed_by}
+use Rattle.red_layer.specs.Redundancy.{Datagram, Input, Receiver, Tick as RedTick, after, judge as red_judged, parts_passed}
 use Rattle.red_layer.specs.declared.RedEvent.{RedEvent}
 use Rattle.red_layer.specs.pdu.RedText.{red_text}
 use Rattle.safe_pdu.specs.declared.CodeRule.{CodeRule}
@@ -22,18 +22,18 @@ use Rattle.safe_machine.specs.Connections.{is_closed, is_live}
 use Rattle.safe_machine.specs.Made.{Made}
 use Rattle.safe_pdu.specs.Places.{safe_seen}
 use Rattle.safe_machine.specs.Deadlines.{overdue}
-use Rattle.safe_machine.specs.Octets.{heard_answer, hears as machine_hears, hears_units}
-use Rattle.safe_machine.specs.Turns.{Turn as MachineTurn, guards as machine_guards, has_room, leaves as machine_leaves, sends as machine_sends}
-use Rattle.safe_machine.specs.Turns.{ticks as machine_ticks}
+use Rattle.safe_machine.specs.Octets.{decoded_answer, octets_turn as machine_hears, octets_units}
+use Rattle.safe_machine.specs.Turns.{Turn as MachineTurn, guard_turn as machine_guards, has_room, leave_turn as machine_leaves, send_turn as machine_sends}
+use Rattle.safe_machine.specs.Turns.{tick_turn as machine_ticks}
 use Rattle.safe_machine.specs.View.{View, text_of}
-use Rattle.safe_machine.specs.World.{joins}
+use Rattle.safe_machine.specs.World.{is_joining}
 use Rattle.stack_end.specs.Departures.{known_departure, own_departure, part_departure}
 use Rattle.stack_end.specs.Statistics.{with_made, with_step}
 use Rattle.stack_end.specs.declared.departure.Departure.{Departure}
 use Rattle.stack_end.specs.declared.statistics.MadeCounts.{MadeCounts}
 use Rattle.stack_end.specs.declared.statistics.PartCounts.{PartCounts}
 use Rattle.stack_end.specs.Datagrams.{on_channels}
-use Rattle.stack_end.specs.Dialogue.{Dialogue, Judged, Leaving, judge_units, meets, session_in}
+use Rattle.stack_end.specs.Dialogue.{Dialogue, Judged, Leaving, judge_units, process_event, session_in}
 use Rattle.stack_end.specs.Ends.{Call, Close, Deliver, InitDone, Put, Tick, comes_up, noted, rises}
 
 -- what an end keeps above its redundancy layer
@@ -63,13 +63,13 @@ pub record Turn (V : Type 0) : Type 0 where
   pub taken : List Item  -- the commands or status that the application takes, in order
 
 -- a turn was taken: it left this, its datagrams were sent or counted as failed, and the taker got what it delivers
-pub record Went {V T : Type 0} (takes : T → Item → T → Type 0) (t : Turn V) (told : Told) (taker : T) (now : V) (told_now : Told) (taker_now : T) : Type 0 where
+pub record Went {V T : Type 0} (takes : T → Item → T → Type 0) (t : Turn V) (told : ChannelHistory) (taker : T) (now : V) (told_now : ChannelHistory) (taker_now : T) : Type 0 where
   pub left : now ≡ t.left  -- what is there now
   pub sent : FoldsTo SendsOne told t.sent told_now  -- what became of the channels
   pub taken : FoldsTo takes taker t.taken taker_now  -- what became of the taker
 
 -- a turn was taken that delivers nothing
-pub record WentAlone {V : Type 0} (t : Turn V) (told : Told) (now : V) (told_now : Told) : Type 0 where
+pub record WentAlone {V : Type 0} (t : Turn V) (told : ChannelHistory) (now : V) (told_now : ChannelHistory) : Type 0 where
   pub left : now ≡ t.left  -- what is there now
   pub sent : FoldsTo SendsOne told t.sent told_now  -- what became of the channels
   pub none : t.taken ≡ []  -- nothing is taken
@@ -120,7 +120,7 @@ session_turn d v = record { left = record v { session = session_in d; waiting = 
 
 -- if the machine is closed, the session ends
 abbrev pub settles : Fields → Turn Fields
-settles v = if is_closed v.machine.connection then session_turn (meets Closes (dialogue_of v)) v else still v
+settles v = if is_closed v.machine.connection then session_turn (process_event Closes (dialogue_of v)) v else still v
 
 -- the cause of the closing is recorded, if it is known
 abbrev pub departs : Option Departure → Fields → Turn Fields
@@ -157,7 +157,7 @@ closes now v =
 
 -- what the session makes of the units that the machine delivers of a part
 abbrev pub judged_at : ℕ → List ℕ → Fields → Judged
-judged_at now octets v = judge_units (hears_units octets now v.machine) (dialogue_of v)
+judged_at now octets v = judge_units (octets_units octets now v.machine) (dialogue_of v)
 
 -- the machine processes a part, and the session judges the units that it delivers
 abbrev pub hears : ℕ → List ℕ → Fields → Turn Fields
@@ -165,7 +165,7 @@ hears now octets v = followed (machine_turn (machine_hears octets now v.machine)
 
 -- the bytes of an accepted ConnReq are kept, by the state before the part
 abbrev pub notes : ConnectionState → List ℕ → Fields → Turn Fields
-notes before octets v = still (record v { request = noted (joins before v.machine.connection) octets v.request })
+notes before octets v = still (record v { request = noted (is_joining before v.machine.connection) octets v.request })
 
 -- the session goes up with the connection
 abbrev pub goes_up : ConnectionState → Fields → Turn Fields
@@ -174,7 +174,7 @@ goes_up before v = session_turn (rises (comes_up before v.machine.connection) (d
 -- how a part closes an end that was open before it
 abbrev pub closing : ℕ → List ℕ → Fields → Option Departure
 closing now octets v =
-    part_departure (heard_answer (safe_seen v.machine.settings.rule octets) now v.machine) (judged_at now octets v).leaving
+    part_departure (decoded_answer (safe_seen v.machine.settings.rule octets) now v.machine) (judged_at now octets v).leaving
     (not (is_closed v.machine.connection) && is_closed (machine_hears octets now v.machine).left.connection) octets now
 
 -- a part that goes up: machine and session, the kept request, going up, disconnecting if asked, the end of the session, the departure, and the count, in
@@ -186,7 +186,7 @@ part now octets v =
     (followed
     (followed (followed (followed (followed (hears now octets v) (notes before octets)) (goes_up before)) (leaves now (judged_at now octets v).leaving)) settles)
     (departs (closing now octets v)))
-    (counts (heard_answer (safe_seen v.machine.settings.rule octets) now v.machine) (waited now v) now)
+    (counts (decoded_answer (safe_seen v.machine.settings.rule octets) now v.machine) (waited now v) now)
 
 -- the parts that go up, in order, each wholly before the next
 abbrev pub parts : ℕ → List Part → Fields → Turn Fields
@@ -230,12 +230,12 @@ accepts d v = record v { accepted = min (v.accepted + length d.history.put) (2 ^
 -- an accepted command or status is queued and counted, then waiting messages are sent
 abbrev pub puts : (kind : ℕ) → List ℕ → (now : ℕ) → Fields → Turn Fields
 puts kind payload now v =
-    let d = meets (Puts kind payload (length v.waiting)) (dialogue_of v) in
+    let d = process_event (Puts kind payload (length v.waiting)) (dialogue_of v) in
     followed (session_turn d (accepts d v)) (sends now)
 
 -- an accepted end of the initialisation queues its telegram, then waiting messages are sent
 abbrev pub completes : ℕ → Fields → Turn Fields
-completes now v = followed (session_turn (meets (Completes (length v.waiting)) (dialogue_of v)) v) (sends now)
+completes now v = followed (session_turn (process_event (Completes (length v.waiting)) (dialogue_of v)) v) (sends now)
 
 -- a turn above the redundancy layer
 abbrev pub above : (Fields → Turn Fields) → Inside → Turn Inside
@@ -244,7 +244,7 @@ above next v = let t = next v.upper in record { left = record { red = v.red; upp
 -- the redundancy layer processes an input, and each part that goes up is processed
 abbrev pub receives : ℕ → Input → Inside → Turn Inside
 receives now i v =
-    let t = parts now (passed_by i v.red) v.upper in
+    let t = parts now (parts_passed i v.red) v.upper in
     record { left = record { red = after i v.red; upper = t.left }; sent = t.sent; taken = t.taken }
 
 -- the end is closed

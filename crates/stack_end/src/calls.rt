@@ -6,7 +6,7 @@ ghost use Rattle.stack_end.specs.EndValue.{EndTurns, EndTurnsAlone, inside};
 ghost use Rattle.stack_end.specs.Outstanding.{PutOut};
 ghost use Rattle.stack_end.specs.Hearing.{HasHeard, TakesPart};
 ghost use Rattle.stack_end.specs.Recent.{DatagramRecent};
-ghost use Rattle.stack_end.specs.Statistics.{received};
+ghost use Rattle.stack_end.specs.Statistics.{count_reception};
 ghost use Rattle.stack_end.specs.Turns.{above, arrives, can_pack, event_of, put_answer, puts};
 
 use crate::End;
@@ -42,7 +42,7 @@ impl<C: Channels, A: Allocator> End<C, A> {
         // The time of the end becomes that of the datagram.
         ensures time { self.new.time ≡ now }
         // What came is counted at its channel with the redundancy layer's event.
-        ensures received { self.new.receptions ≡ received channel (event_of now octets.now (inside self.old)) now self.old.receptions }
+        ensures received { self.new.receptions ≡ count_reception channel (event_of now octets.now (inside self.old)) now self.old.receptions }
     {
         let event = self.layers.arrive(octets, now, taker);
         count_reception(&mut self.receptions, channel, event, now);

@@ -18,8 +18,8 @@ ghost use Rattle.stack_end.specs.Bounds.{IsBounded};
 ghost use Rattle.stack_end.specs.Certain.{confirmed_in};
 ghost use Rattle.stack_end.specs.Stale.{is_stale};
 ghost use Rattle.stack_end.specs.Timely.{margin_of};
-ghost use Rattle.stack_end.specs.Reopening.{reopens};
-ghost use Rattle.stack_end.specs.Statistics.{none_received, received};
+ghost use Rattle.stack_end.specs.Reopening.{reopening_turn};
+ghost use Rattle.stack_end.specs.Statistics.{none_received, count_reception};
 ghost use Rattle.octets.specs.declared.limits.TheConstants.{CHANNELS_MAX};
 ghost use Rattle.safe_machine.specs.Deadlines.{IsBefore, IsReachedAt};
 ghost use Rattle.stack_end.specs.Deadlines.{HasFallen, IsQuiet, earliest};
@@ -149,7 +149,7 @@ impl<C: Channels, A: Allocator> End<C, A> {
         // from that part's unit, and nothing else.
         ensures passes { TakesPart T.takes now octets.now (inside self.old) taker.old taker.new }
         // The datagram is counted at its channel, by what the redundancy layer did with it.
-        ensures received { self.new.receptions ≡ received channel (event_of now octets.now (inside self.old)) now self.old.receptions }
+        ensures received { self.new.receptions ≡ count_reception channel (event_of now octets.now (inside self.old)) now self.old.receptions }
         // `arrive` sets the end's time to `now`.
         ensures time { self.new.time ≡ now }
     {
@@ -279,8 +279,8 @@ impl<C: Channels, A: Allocator> End<C, A> {
         requires now { now ≤ 2 ^ 62 }
         requires later { self.old.time ≤ now }
         // Every layer is as newly opened with the settings that it has. The new state, and the ConnReq sent (or
-        // counted as failed), are exactly those of `reopens`; nothing is delivered to the application.
-        ensures turns { EndTurnsAlone C.told (reopens first_sn now) self.old self.new }
+        // counted as failed), are exactly those of `reopening_turn`; nothing is delivered to the application.
+        ensures turns { EndTurnsAlone C.told (reopening_turn first_sn now) self.old self.new }
         // `reopen` sets the end's time to `now`.
         ensures time { self.new.time ≡ now }
         // Nothing has come on any channel since.

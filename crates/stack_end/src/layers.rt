@@ -5,11 +5,11 @@ ghost use Rattle.pdi_session.specs.SessionStep.{init_refusal, put_refusal};
 ghost use Rattle.red_layer.specs.Redundancy.{Datagram, Tick as RedTick};
 ghost use Rattle.stack_end.specs.Fields.{BothDo, BothDoAlone, inside_of};
 ghost use Rattle.stack_end.specs.Kept.{IsKept};
-ghost use Rattle.stack_end.specs.Reopening.{reopens};
+ghost use Rattle.stack_end.specs.Reopening.{reopening_turn};
 ghost use Rattle.stack_end.specs.Turns.{above, arrives, closes, completes, event_of, goes_on, passes, puts, red_event};
 
 use crate::telling::{tell_change, tell_opened};
-use crate::upper::Upper;
+use crate::upper::UpperLayers;
 use channels::Channels;
 use octets::Milliseconds;
 use pdi_session::{InitFault, PutFault, Taker};
@@ -23,7 +23,7 @@ pub(crate) struct Layers<C, A: Allocator = Global> {
     /// The receiving half of the redundancy layer.
     pub(crate) red: RedLayer<A>,
     /// All layers above it, and the sending half.
-    pub(crate) upper: Upper<C, A>,
+    pub(crate) upper: UpperLayers<C, A>,
 }
 
 impl<C: Channels, A: Allocator> Layers<C, A> {
@@ -130,9 +130,9 @@ impl<C: Channels, A: Allocator> Layers<C, A> {
     /// Opens all layers again with the settings that they have.
     pub(crate) fn reopen(&mut self, first_sn: u32, now: Milliseconds)
         requires kept { IsKept self.old }
-        // Each layer is as newly opened with the settings that it has, and an interlocking sends its ConnReq (`reopens`).
+        // Each layer is as newly opened with the settings that it has, and an interlocking sends its ConnReq (`reopening_turn`).
         // Nothing is taken.
-        ensures does { BothDoAlone C.told (reopens first_sn now) self.old self.new }
+        ensures does { BothDoAlone C.told (reopening_turn first_sn now) self.old self.new }
         // The bounds between the layers hold of layers that were just opened.
         ensures kept { IsKept self.new }
     {

@@ -10,7 +10,7 @@ ghost use Rattle.end_settings.specs.EndSettings.{are_fit, has_versions, session_
 ghost use Rattle.end_settings.specs.Configured.{settings_of, side_of};
 ghost use Rattle.pdi_session.specs.declared.TheConstants.{CHECKSUM_MAX, VERSIONS_MAX};
 ghost use Rattle.pdi_session.specs.Settings.{AreVersions, Field, Interlocking, addressing_of, first_version};
-ghost use Rattle.pdi_session.specs.SessionStep.{opened as session_opened};
+ghost use Rattle.pdi_session.specs.SessionStep.{new_session as session_opened};
 ghost use Rattle.stack_end.specs.Datagrams.{sent_at_opening};
 ghost use Rattle.stack_end.specs.Ends.{opened_end};
 ghost use Rattle.stack_end.specs.Fields.{BothStand, inside_of};
@@ -23,7 +23,7 @@ use crate::layers::Layers;
 use crate::sending::ToChannels;
 use crate::statistics::{MadeCounts, PartCounts};
 use crate::telling::tell_opened;
-use crate::upper::Upper;
+use crate::upper::UpperLayers;
 use arrayvec::ArrayVec;
 use channels::Channels;
 use end_settings::{EndConfig, Side};
@@ -86,7 +86,7 @@ pub(crate) fn open<C: Channels, A: Allocator + Copy>(
         return Err((OpenFault::Memory, channels));
     };
     tell_opened(&mut channels, machine.state());
-    let upper = Upper {
+    let upper = UpperLayers {
         channels,
         numbers,
         machine,

@@ -254,7 +254,7 @@ pub(crate) fn count_reception(
     now: Milliseconds,
 )
     // The datagram is counted at its channel; the counts of the other channels stay.
-    ensures { channels.new ≡ statistics.received channel event now channels.old }
+    ensures { channels.new ≡ statistics.count_reception channel event now channels.old }
 {
     if channel == 0 || channel > CHANNELS_MAX {
         return;

@@ -12,7 +12,7 @@ use safe_machine::{ConnectionState, Step};
 
 /// State and phase of an end at one moment.
 #[derive(Clone, Copy)]
-pub(crate) struct Seen {
+pub(crate) struct EndMoment {
     /// The state of its connection.
     pub(crate) state: ConnectionState,
     /// The phase of its session.
@@ -93,7 +93,7 @@ fn tell_take<C: Channels>(channels: &mut C, message: &[u8])
 }
 
 /// Notes state and phase, each if it has changed.
-pub(crate) fn tell_change<C: Channels>(channels: &mut C, before: Seen, after: Seen)
+pub(crate) fn tell_change<C: Channels>(channels: &mut C, before: EndMoment, after: EndMoment)
     // The notes of a new state and phase change nothing that `told` shows of the channels.
     ensures { C.told channels.new ≡ C.told channels.old }
 {

@@ -6,20 +6,20 @@ ghost use Rattle.pdi_session.specs.SessionStep.{FewWait, init_refusal, put_refus
 ghost use Rattle.safe_machine.specs.Properties.{index_step};
 ghost use Rattle.safe_machine.specs.retrans.Units.{octets_of};
 ghost use Rattle.stack_end.specs.Certain.{confirmed_in, items_in_units};
-ghost use Rattle.red_layer.specs.Redundancy.{Datagram, Tick as RedTick, after, judged, passed_by};
+ghost use Rattle.red_layer.specs.Redundancy.{Datagram, Tick as RedTick, after, judge, parts_passed};
 ghost use Rattle.stack_end.specs.Fields.{Does, DoesAlone, Keeps, fields_of};
 ghost use Rattle.safe_pdu.specs.Places.{safe_seen};
-ghost use Rattle.safe_machine.specs.Octets.{heard_answer};
+ghost use Rattle.safe_machine.specs.Octets.{decoded_answer};
 ghost use Rattle.stack_end.specs.Turns.{can_pack, closes, completes, counts, departs, goes_up, guards, hears, judged_at, leaves, notes, packs_once, part, parts, puts, sends};
 ghost use Rattle.stack_end.specs.Turns.{settles, ticks, waited};
 ghost use Rattle.stack_end.specs.Timely.{margin_of};
-ghost use Rattle.stack_end.specs.Reopening.{emptied, machine_reopens};
+ghost use Rattle.stack_end.specs.Reopening.{empty_fields, machine_reopening_turn};
 
 use crate::departure::{Departure, closes, own_departure, part_departure, user_leaves};
 use crate::judging::{JudgedMessages, ToSession};
 use crate::sending::ToChannels;
 use crate::statistics::{MadeCounts, PartCounts};
-use crate::telling::{Seen, tell_change, tell_event, tell_step};
+use crate::telling::{EndMoment, tell_change, tell_event, tell_step};
 use arrayvec::ArrayVec;
 use channels::Channels;
 use octets::limits::{SAFE_PDU_MAX, UNIT_MESSAGES};
@@ -32,7 +32,7 @@ use std::alloc::{Allocator, Global};
 
 /// All of an end except the receiving half of its redundancy layer.
 #[derive(Drop)]
-pub(crate) struct Upper<C, A: Allocator = Global> {
+pub(crate) struct UpperLayers<C, A: Allocator = Global> {
     /// The channels of the end.
     pub(crate) channels: C,
     /// The redundancy numbers of this incarnation.
@@ -70,7 +70,7 @@ type Part = ArrayVec<u8, SAFE_PDU_MAX>;
 
 /// What the machine did with a part, and the session with its unit.
 #[derive(Drop)]
-struct Heard {
+struct PartOutcome {
     /// The result of the machine.
     step: Step,
     /// Why the end has to disconnect, or `None`.
@@ -79,9 +79,9 @@ struct Heard {
     judged: JudgedMessages,
 }
 
-impl<C: Channels, A: Allocator> Upper<C, A> {
+impl<C: Channels, A: Allocator> UpperLayers<C, A> {
     /// Passes a part to the machine, and the unit that it delivers to the session.
-    fn hear<T: Taker>(&mut self, octets: &[u8], now: Milliseconds, taker: &mut T) -> Heard
+    fn hear<T: Taker>(&mut self, octets: &[u8], now: Milliseconds, taker: &mut T) -> PartOutcome
         requires reach { self.old.machine.expected < 2 ^ 62 }
         requires few { FewWait self.old.session self.old.waiting }
         // The machine processes the part and sends the PDUs that it makes; then the session judges the units
@@ -91,7 +91,7 @@ impl<C: Channels, A: Allocator> Upper<C, A> {
         ensures asks { result.asked ≡ (judged_at now octets.now (fields_of self.old)).leaving }
         // The step is the machine's result for the part: closed, timeout check, fault of the PDU or what it did, the
         // first that applies.
-        ensures answer { result.step ≡ heard_answer (safe_seen self.old.machine.settings.rule octets.now) now self.old.machine }
+        ensures answer { result.step ≡ decoded_answer (safe_seen self.old.machine.settings.rule octets.now) now self.old.machine }
         // Processing a part moves the index of the peer's next PDU by at most 321; the unit size is unchanged, and
         // there is still room for the session's next message.
         ensures keeps { Keeps index_step self.old self.new }
@@ -110,7 +110,7 @@ impl<C: Channels, A: Allocator> Upper<C, A> {
             judged: JudgedMessages::new(),
         };
         let step = self.machine.arrive(octets, now, &mut out, &mut units);
-        Heard {
+        PartOutcome {
             step,
             asked: units.asked,
             judged: units.judged,
@@ -269,7 +269,7 @@ impl<C: Channels, A: Allocator> Upper<C, A> {
         // The second result says why the end has to disconnect because of the part's unit, if it has to.
         ensures asks { result.1 ≡ (judged_at now octets.now (fields_of self.old)).leaving }
         // The first result is what the machine did with the part.
-        ensures answer { result.0 ≡ heard_answer (safe_seen self.old.machine.settings.rule octets.now) now self.old.machine }
+        ensures answer { result.0 ≡ decoded_answer (safe_seen self.old.machine.settings.rule octets.now) now self.old.machine }
         // A part that is noted moves the peer's next index by at most 321; the unit size is unchanged, and there is
         // still room for the session's next message.
         ensures keeps { Keeps index_step self.old self.new }
@@ -286,7 +286,7 @@ impl<C: Channels, A: Allocator> Upper<C, A> {
             before.phase,
             &heard.judged,
         );
-        let seen = Seen {
+        let seen = EndMoment {
             state: before.state,
             phase,
         };
@@ -296,8 +296,8 @@ impl<C: Channels, A: Allocator> Upper<C, A> {
     }
 
     /// Returns state and phase, for notes.
-    pub(crate) fn seen(&self) -> Seen {
-        Seen {
+    pub(crate) fn seen(&self) -> EndMoment {
+        EndMoment {
             state: self.machine.state(),
             phase: self.session.phase(),
         }
@@ -323,7 +323,7 @@ impl<C: Channels, A: Allocator> Upper<C, A> {
     /// Opens these layers again with the settings that they have.
     pub(crate) fn reopen(&mut self, first_sn: u32, now: Milliseconds)
         // Everything is forgotten except the settings, and then the machine opens: an interlocking sends its ConnReq.
-        ensures does { DoesAlone C.told (λ v. machine_reopens first_sn now (emptied v)) self.old self.new }
+        ensures does { DoesAlone C.told (λ v. machine_reopening_turn first_sn now (empty_fields v)) self.old self.new }
         // A machine that was just opened expects the peer's first PDU.
         ensures near { self.new.machine.expected ≡ 0 }
         // No message waits, so there is room for the session's first one.
@@ -337,8 +337,8 @@ impl<C: Channels, A: Allocator> Upper<C, A> {
 
     /// Forgets everything except the settings, the machine and the channels.
     fn forget(&mut self)
-        // Only the settings and the machine are left (`emptied`).
-        ensures left { fields_of self.new ≡ emptied (fields_of self.old) }
+        // Only the settings and the machine are left (`empty_fields`).
+        ensures left { fields_of self.new ≡ empty_fields (fields_of self.old) }
         // Nothing is sent.
         ensures channels { self.new.channels ≡ self.old.channels }
     {
@@ -355,7 +355,7 @@ impl<C: Channels, A: Allocator> Upper<C, A> {
     /// Opens the machine again, and sends the PDU that it makes, if any.
     fn open_machine(&mut self, first_sn: u32, now: Milliseconds)
         // The machine opens with its settings, and the ConnReq of an interlocking is sent.
-        ensures does { DoesAlone C.told (machine_reopens first_sn now) self.old self.new }
+        ensures does { DoesAlone C.told (machine_reopening_turn first_sn now) self.old self.new }
         // The machine expects the peer's first PDU.
         ensures near { self.new.machine.expected ≡ 0 }
     {
@@ -566,7 +566,7 @@ impl<C: Channels, A: Allocator> Upper<C, A> {
 #[derive(Drop)]
 struct ToUpper<'a, 'b, C, A: Allocator, T> {
     /// The layers above the redundancy layer.
-    upper: &'a mut Upper<C, A>,
+    upper: &'a mut UpperLayers<C, A>,
     /// The application.
     taker: &'b mut T,
     /// The own time, in milliseconds.
@@ -593,7 +593,7 @@ impl<'a, 'b, C: Channels, A: Allocator, T: Taker> Upward for ToUpper<'a, 'b, C, 
     ghost later = { λ s n m le h. (later_reach s.upper.now.machine.expected n m le h.0, h.1) };
 }
 
-impl<C: Channels, A: Allocator> Upper<C, A> {
+impl<C: Channels, A: Allocator> UpperLayers<C, A> {
     /// Passes a datagram to the redundancy layer, and each part that goes up to the layers above.
     pub(crate) fn receive<B: Allocator, T: Taker>(
         &mut self,
@@ -606,13 +606,13 @@ impl<C: Channels, A: Allocator> Upper<C, A> {
         requires reach { self.old.machine.expected ≤ 321 * red.old.expected }
         requires few { FewWait self.old.session self.old.waiting }
         // The result is what the redundancy layer did with the datagram.
-        ensures event { result ≡ (judged now octets.now red.old).event }
+        ensures event { result ≡ (judge now octets.now red.old).event }
         // The redundancy layer first tries its timer, then judges the datagram: its part is dropped, is deferred, or
         // goes up with the parts that waited for it.
         ensures layer { red.new ≡ after (Datagram octets.now now) red.old }
         // The parts that go up at the datagram, those that the timer releases first, pass machine and session in
         // order, each one wholly before the next.
-        ensures does { Does C.told T.takes (parts now (passed_by (Datagram octets.now now) red.old)) self.old taker.old self.new taker.new }
+        ensures does { Does C.told T.takes (parts now (parts_passed (Datagram octets.now now) red.old)) self.old taker.old self.new taker.new }
         // After the datagram, the index of the peer's next PDU is still at most 321 times the number that the
         // redundancy layer expects.
         ensures reach { self.new.machine.expected ≤ 321 * red.new.expected }
@@ -645,7 +645,7 @@ impl<C: Channels, A: Allocator> Upper<C, A> {
         // as it is.
         ensures layer { red.new ≡ after (RedTick now) red.old }
         // The parts that the timer lets up pass machine and session in order, each one wholly before the next.
-        ensures does { Does C.told T.takes (parts now (passed_by (RedTick now) red.old)) self.old taker.old self.new taker.new }
+        ensures does { Does C.told T.takes (parts now (parts_passed (RedTick now) red.old)) self.old taker.old self.new taker.new }
         // After the timer, the index of the peer's next PDU is still at most 321 times the number that the redundancy
         // layer expects.
         ensures reach { self.new.machine.expected ≤ 321 * red.new.expected }

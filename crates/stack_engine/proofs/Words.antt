@@ -14,7 +14,7 @@ pub use Rattle.std.specs.List.{AllByRecursion, FoldsTo, list_any, slice_get, sli
 pub use Rattle.std.specs.Prelude.{MatchOption, MatchResult, if◌then◌else◌, is_none, map, nat_le, nat_lt, not, option_map, reverse, ◌&&◌, ◌||◌}
 pub use Rattle.std.specs.Str.{bytes_eq}
 pub use Rattle.byteorder.specs.Endian.{little_bytes}
-pub use Rattle.channels.specs.Told.{Sending, SendsOne, Told}
+pub use Rattle.channels.specs.Told.{Sending, SendsOne, ChannelHistory}
 pub use Rattle.end_settings.specs.Configured.{settings_of, side_of}
 pub use Rattle.end_settings.specs.EndSettings.{EndSettings, are_fit, connection_of, in_limits, is_addressing, is_name, rule_of, session_of}
 pub use Rattle.end_settings.specs.declared.EndConfig.{EndConfig}
@@ -26,12 +26,12 @@ pub use Rattle.octets.specs.declared.limits.TheConstants.{MESSAGE_MAX, MESSAGE_M
 pub use Rattle.pdi_session.specs.packing.Places.{after as after_read, behind_first, first_message, is_piece}
 pub use Rattle.pdi_session.specs.packing.UnitText.{IsMessage, UnitText, piece, unit_text}
 pub use Rattle.pdi_session.specs.declared.packing.PackFault.{PackFault}
-pub use Rattle.pdi_session.specs.Histories.{History, begun, ends_by, grown, grown_along, handed_by, is_ended, put_by}
+pub use Rattle.pdi_session.specs.Histories.{History, new_history, ends_by, add_event, add_events, handed_by, is_ended, put_by}
 pub use Rattle.pdi_session.specs.JoinedSessions.{AreInStep, AtFe, AtIl, EndsEarly, Fits, InStepLaw, InTurn, IsNext, IsRunning, Joined, JoinedEvent, MatchingLaw}
-pub use Rattle.pdi_session.specs.JoinedSessions.{PhaseLaw, TakesFrontLaw, happen, joined}
+pub use Rattle.pdi_session.specs.JoinedSessions.{PhaseLaw, TakesFrontLaw, apply_events, new_sessions}
 pub use Rattle.pdi_session.specs.Laws.{BegunLaw, HasKind, HasMessage, MessageLaw, OverLaw, OwnEarlyLaw, TakenLaw, items_of}
 pub use Rattle.pdi_session.specs.SessionStep.{Arrives, Closes, Event as SessionEvent, InitDone as Completes, Item, Puts, SessionState, Up as GoesUp, added_by}
-pub use Rattle.pdi_session.specs.SessionStep.{end_of, init_refusal, item_of, judged, phase_after, put_refusal, taken_as, taken_by, texts}
+pub use Rattle.pdi_session.specs.SessionStep.{end_of, init_refusal, item_of, judge_telegram, phase_after, put_refusal, taken_as, taken_by, texts}
 pub use Rattle.pdi_session.specs.Settings.{Addressing, AreSettings, Field, Interlocking, Role, checksum_of, first_version}
 pub use Rattle.pdi_session.specs.Tables.{is_early, is_initialising, may_put}
 pub use Rattle.pdi_session.specs.Telegrams.{is_reserved}
@@ -46,9 +46,9 @@ pub use Rattle.red_layer.specs.FiniteMap.{has_number, part_under, put_in}
 pub use Rattle.red_layer.specs.Laws.{FirstMissingLaw, Masking, OneMoreLaw, OriginLaw, PartsLaw}
 pub use Rattle.red_layer.specs.Masking.{AreAtMost, IsInTime, NoDeadlineFalls, QNear, Wait, first_missing, first_parts, moment_of, no_wait, wait_after}
 pub use Rattle.red_layer.specs.Parts.{Part, is_nil}
-pub use Rattle.red_layer.specs.Redundancy.{Datagram, Input, Receiver, Stepped, Tick as RedTick, after, after_release, after_run, arrival, deferred}
-pub use Rattle.red_layer.specs.Redundancy.{follow, is_due, least_waiting, opened as red_opened, passed_by, released, run_from}
-pub use Rattle.red_layer.specs.Service.{AreAmong, IsAmong, accepted, after_along, arrivals, arrivals_of, passed_along}
+pub use Rattle.red_layer.specs.Redundancy.{Datagram, Input, Receiver, ReceiverStep, Tick as RedTick, after, after_release, after_run, arrival, defer}
+pub use Rattle.red_layer.specs.Redundancy.{follow, is_due, least_waiting, new_receiver as red_opened, parts_passed, parts_due, run_from}
+pub use Rattle.red_layer.specs.Service.{AreAmong, IsAmong, part_received, after_along, arrivals, arrivals_of, parts_passed_along}
 pub use Rattle.red_layer.specs.declared.RedEvent.TheVariants.{Again, Far, Full, Old, Passed}
 pub use Rattle.red_layer.specs.pdu.RedText.{red_seen, red_text}
 pub use Rattle.red_layer.specs.declared.pdu.RedFault.{RedFault}
@@ -61,14 +61,14 @@ pub use Rattle.safe_machine.specs.Made.{Made, leaving_body, units}
 pub use Rattle.safe_machine.specs.Moves.{AreFrom, AreSoundMoves, ConnectionsLaw, GoesOn, HaveTexts, HearsOwn, IdentifiedLaw, IsSoundMove, IsTakenBy}
 pub use Rattle.safe_machine.specs.Moves.{IsUnitSized, Move, MovesLaw, ReachedLaw, ReachedState, SettingsLaw, StrangersLaw, TextsLaw, WaitsLaw, move, sent_by}
 pub use Rattle.safe_machine.specs.Moves.Move.{Guards, Hears, Leaves, Sends, Ticks}
-pub use Rattle.safe_machine.specs.Octets.{arrive_octets, heard as heard_as, seen_by}
+pub use Rattle.safe_machine.specs.Octets.{arrive_octets, move_of as heard_as, seen_by}
 pub use Rattle.safe_machine.specs.Reached.{AreRead, FewLaw, FewMade, IsRead}
 pub use Rattle.safe_machine.specs.Settings.{Settings, is_legal}
 pub use Rattle.safe_machine.specs.State.{State, unconfirmed}
 pub use Rattle.safe_machine.specs.Connections.{is_live as says_goodbye}
 pub use Rattle.safe_machine.proofs.one.Effects.{heartbeat, make, move_to, next_made}
-pub use Rattle.safe_machine.specs.Step.{guard, is_connected, is_live as is_alive, leave, may_send, opened, send, tick}
-pub use Rattle.safe_machine.specs.World.{Among, GenuineAt, Side, Timely, TimelyEvent, joins}
+pub use Rattle.safe_machine.specs.Step.{guard, is_connected, is_live as is_alive, leave, may_send, new_state, send, tick}
+pub use Rattle.safe_machine.specs.World.{Among, GenuineAt, Side, Timely, TimelyEvent, is_joining}
 pub use Rattle.safe_machine.specs.World.Event.{Arrive, Guard, Open as OpenMachine, Send}
 pub use Rattle.safe_machine.specs.World.Side.{Fe, Il}
 pub use Rattle.safe_machine.specs.declared.ConnectionState.{ConnectionState}
@@ -93,7 +93,7 @@ pub use Rattle.pdi_session.specs.telegram.TeleText.{tele_text}
 pub use Rattle.pdi_session.specs.declared.telegram.TeleFault.{TeleFault}
 pub use Rattle.stack_end.specs.Datagrams.{on_channels, sendings, sent_at_opening, upper_of}
 pub use Rattle.stack_end.specs.Dialogue.{Dialogue, Judged, Leaving, if_ended, judge_messages, judge_read, judge_units, judge_unpacked, judged_as, judged_none}
-pub use Rattle.stack_end.specs.Dialogue.{meets, phase_in, session_in, unless_leaving}
+pub use Rattle.stack_end.specs.Dialogue.{process_event, phase_in, session_in, unless_leaving}
 pub use Rattle.stack_end.specs.EndValue.{EndStands, EndTurns, EndTurnsAlone, EndValue, channels_of, inside}
 pub use Rattle.stack_end.specs.Ends.{Call, EndState, answered, call, comes_up, did, goes_on, handed_up, heard, is_settled, is_shut, leaves, moved}
 pub use Rattle.stack_end.specs.Ends.{moved as end_moved, new_end, noted, packed, packed_up_to, part, parts, receives, rises, sends, settle, time_of, with_input}
@@ -113,14 +113,14 @@ pub use Rattle.stack_engine.specs.Headline.{next_bound, put_at, taken_at}
 pub use Rattle.stack_engine.specs.Histories.{call_octets}
 pub use Rattle.stack_engine.specs.HistoryPlaces.{AreWithin, IsPlaced, IsWithin, deed_event, deed_in, event_in, events_in, opened_by}
 pub use Rattle.stack_engine.specs.Incarnations.{HasRoom, IncSame, IncStands, IncTurns, TakesItem, datagrams_of, inc_refusal, puts_in, sure_items}
-pub use Rattle.stack_engine.specs.Instances.{FreshInstances, HeadlineInstances, Instances, SettledInstances, carried, confirming, made_one, one, two}
-pub use Rattle.stack_engine.specs.Joins.{joined_of, joins_in, joins_of, joins_with, rejoined, request_in}
+pub use Rattle.stack_engine.specs.Instances.{FreshInstances, HeadlineInstances, Instances, SettledInstances, made_after, confirming_pdu, made_one, one, two}
+pub use Rattle.stack_engine.specs.Joins.{joined_of, joins_in, joins_of, joins_with, join_latest, request_in}
 pub use Rattle.stack_engine.specs.Keeping.{Keeping, has_part, on_first, sure_room, told_of}
-pub use Rattle.stack_engine.specs.LossInstances.{Course, LossInstances, both, early, fe_with, il_with, lost, plain, starting, waits}
+pub use Rattle.stack_engine.specs.LossInstances.{Course, LossInstances, world_of_two, early, fe_with, il_with, lost_course, plain, starting, waiting_course}
 pub use Rattle.stack_engine.specs.Openings.{BeforeStand, IsOfSession, NamesRefusal, PresentStands, SideDoes, SideStands, breaks_with, is_memory, live_in}
 pub use Rattle.stack_engine.specs.Openings.{rest_of}
 pub use Rattle.stack_engine.specs.PairValue.{Ran, RanBefore, events_of}
-pub use Rattle.stack_engine.specs.Pairs.{Event, InitRefused, JoinedEnd, PutRefused, Refusal, World, call_fe, call_il, call_refusal, changed, ends_of, happens}
+pub use Rattle.stack_engine.specs.Pairs.{Event, InitRefused, JoinedEnd, PutRefused, Refusal, World, call_fe, call_il, call_refusal, change_world, ends_of, apply_event}
 pub use Rattle.stack_engine.specs.Pairs.{has_made, is_untimely, joined_by, last_time, latest, latest_maker, made_of, open_refusal, present, refusal, run}
 pub use Rattle.stack_engine.specs.Pairs.{session_refusal, start, unless_refused, with_joined}
 pub use Rattle.stack_engine.specs.Pairs.Event.{Calls, Open}
@@ -136,7 +136,7 @@ pub use Rattle.stack_engine.specs.TextPlaces.{text_in, texts_in}
 pub use Rattle.stack_engine.specs.Texts.{Shelf}
 pub use Rattle.stack_engine.specs.declared.ApplyFault.{ApplyFault}
 pub use Rattle.stack_engine.specs.declared.event.Call.{Call as CodeCall}
-pub use Rattle.stack_engine.specs.declared.event.Doing.{Doing}
+pub use Rattle.stack_engine.specs.declared.event.Action.{Action}
 pub use Rattle.stack_engine.specs.declared.event.Event.{Event as CodeEvent}
 pub use Rattle.stack_engine.specs.declared.history.Deed.{Deed}
 pub use Rattle.stack_engine.specs.declared.history.Entry.{Entry}

@@ -2,7 +2,7 @@
 use Rattle.std.specs.Prelude.{ℕ, ◌≡◌, ◌≢◌, Option, Some, None, List, take}
 use Rattle.std.specs.List.{slice_get}
 use Rattle.red_layer.specs.Parts.{Part}
-use Rattle.red_layer.specs.Redundancy.{Input, Datagram, Tick as RedTick, passed_by}
+use Rattle.red_layer.specs.Redundancy.{Input, Datagram, Tick as RedTick, parts_passed}
 use Rattle.red_layer.specs.Service.{arrivals_of}
 use Rattle.safe_machine.specs.declared.ConnectionState.TheVariants.{Closed}
 use Rattle.safe_machine.specs.Moves.Move.{Guards, Ticks}
@@ -25,10 +25,10 @@ pub record IsCallAt (es : List Event) (w : World) (n : ℕ) (side : Side) (c : C
   pub at : present side (run (take n es) w) ≡ Some x  -- the present end before it
 
 -- the end after the timeout check of an arrival, or after the machine's tick
-abbrev pub guarded : Call → EndState → EndState
-guarded (Tick now) x = moved (Ticks now) x
-guarded (Deliver channel octets now) x = moved (Guards now) x
-guarded _ x = x
+abbrev pub guard_end : Call → EndState → EndState
+guard_end (Tick now) x = moved (Ticks now) x
+guard_end (Deliver channel octets now) x = moved (Guards now) x
+guard_end _ x = x
 
 -- what a call brings to the redundancy layer
 abbrev pub input_of : Call → Option Input
@@ -39,11 +39,11 @@ input_of _ = None
 -- in a call of x the part with index k goes up, when the end is y
 pub record GoesUp (c : Call) (x : EndState) (k : ℕ) (p : Part) (y : EndState) : Type 0 where
   pub lives : x.machine.connection ≢ Closed  -- x is not closed
-  pub goes_on : (guarded c x).machine.connection ≢ Closed  -- nor is it after the timeout check
+  pub goes_on : (guard_end c x).machine.connection ≢ Closed  -- nor is it after the timeout check
   pub input : Input  -- the input of the redundancy layer
   pub brings : input_of c ≡ Some input  -- the call brings it
-  pub part : slice_get (passed_by input (guarded c x).red) k ≡ Some p  -- the part is among those that go up
-  pub meanwhile : parts (time_of c) (take k (passed_by input (guarded c x).red)) (with_input input (guarded c x)) ≡ y  -- the earlier ones lead to y
+  pub part : slice_get (parts_passed input (guard_end c x).red) k ≡ Some p  -- the part is among those that go up
+  pub meanwhile : parts (time_of c) (take k (parts_passed input (guard_end c x).red)) (with_input input (guard_end c x)) ≡ y  -- the earlier ones lead to y
 
 -- a part with this number came to an end
 pub record Came (number : ℕ) (inputs : List Input) : Type 0 where

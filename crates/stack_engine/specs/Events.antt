@@ -8,8 +8,8 @@ use Rattle.stack_engine.specs.Pairs.Event.{Open, Calls}
 use Rattle.safe_machine.specs.World.{Side}
 use Rattle.stack_engine.specs.declared.event.Call.{Call as CodeCall}
 use Rattle.stack_engine.specs.declared.event.Call.TheVariants as call
-use Rattle.stack_engine.specs.declared.event.Doing.{Doing}
-use Rattle.stack_engine.specs.declared.event.Doing.TheVariants as doing
+use Rattle.stack_engine.specs.declared.event.Action.{Action}
+use Rattle.stack_engine.specs.declared.event.Action.TheVariants as doing
 use Rattle.stack_engine.specs.declared.event.Event.{Event as CodeEvent}
 
 -- a call of the code at a time
@@ -21,7 +21,7 @@ call_of call.Tick now = Tick now
 call_of (call.Deliver channel octets) now = Deliver channel octets.now now
 
 -- an opening or a call of the code at a side and a time
-abbrev pub doing_of : Side → ℕ → Doing → Event
+abbrev pub doing_of : Side → ℕ → Action → Event
 doing_of side now (doing.Open config first_sn) = Open side (settings_of config) first_sn now
 doing_of side now (doing.Call c) = Calls side (call_of c now)
 

@@ -20,7 +20,7 @@ use Rattle.stack_end.specs.Dialogue.{phase_in}
 use Rattle.stack_end.specs.Ends.{EndState, is_shut, Call}
 use Rattle.stack_end.specs.Ends.Call.{Close, Tick, Deliver}
 use Rattle.stack_end.specs.Datagrams.{upper_of}
-use Rattle.stack_engine.specs.Pairs.{World, Event, start, present, refusal, happens, run}
+use Rattle.stack_engine.specs.Pairs.{World, Event, start, present, refusal, apply_event, run}
 use Rattle.stack_engine.specs.Pairs.Event.{Open, Calls}
 use Rattle.stack_engine.specs.Premise.{AtCall, AtOpened, Genuine, AreTyped}
 use Rattle.stack_engine.specs.Headline.{put_at, taken_at}
@@ -62,7 +62,7 @@ FaithfulEvent (Calls Fe c) w = AtOpened (FaithfulCall (present Il w) c) (present
 -- every accepted event of a list is faithful
 abbrev pub AllFaithful : List Event → World → Type 0
 AllFaithful [] w = Unit {0}
-AllFaithful (e ∷ es) w = (refusal e w ≡ None → FaithfulEvent e w) × AllFaithful es (happens w e)
+AllFaithful (e ∷ es) w = (refusal e w ≡ None → FaithfulEvent e w) × AllFaithful es (apply_event w e)
 
 -- no arrival is more than q ahead of the first missing one, and no T_seq deadline passes
 abbrev pub IsNear : EndState → Type 0

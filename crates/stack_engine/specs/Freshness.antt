@@ -7,7 +7,7 @@ use Rattle.safe_machine.specs.Law.{Fresh}
 use Rattle.safe_machine.specs.World.Side.{Il, Fe}
 use Rattle.end_settings.specs.EndSettings.{rule_of}
 use Rattle.stack_end.specs.Ends.{EndState, part, Call, time_of}
-use Rattle.stack_engine.specs.Pairs.{World, Event, start, present, made_of, refusal, happens}
+use Rattle.stack_engine.specs.Pairs.{World, Event, start, present, made_of, refusal, apply_event}
 use Rattle.stack_engine.specs.Pairs.Event.{Calls}
 use Rattle.stack_engine.specs.Premise.{AtCall, AtOpened, Genuine, AreTyped}
 use Rattle.stack_engine.specs.Headline.{taken_at}
@@ -30,7 +30,7 @@ FreshEvent _ w = Unit {0}
 -- at every accepted event of a list, what is taken is fresh
 abbrev pub AllFresh : List Event → World → Type 0
 AllFresh [] w = Unit {0}
-AllFresh (e ∷ es) w = (refusal e w ≡ None → FreshEvent e w) × AllFresh es (happens w e)
+AllFresh (e ∷ es) w = (refusal e w ≡ None → FreshEvent e w) × AllFresh es (apply_event w e)
 
 -- over every genuine list of events, what is taken is fresh
 abbrev pub Freshness : Type 0

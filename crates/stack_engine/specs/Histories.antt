@@ -2,8 +2,8 @@
 use Rattle.std.specs.Prelude.{ℕ, ◌≤◌, List, [], length}
 use Rattle.stack_engine.specs.declared.event.Call.{Call}
 use Rattle.stack_engine.specs.declared.event.Call.TheVariants as call
-use Rattle.stack_engine.specs.declared.event.Doing.{Doing}
-use Rattle.stack_engine.specs.declared.event.Doing.TheVariants as doing
+use Rattle.stack_engine.specs.declared.event.Action.{Action}
+use Rattle.stack_engine.specs.declared.event.Action.TheVariants as doing
 use Rattle.stack_engine.specs.declared.event.Event.{Event as CodeEvent}
 use Rattle.stack_engine.specs.Pairs.{Event}
 
@@ -21,7 +21,7 @@ call_octets (call.Deliver channel octets) = octets.now
 call_octets _ = []
 
 -- there is room for what an event does
-abbrev pub HasPlaceFor : Doing → Events → Type 0
+abbrev pub HasPlaceFor : Action → Events → Type 0
 HasPlaceFor (doing.Open config first_sn) h = (1 ≤ h.places) × (1 ≤ h.openings)
 HasPlaceFor (doing.Call c) h = (1 ≤ h.places) × (length (call_octets c) ≤ h.octets)
 

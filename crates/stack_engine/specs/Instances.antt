@@ -131,31 +131,31 @@ made_one sn ts s m =
     record s { settings = record s.settings { t_max = 10 }; made = record { pdu = record m.pdu { sn = sn; ts = ts }; time = 100; behind = 0 } ∷ [] }
 
 -- a PDU that confirms number 7 and timestamp 8
-abbrev pub confirming : Pdu → Pdu
-confirming p = record p { cs = 7; cts = 8 }
+abbrev pub confirming_pdu : Pdu → Pdu
+confirming_pdu p = record p { cs = 7; cts = 8 }
 
 -- a PDU that the peer made upon this end's PDU with this number, from 1; upon none if it is 0
-abbrev pub carried : ℕ → Pdu → Made
-carried behind p = record { pdu = p; time = 0; behind = behind }
+abbrev pub made_after : ℕ → Pdu → Made
+made_after behind p = record { pdu = p; time = 0; behind = behind }
 
 -- freshness holds once, and is false for each of its clauses
 pub record FreshInstances (s : State) (m : Made) (p : Pdu) : Type 0 where
   -- everything fits
-  pub holds : Fresh (made_one 7 8 s m) (confirming p) 109 (carried 1 (confirming p) ∷ [])
+  pub holds : Fresh (made_one 7 8 s m) (confirming_pdu p) 109 (made_after 1 (confirming_pdu p) ∷ [])
   -- the peer made no PDU
-  pub made_by_nobody : Fresh (made_one 7 8 s m) (confirming p) 109 [] → ⊥
+  pub made_by_nobody : Fresh (made_one 7 8 s m) (confirming_pdu p) 109 [] → ⊥
   -- the peer made another PDU
-  pub another_pdu : Fresh (made_one 7 8 s m) (confirming p) 109 (carried 1 (record p { cs = 7; cts = 9 }) ∷ []) → ⊥
+  pub another_pdu : Fresh (made_one 7 8 s m) (confirming_pdu p) 109 (made_after 1 (record p { cs = 7; cts = 9 }) ∷ []) → ⊥
   -- it was made upon no PDU
-  pub upon_none : Fresh (made_one 7 8 s m) (confirming p) 109 (carried 0 (confirming p) ∷ []) → ⊥
+  pub upon_none : Fresh (made_one 7 8 s m) (confirming_pdu p) 109 (made_after 0 (confirming_pdu p) ∷ []) → ⊥
   -- it was made upon a PDU that this end did not make
-  pub upon_unmade : Fresh (made_one 7 8 s m) (confirming p) 109 (carried 2 (confirming p) ∷ []) → ⊥
+  pub upon_unmade : Fresh (made_one 7 8 s m) (confirming_pdu p) 109 (made_after 2 (confirming_pdu p) ∷ []) → ⊥
   -- it confirms another number
-  pub other_number : Fresh (made_one 6 8 s m) (confirming p) 109 (carried 1 (confirming p) ∷ []) → ⊥
+  pub other_number : Fresh (made_one 6 8 s m) (confirming_pdu p) 109 (made_after 1 (confirming_pdu p) ∷ []) → ⊥
   -- it confirms another timestamp
-  pub other_stamp : Fresh (made_one 7 9 s m) (confirming p) 109 (carried 1 (confirming p) ∷ []) → ⊥
+  pub other_stamp : Fresh (made_one 7 9 s m) (confirming_pdu p) 109 (made_after 1 (confirming_pdu p) ∷ []) → ⊥
   -- the confirmed PDU is T_max old
-  pub late : Fresh (made_one 7 8 s m) (confirming p) 110 (carried 1 (confirming p) ∷ []) → ⊥
+  pub late : Fresh (made_one 7 8 s m) (confirming_pdu p) 110 (made_after 1 (confirming_pdu p) ∷ []) → ⊥
 
 -- each clause of these promises is false in some world
 pub record Instances : Type 0 where

@@ -32,6 +32,6 @@ request_in None = None
 request_in (Some x) = x.request
 
 -- the latest incarnation is joined to this number; the others are joined as before
-abbrev pub rejoined : Option ℕ → List (Option ℕ) → List (Option ℕ)
-rejoined joined [] = []
-rejoined joined (old ∷ before) = joined ∷ before
+abbrev pub join_latest : Option ℕ → List (Option ℕ) → List (Option ℕ)
+join_latest joined [] = []
+join_latest joined (old ∷ before) = joined ∷ before

@@ -3,7 +3,7 @@ use Rattle.std.specs.Prelude.{ℕ, ◌/◌, ◌==◌, min, Bool, Some, None, Lis
 use Rattle.std.specs.List.{list_any}
 use Rattle.std.specs.Str.{bytes_eq}
 use Rattle.octets.specs.declared.limits.TheConstants.{RED_HEADER, RED_PDU_MAX}
-use Rattle.channels.specs.Told.{Told, Sending}
+use Rattle.channels.specs.Told.{ChannelHistory, Sending}
 
 -- the value of a keeper
 pub record Keeping : Type 0 where
@@ -21,7 +21,7 @@ abbrev pub sure_room : Keeping → ℕ
 sure_room k = min k.places (k.octets / RED_PDU_MAX)
 
 -- what the keeper shows as channels: receptions are not recorded, and a send is only sure to succeed on channel 1
-abbrev pub told_of : Keeping → Told
+abbrev pub told_of : Keeping → ChannelHistory
 told_of k =
     record {
       sent = Some (map on_first k.datagrams);

@@ -13,8 +13,8 @@ use Rattle.stack_engine.specs.Faithful.{Match, AllThere, NothingLost, IlWaits, F
 use Rattle.stack_engine.specs.Instances.{joined_to, one, world_of}
 
 -- an end with this identifier and name, and those of its peer: the two ends of a connection match
-abbrev pub crossed : (own peer : ℕ) → EndState → EndState
-crossed own peer x =
+abbrev pub with_identity : (own peer : ℕ) → EndState → EndState
+with_identity own peer x =
     record x {
       settings =
           record x.settings {
@@ -56,19 +56,19 @@ plain = record { connection = Up; phase = Established; put = []; taken = []; wai
 
 -- an interlocking with this history
 abbrev pub il_with : Course → EndState → EndState
-il_with c x = with_course c (crossed 1 2 x)
+il_with c x = with_course c (with_identity 1 2 x)
 
 -- a field element with this history
 abbrev pub fe_with : Course → EndState → EndState
-fe_with c x = with_course c (crossed 2 1 x)
+fe_with c x = with_course c (with_identity 2 1 x)
 
 -- a message waits that is not a telegram
-abbrev pub waits : Course
-waits = record plain { waiting = [] ∷ [] }
+abbrev pub waiting_course : Course
+waiting_course = record plain { waiting = [] ∷ [] }
 
 -- a telegram was put, and neither waits nor was taken
-abbrev pub lost : Course
-lost = record plain { put = one ∷ [] }
+abbrev pub lost_course : Course
+lost_course = record plain { put = one ∷ [] }
 
 -- the connection is not Up
 abbrev pub starting : Course
@@ -79,16 +79,16 @@ abbrev pub early : Course
 early = record plain { phase = Initialising }
 
 -- the world of these two ends, joined
-abbrev pub both : EndState → EndState → World
-both il fe = world_of (il ∷ []) (joined_to (Some 1) fe ∷ [])
+abbrev pub world_of_two : EndState → EndState → World
+world_of_two il fe = world_of (il ∷ []) (joined_to (Some 1) fe ∷ [])
 
 -- an end that requested a retransmission
-abbrev pub asking : Made → EndState → EndState
-asking m x = record x { machine = record x.machine { made = record m { pdu = record m.pdu { kind = RetrReq } } ∷ [] } }
+abbrev pub requesting_end : Made → EndState → EndState
+requesting_end m x = record x { machine = record x.machine { made = record m { pdu = record m.pdu { kind = RetrReq } } ∷ [] } }
 
 -- two ends at which nothing lost is false, while these six clauses of it hold
 abbrev pub OnlyFails : (A B C D E F : EndState → EndState → Type 0) → (il fe : EndState) → Type 0
-OnlyFails A B C D E F il fe = (NothingLost (both il fe) → ⊥) × A il fe × B il fe × C il fe × D il fe × E il fe × F il fe
+OnlyFails A B C D E F il fe = (NothingLost (world_of_two il fe) → ⊥) × A il fe × B il fe × C il fe × D il fe × E il fe × F il fe
 
 -- one world for each clause
 pub record LossInstances (x : EndState) (m : Made) : Type 0 where
@@ -97,17 +97,17 @@ pub record LossInstances (x : EndState) (m : Made) : Type 0 where
   -- two plain ends fulfil every clause
   pub holds : AllThere (il_with plain x) (fe_with plain x)
   -- the interlocking requested a retransmission
-  pub il_asks : NothingLost (world_of (asking m x ∷ []) []) → ⊥
+  pub il_asks : NothingLost (world_of (requesting_end m x ∷ []) []) → ⊥
   -- the field element requested a retransmission
-  pub fe_asks : NothingLost (world_of [] (joined_to (Some 1) (asking m x) ∷ [])) → ⊥
+  pub fe_asks : NothingLost (world_of [] (joined_to (Some 1) (requesting_end m x) ∷ [])) → ⊥
   -- a message waits at the interlocking while its window is open
-  pub il_waits : OnlyFails FeWaits CommandsThere StatusThere IlUp FeUp Steps (il_with waits x) (fe_with plain x)
+  pub il_waits : OnlyFails FeWaits CommandsThere StatusThere IlUp FeUp Steps (il_with waiting_course x) (fe_with plain x)
   -- a message waits at the field element while its window is open
-  pub fe_waits : OnlyFails IlWaits CommandsThere StatusThere IlUp FeUp Steps (il_with plain x) (fe_with waits x)
+  pub fe_waits : OnlyFails IlWaits CommandsThere StatusThere IlUp FeUp Steps (il_with plain x) (fe_with waiting_course x)
   -- a command is lost
-  pub commands : OnlyFails IlWaits FeWaits StatusThere IlUp FeUp Steps (il_with lost x) (fe_with plain x)
+  pub commands : OnlyFails IlWaits FeWaits StatusThere IlUp FeUp Steps (il_with lost_course x) (fe_with plain x)
   -- a status is lost
-  pub status : OnlyFails IlWaits FeWaits CommandsThere IlUp FeUp Steps (il_with plain x) (fe_with lost x)
+  pub status : OnlyFails IlWaits FeWaits CommandsThere IlUp FeUp Steps (il_with plain x) (fe_with lost_course x)
   -- the interlocking is not Up
   pub il_starts : OnlyFails IlWaits FeWaits CommandsThere StatusThere FeUp Steps (il_with starting x) (fe_with plain x)
   -- the field element is not Up

@@ -54,5 +54,5 @@ abbrev pub items_among : List (List ℕ) → List Item
 items_among messages = flat_map (λ m. item_read (tele_seen m)) messages
 
 -- the commands or status that an end still holds: those in open units, then those that wait
-abbrev pub held : EndState → List Item
-held x = items_among (flat_map (λ u. messages_read (unit_seen u)) (open_units x) ++ x.session.waiting)
+abbrev pub held_items : EndState → List Item
+held_items x = items_among (flat_map (λ u. messages_read (unit_seen u)) (open_units x) ++ x.session.waiting)

@@ -8,7 +8,7 @@ use Rattle.stack_engine.specs.Events.{event_of}
 use Rattle.stack_engine.specs.declared.notes.Notes.{Notes}
 use Rattle.stack_engine.specs.Noted.{AreNotes}
 use Rattle.stack_engine.specs.Openings.{IsOfSession}
-use Rattle.stack_engine.specs.Pairs.{Event, World, accepted, present, refusal, start, run}
+use Rattle.stack_engine.specs.Pairs.{Event, World, accepted_events, present, refusal, start, run}
 use Rattle.stack_engine.specs.Pairs.Event.{Open, Calls}
 use Rattle.stack_engine.specs.Premise.{AreTyped}
 use Rattle.stack_engine.specs.Sides.{SidesStand}
@@ -40,7 +40,7 @@ pub record IsPair {A : Type 0} (p : Inside A) : Type 0 where
 
 -- the history has grown by exactly those of the events that are accepted
 abbrev pub Ran : List Event → List Event → List Event → Type 0
-Ran before es after = after ≡ before ++ accepted es (run before start)
+Ran before es after = after ≡ before ++ accepted_events es (run before start)
 
 -- an event was refused for memory, and for nothing that is tested before; the history has grown by the accepted events before it
 abbrev pub RanBefore : List Event → List Event → List Event → Type 0

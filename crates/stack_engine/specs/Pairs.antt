@@ -126,18 +126,18 @@ call_fe c ils [] = []
 call_fe c ils (f ∷ before) = with_joined ils f (call c f.end) ∷ before
 
 -- the world after an accepted event; an opening makes all PDUs of the peer dead
-abbrev pub changed : Event → World → World
-changed (Open Il s first now) w =
+abbrev pub change_world : Event → World → World
+change_world (Open Il s first now) w =
     record { ils = new_end Il s first now ∷ w.ils; fes = w.fes; dead_il = 0; dead_fe = length (made_of (present Fe w)) }
-changed (Open Fe s first now) w =
+change_world (Open Fe s first now) w =
     record {
       ils = w.ils;
       fes = record { end = new_end Fe s first now; joined = None } ∷ w.fes;
       dead_il = length (made_of (present Il w));
       dead_fe = 0;
     }
-changed (Calls Il c) w = record w { ils = call_il c w.ils }
-changed (Calls Fe c) w = record w { fes = call_fe c w.ils w.fes }
+change_world (Calls Il c) w = record w { ils = call_il c w.ils }
+change_world (Calls Fe c) w = record w { fes = call_fe c w.ils w.fes }
 
 -- the new world, or the old one if the event is refused
 abbrev pub unless_refused : Option Refusal → World → World → World
@@ -145,15 +145,15 @@ unless_refused None old new = new
 unless_refused (Some why) old new = old
 
 -- the world after an event: a refused one changes nothing
-abbrev pub happens : World → Event → World
-happens w e = unless_refused (refusal e w) w (changed e w)
+abbrev pub apply_event : World → Event → World
+apply_event w e = unless_refused (refusal e w) w (change_world e w)
 
 -- the world after a list of events
 abbrev pub run : List Event → World → World
 run [] w = w
-run (e ∷ es) w = run es (happens w e)
+run (e ∷ es) w = run es (apply_event w e)
 
 -- the events of a list that are accepted
-abbrev pub accepted : List Event → World → List Event
-accepted [] w = []
-accepted (e ∷ es) w = if is_none (refusal e w) then e ∷ accepted es (happens w e) else accepted es (happens w e)
+abbrev pub accepted_events : List Event → World → List Event
+accepted_events [] w = []
+accepted_events (e ∷ es) w = if is_none (refusal e w) then e ∷ accepted_events es (apply_event w e) else accepted_events es (apply_event w e)

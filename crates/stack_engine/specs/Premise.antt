@@ -4,7 +4,7 @@ use Rattle.std.specs.List.{AllByRecursion}
 use Rattle.octets.specs.Octets.{AreOctets}
 use Rattle.red_layer.specs.declared.pdu.RedFault.{RedFault}
 use Rattle.red_layer.specs.Parts.{Part}
-use Rattle.red_layer.specs.Redundancy.{Input, Datagram, Tick as RedTick, decoded, passed_by}
+use Rattle.red_layer.specs.Redundancy.{Input, Datagram, Tick as RedTick, decoded, parts_passed}
 use Rattle.red_layer.specs.Service.{arrivals_of}
 use Rattle.safe_pdu.specs.SafeText.{code_octets}
 use Rattle.safe_pdu.specs.Places.{is_asked}
@@ -14,7 +14,7 @@ use Rattle.safe_machine.specs.World.Side.{Il, Fe}
 use Rattle.end_settings.specs.EndSettings.{rule_of}
 use Rattle.stack_end.specs.Ends.{EndState, is_shut, moved, part, with_input, Call}
 use Rattle.stack_end.specs.Ends.Call.{Put, Tick, Deliver}
-use Rattle.stack_engine.specs.Pairs.{World, Event, present, has_made, refusal, happens}
+use Rattle.stack_engine.specs.Pairs.{World, Event, present, has_made, refusal, apply_event}
 use Rattle.stack_engine.specs.Pairs.Event.{Calls}
 
 -- the premise speaks of these bytes at an end: long enough, both identifiers at their places, and a valid code at the end
@@ -44,7 +44,7 @@ AtParts P now (p ∷ ps) x = P x p.1 × AtParts P now ps (part now p.1 x)
 
 -- P holds of each part that goes up at an input of an open end
 abbrev pub AtInput : (EndState → List ℕ → Type 0) → ℕ → Input → EndState → Type 0
-AtInput P now i x = is_shut x ≡ false → AtParts P now (passed_by i x.red) (with_input i x)
+AtInput P now i x = is_shut x ≡ false → AtParts P now (parts_passed i x.red) (with_input i x)
 
 -- P holds of each part that goes up in a call, after the timeout check or the machine's tick
 abbrev pub AtCall : (EndState → List ℕ → Type 0) → Call → EndState → Type 0
@@ -70,7 +70,7 @@ GenuineEvent _ w = Unit {0}
 -- every accepted event of a list is genuine
 abbrev pub Genuine : List Event → World → Type 0
 Genuine [] w = Unit {0}
-Genuine (e ∷ es) w = (refusal e w ≡ None → GenuineEvent e w) × Genuine es (happens w e)
+Genuine (e ∷ es) w = (refusal e w ≡ None → GenuineEvent e w) × Genuine es (apply_event w e)
 
 -- this part would break the premise at once: the end is asked about it, and it is not live
 abbrev pub breaks_by : EndState → Option EndState → ℕ → Result Part RedFault → Bool

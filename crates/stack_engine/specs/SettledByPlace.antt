@@ -5,13 +5,13 @@ use Rattle.safe_machine.specs.declared.ConnectionState.TheVariants.{Closed}
 use Rattle.safe_machine.specs.World.{Side}
 use Rattle.safe_machine.specs.World.Side.{Il, Fe}
 use Rattle.pdi_session.specs.SessionStep.{Item}
-use Rattle.stack_end.specs.Certain.{counted}
+use Rattle.stack_end.specs.Certain.{cap_count}
 use Rattle.stack_end.specs.Ends.{EndState}
 use Rattle.stack_engine.specs.Pairs.{World, JoinedEnd, Event, start, run, present}
 use Rattle.stack_engine.specs.Premise.{AreTyped}
 use Rattle.stack_engine.specs.PremiseByPlace.{GenuineByPlace}
 use Rattle.stack_engine.specs.ByPlace.{IsOpened, AgreeUpTo}
-use Rattle.stack_engine.specs.OpenUnits.{held, open_units}
+use Rattle.stack_engine.specs.OpenUnits.{held_items, open_units}
 
 -- the i-th incarnation of the field element is joined to the n-th of the interlocking
 pub record AreJoined (w : World) (i n : ℕ) (fe il : EndState) : Type 0 where
@@ -34,9 +34,9 @@ PartnerTook w side taken =
 -- everything put at an end is accounted for: the first telegrams were taken, each at its place, and the end holds the others
 pub record IsAccountedFor (x : EndState) (taken : List Item) : Type 0 where
   pub sure : ℕ  -- how many were taken
-  pub counted : sure + length (held x) ≡ length x.session.history.put  -- with those held they are all that were put
+  pub counted : sure + length (held_items x) ≡ length x.session.history.put  -- with those held they are all that were put
   pub was_taken : AgreeUpTo sure x.session.history.put taken  -- each of the first was taken, at its place
-  pub is_held : (n : ℕ) → n < length (held x) → slice_get (held x) n ≡ slice_get x.session.history.put (sure + n)  -- the others are held, in order
+  pub is_held : (n : ℕ) → n < length (held_items x) → slice_get (held_items x) n ≡ slice_get x.session.history.put (sure + n)  -- the others are held, in order
 
 -- everything put at a present end is accounted for, whether the end is open or closed
 abbrev pub ConfirmedByPlace : World → Type 0
@@ -64,7 +64,7 @@ pub record WasTakenAt (n : ℕ) (put taken : List Item) : Type 0 where
 abbrev pub CertainByPlace : World → Type 0
 CertainByPlace w =
     (side : Side) (x : EndState) (taken : List Item) → present side w ≡ Some x → PartnerTook w side taken →
-    (n : ℕ) → n + length (held x) < counted (length x.session.history.put) → WasTakenAt n x.session.history.put taken
+    (n : ℕ) → n + length (held_items x) < cap_count (length x.session.history.put) → WasTakenAt n x.session.history.put taken
 
 -- confirmed is taken, second form, holds after every list of events that is genuine by place
 abbrev pub ConfirmedByPlaceLaw : Type 0

@@ -7,7 +7,7 @@ use Rattle.stack_engine.specs.declared.sides.Sides.{Sides}
 use Rattle.stack_engine.specs.Bounds.{FewMore}
 use Rattle.stack_engine.specs.Joins.{joins_of, joins_in}
 use Rattle.stack_engine.specs.Openings.{SideStands}
-use Rattle.stack_engine.specs.Pairs.{World, Event, changed, ends_of, present}
+use Rattle.stack_engine.specs.Pairs.{World, Event, change_world, ends_of, present}
 use Rattle.stack_engine.specs.Pairs.Event.{Open, Calls}
 use Rattle.stack_engine.specs.Premise.{AtOpened}
 
@@ -31,4 +31,4 @@ FewAt (Calls side c) w = AtOpened (λ x. FewMore x (call c x)) (present side w)
 
 -- of each world that it represented it now represents the one after the event
 abbrev pub SidesDo : {A : Type 0} → Event → Sides A → Sides A → Type 0
-SidesDo e s t = (w : World) → SidesStand s w → FewAt e w → SidesStand t (changed e w)
+SidesDo e s t = (w : World) → SidesStand s w → FewAt e w → SidesStand t (change_world e w)

@@ -15,12 +15,12 @@ pub struct Event<'a> {
     /// When, in milliseconds.
     pub time: u64,
     /// What happens to it.
-    pub doing: Doing<'a>,
+    pub doing: Action<'a>,
 }
 
 /// What happens to an end: an opening or a call.
 #[derive(Clone, Copy, Debug)]
-pub enum Doing<'a> {
+pub enum Action<'a> {
     /// The end is opened, or opened again.
     Open {
         /// The settings.
@@ -64,8 +64,8 @@ impl<'a> Event<'a> {
         ensures { IsTyped (event_of self.now) }
     {
         match &self.doing {
-            Doing::Call(Call::Put { kind, .. }) => is_kind(*kind),
-            Doing::Call(Call::Deliver { octets, .. }) => are_octets(octets),
+            Action::Call(Call::Put { kind, .. }) => is_kind(*kind),
+            Action::Call(Call::Deliver { octets, .. }) => are_octets(octets),
             _ => {}
         }
     }

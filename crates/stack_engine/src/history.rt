@@ -6,7 +6,7 @@ ghost use Rattle.stack_engine.specs.Events.{event_of};
 ghost use Rattle.stack_engine.specs.Histories.{HasPlace, call_octets};
 ghost use Rattle.stack_engine.specs.HistoryPlaces.{deed_in};
 
-use crate::event::{Call, Doing, Event};
+use crate::event::{Action, Call, Event};
 use crate::texts::Texts;
 use end_settings::{EndConfig, Side};
 use std::alloc::{AllocError, Allocator, Global};
@@ -87,11 +87,11 @@ impl<A: Allocator + Copy> History<A> {
         ensures room { OnOk result (HasPlace event.now self.new) }
     {
         match &event.doing {
-            Doing::Open { .. } => {
+            Action::Open { .. } => {
                 self.configs.try_reserve(1)?;
                 self.entries.reserve(1, 0)
             }
-            Doing::Call(call) => self.entries.reserve(1, octets_of(call).len()),
+            Action::Call(call) => self.entries.reserve(1, octets_of(call).len()),
         }
     }
 
@@ -104,7 +104,7 @@ impl<A: Allocator + Copy> History<A> {
         let side = event.side;
         let time = event.time;
         match &event.doing {
-            Doing::Open { config, first_sn } => {
+            Action::Open { config, first_sn } => {
                 let doing = Deed::Open {
                     config: self.configs.len(),
                     first_sn: *first_sn,
@@ -112,7 +112,7 @@ impl<A: Allocator + Copy> History<A> {
                 self.configs.push_reserved(*config);
                 self.entries.add(Entry { side, time, doing }, &[]);
             }
-            Doing::Call(call) => {
+            Action::Call(call) => {
                 let doing = deed_of(call);
                 self.entries
                     .add(Entry { side, time, doing }, octets_of(call));
@@ -148,20 +148,20 @@ impl<A: Allocator> History<A> {
         let time = entry.time;
         let doing = match entry.doing {
             Deed::Open { config, first_sn } => match self.configs.get(config) {
-                Some(config) => Doing::Open {
+                Some(config) => Action::Open {
                     config: *config,
                     first_sn,
                 },
-                None => Doing::Call(Call::Tick),
+                None => Action::Call(Call::Tick),
             },
-            Deed::Close => Doing::Call(Call::Close),
-            Deed::Put { kind } => Doing::Call(Call::Put {
+            Deed::Close => Action::Call(Call::Close),
+            Deed::Put { kind } => Action::Call(Call::Put {
                 kind,
                 payload: octets,
             }),
-            Deed::InitDone => Doing::Call(Call::InitDone),
-            Deed::Tick => Doing::Call(Call::Tick),
-            Deed::Deliver { channel } => Doing::Call(Call::Deliver { channel, octets }),
+            Deed::InitDone => Action::Call(Call::InitDone),
+            Deed::Tick => Action::Call(Call::Tick),
+            Deed::Deliver { channel } => Action::Call(Call::Deliver { channel, octets }),
         };
         Some(Event { side, time, doing })
     }

@@ -7,7 +7,7 @@ ghost use Rattle.stack_end.specs.Ends.{Call, EndState, opened_end, time_of};
 ghost use Rattle.stack_engine.specs.Bounds.{FewFirst};
 ghost use Rattle.stack_engine.specs.Premise.{breaks_at};
 ghost use Rattle.stack_engine.specs.Events.{call_of};
-ghost use Rattle.stack_engine.specs.Joins.{joins_of, rejoined, request_in};
+ghost use Rattle.stack_engine.specs.Joins.{joins_of, join_latest, request_in};
 ghost use Rattle.stack_engine.specs.Openings.{BeforeStand, IsOfSession, is_memory};
 ghost use Rattle.stack_engine.specs.Pairs.{call_refusal, latest, latest_maker, made_of, open_refusal};
 ghost use Rattle.stack_engine.specs.Reports.{entry_of, incarnations_of, joined_entry, seen_entry};
@@ -209,7 +209,7 @@ impl<A: Allocator + Copy> Openings<A> {
         // Joining changes no state.
         ensures stands { (xs : List EndState) → SideStands self.old xs → SideStands self.new xs }
         // The present incarnation is now joined to `number`; the earlier ones are joined as before.
-        ensures joins { joins_of self.new ≡ rejoined number (joins_of self.old) }
+        ensures joins { joins_of self.new ≡ join_latest number (joins_of self.old) }
     {
         if let Some(present) = &mut self.present {
             present.joined = number;

@@ -14,7 +14,7 @@ ghost use Rattle.stack_engine.specs.Reports.{report_of, seen_entry};
 ghost use Rattle.safe_machine.specs.World.Side.{Fe};
 
 use crate::ApplyFault;
-use crate::event::{self, Doing, Event};
+use crate::event::{self, Action, Event};
 use crate::keeper::Keeper;
 use crate::notes::Notes;
 use crate::openings::Openings;
@@ -72,8 +72,8 @@ impl<A: Allocator + Copy> Sides<A> {
     {
         let openings = self.openings(event.side);
         match &event.doing {
-            Doing::Open { config, .. } => openings.admits_opening(event.side, config, event.time),
-            Doing::Call(_) => openings.admits_call(event.time),
+            Action::Open { config, .. } => openings.admits_opening(event.side, config, event.time),
+            Action::Call(_) => openings.admits_call(event.time),
         }
     }
 
@@ -113,10 +113,10 @@ impl<A: Allocator + Copy> Sides<A> {
     {
         let now = event.time;
         match &event.doing {
-            Doing::Open { config, first_sn } => {
+            Action::Open { config, first_sn } => {
                 self.open(alloc, event.side, *config, *first_sn, now)
             }
-            Doing::Call(call) => self.call(event.side, call, now),
+            Action::Call(call) => self.call(event.side, call, now),
         }
     }
 

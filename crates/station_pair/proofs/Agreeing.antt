@@ -10,7 +10,7 @@ use Rattle.stack_engine.specs.Settled.{is_number}
 use Rattle.station_pair.specs.Law.{AllGiveBeginnings, Agree, BothAgree, FeThere, GivesBeginnings, IlThere, IsThere, Names, OnlyJoinedGive, PromisesLaw, SessionLaw, joined_by}
 use Rattle.station_pair.specs.Network.{AllCarried, NetworkLaw, both_open, session}
 use Rattle.station_pair.specs.Stands.{seen_by}
-use Rattle.station_pair.specs.Steps.{AllLater, Called, Held, Opens, Programs, Pulls, Step, Takes, called, gives, new_held, programs, puts_by}
+use Rattle.station_pair.specs.Steps.{AllLater, Called, Held, Opens, Programs, Pulls, Step, Takes, called, popped_items, new_held, programs, puts_by}
 
 -- no side is opened again, so no opening comes too early, and there are two stations throughout
 record Pairs (p : Programs) : Type 0 where
@@ -33,10 +33,10 @@ pairs (Opens Interlocking config first_sn rooms now (Err f) ∷ steps) h k c = p
 pairs (Opens FieldElement config first_sn rooms now (Err f) ∷ steps) h k c = pairs steps h k c.1
 pairs (Called Interlocking d answer t ∷ steps) h k c = pairs steps (called t (puts_by answer d) [] [] h) k c.1
 pairs (Called FieldElement d answer t ∷ steps) h k c = pairs steps h (called t (puts_by answer d) [] [] k) c.1
-pairs (Takes Interlocking buffer answer left t ∷ steps) h k c = pairs steps (called t [] (gives answer left) [] h) k c.1
-pairs (Takes FieldElement buffer answer left t ∷ steps) h k c = pairs steps h (called t [] (gives answer left) [] k) c.1
-pairs (Pulls Interlocking buffer answer left t ∷ steps) h k c = pairs steps (called t [] [] (gives answer left) h) k c.1
-pairs (Pulls FieldElement buffer answer left t ∷ steps) h k c = pairs steps h (called t [] [] (gives answer left) k) c.1
+pairs (Takes Interlocking buffer answer left t ∷ steps) h k c = pairs steps (called t [] (popped_items answer left) [] h) k c.1
+pairs (Takes FieldElement buffer answer left t ∷ steps) h k c = pairs steps h (called t [] (popped_items answer left) [] k) c.1
+pairs (Pulls Interlocking buffer answer left t ∷ steps) h k c = pairs steps (called t [] [] (popped_items answer left) h) k c.1
+pairs (Pulls FieldElement buffer answer left t ∷ steps) h k c = pairs steps h (called t [] [] (popped_items answer left) k) c.1
 
 nothing-begins : (xs ys : List Item) → xs ≡ [] → IsBeginning xs ys
 nothing-begins xs ys e = (ys, ap (λ zs. zs ++ ys) e)

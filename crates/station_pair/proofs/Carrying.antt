@@ -6,11 +6,11 @@ use Rattle.std.specs.List.{AllByRecursion, FoldsTo}
 use Rattle.std.specs.Prelude.{if◌then◌else◌, nat_lt, option_map}
 use Rattle.std.specs.Str.{bytes_eq}
 use Rattle.octets.specs.declared.limits.TheConstants.{RED_HEADER, RED_PDU_MAX}
-use Rattle.channels.specs.Told.{Sending, SendsOne, Told}
+use Rattle.channels.specs.Told.{Sending, SendsOne, ChannelHistory}
 use Rattle.red_layer.specs.Laws.{OriginLaw}
 use Rattle.red_layer.specs.Parts.{Part}
-use Rattle.red_layer.specs.Redundancy.{Datagram, Input, Tick as RedTick, after, decoded, passed_by}
-use Rattle.red_layer.specs.Service.{AreAmong, IsAmong, accepted as accepted_parts, arrivals_of}
+use Rattle.red_layer.specs.Redundancy.{Datagram, Input, Tick as RedTick, after, decoded, parts_passed}
+use Rattle.red_layer.specs.Service.{AreAmong, IsAmong, part_received as accepted_parts, arrivals_of}
 use Rattle.red_layer.specs.declared.pdu.RedFault.TheVariants.{Short, Length, Reserve}
 use Rattle.red_layer.specs.pdu.RedText.{length_field, red_text, reserve_field, seq_field}
 use Rattle.safe_pdu.specs.declared.CodeRule.{CodeRule}
@@ -21,7 +21,7 @@ use Rattle.safe_machine.specs.Octets.{arrive_octets}
 use Rattle.safe_machine.specs.Step.{guard, leave, tick}
 use Rattle.end_settings.specs.EndSettings.{EndSettings, rule_of}
 use Rattle.stack_end.specs.Datagrams.{on_channels, sendings, upper_of}
-use Rattle.stack_end.specs.Dialogue.{judge_units, meets}
+use Rattle.stack_end.specs.Dialogue.{judge_units, process_event}
 use Rattle.stack_end.specs.Ends.{Call, EndState, answered, call, goes_on, handed_up, is_shut, moved, part, with_input, with_machine, with_session}
 use Rattle.stack_end.specs.Ends.Call.{Close, Put, InitDone, Tick, Deliver}
 use Rattle.pdi_session.specs.SessionStep.{Puts, InitDone as Completes}
@@ -63,12 +63,12 @@ near-goes s K now =
     }
 
 near-input : OriginLaw → (s : EndSettings) (K : Part → Type 0) (i : Input) (y : EndState) → AllByRecursion K (arrivals_of i) → Near s K y
-    → Near s K (with_input i y) × AllByRecursion K (passed_by i y.red)
+    → Near s K (with_input i y) × AllByRecursion K (parts_passed i y.red)
 near-input origin s K i y came h =
     let all = all-append K y.red.waiting (arrivals_of i) h.1 came in
     let from = origin i y.red in (
       (h.0, all-among K (after i y.red).waiting (y.red.waiting ++ arrivals_of i) from.1 all),
-      all-among K (passed_by i y.red) (y.red.waiting ++ arrivals_of i) from.0 all,
+      all-among K (parts_passed i y.red) (y.red.waiting ++ arrivals_of i) from.0 all,
     )
 
 live : (peer : EndState) (s : EndSettings) (y : EndState) (p : Part) → AlikeCode s peer.settings → y.settings ≡ s → Known peer p
@@ -102,7 +102,7 @@ genuine-call origin peer (Tick now) x code all comes =
     let y = moved (Ticks now) x in
     let near = keep-settle now AnyPart (Near x.settings K) (near-goes x.settings K now) (with_machine (tick now x.machine) x) (refl, all) in
     let came = near-input origin x.settings K (RedTick now) y tt near in
-    (tt, λ _ _. parts-genuine peer x.settings now (passed_by (RedTick now) y.red) (with_input (RedTick now) y) code came.0 came.1)
+    (tt, λ _ _. parts-genuine peer x.settings now (parts_passed (RedTick now) y.red) (with_input (RedTick now) y) code came.0 came.1)
 genuine-call origin peer (Deliver channel octets now) x code all comes =
     let K = Known peer in
     let i = Datagram octets now in
@@ -110,7 +110,7 @@ genuine-call origin peer (Deliver channel octets now) x code all comes =
     let near = keep-settle now AnyPart (Near x.settings K) (near-goes x.settings K now) (with_machine (guard now x.machine) x) (refl, all) in
     let came = near-input origin x.settings K i y comes near in (
       arrivals-genuine peer x (arrivals_of i) code comes,
-      λ _ _. parts-genuine peer x.settings now (passed_by i y.red) (with_input i y) code came.0 came.1,
+      λ _ _. parts-genuine peer x.settings now (parts_passed i y.red) (with_input i y) code came.0 came.1,
     )
 
 by-shut : (P : EndState → Type 0) (b : Bool) (x y : EndState) → P x → P y → P (if b then x else y)
@@ -122,24 +122,24 @@ pub near-call : OriginLaw → (s : EndSettings) (K : Part → Type 0) (c : Call)
 near-call origin s K (Close now) x comes h =
     keep-settle now AnyPart (Near s K) (near-goes s K now) (with_machine (leave ClosedByUser Unspecified now x.machine) x) h
 near-call origin s K (Put kind payload now) x comes h =
-    let y : EndState = with_session (meets (Puts kind payload (length x.session.waiting)) x.session) x in
+    let y : EndState = with_session (process_event (Puts kind payload (length x.session.waiting)) x.session) x in
     keep-packed now AnyPart (Near s K) (near-goes s K now) (length y.session.waiting) y h
 near-call origin s K (InitDone now) x comes h =
-    let y : EndState = with_session (meets (Completes (length x.session.waiting)) x.session) x in
+    let y : EndState = with_session (process_event (Completes (length x.session.waiting)) x.session) x in
     keep-packed now AnyPart (Near s K) (near-goes s K now) (length y.session.waiting) y h
 near-call origin s K (Tick now) x comes h =
     let i = RedTick now in
     let y = moved (Ticks now) x in
     let near = keep-settle now AnyPart (Near s K) (near-goes s K now) (with_machine (tick now x.machine) x) h in
     by-shut (Near s K) (is_shut x) x (goes_on now i y) h
-    (keep-goes_on now AnyPart (Near s K) (near-goes s K now) i y (λ _. any-parts now (passed_by i y.red) (with_input i y))
+    (keep-goes_on now AnyPart (Near s K) (near-goes s K now) i y (λ _. any-parts now (parts_passed i y.red) (with_input i y))
     (near-input origin s K i y tt near).0 near)
 near-call origin s K (Deliver channel octets now) x comes h =
     let i = Datagram octets now in
     let y = moved (Guards now) x in
     let near = keep-settle now AnyPart (Near s K) (near-goes s K now) (with_machine (guard now x.machine) x) h in
     by-shut (Near s K) (is_shut x) x (goes_on now i y) h
-    (keep-goes_on now AnyPart (Near s K) (near-goes s K now) i y (λ _. any-parts now (passed_by i y.red) (with_input i y))
+    (keep-goes_on now AnyPart (Near s K) (near-goes s K now) i y (λ _. any-parts now (parts_passed i y.red) (with_input i y))
     (near-input origin s K i y comes near).0 near)
 
 -- A PDU that was made stays made.
@@ -190,9 +190,9 @@ sendings-bring s K index (m ∷ ms) h =
     or-later false c e = e
 
 -- what was returned was sent
-pub folds-all : (Q : Sending → Type 0) (a b : Told) (front back : List Sending) (xs : List Sending) → FoldsTo SendsOne a xs b → a.sent ≡ Some front → b.sent ≡ Some back
+pub folds-all : (Q : Sending → Type 0) (a b : ChannelHistory) (front back : List Sending) (xs : List Sending) → FoldsTo SendsOne a xs b → a.sent ≡ Some front → b.sent ≡ Some back
     → AllByRecursion Q front → AllByRecursion Q xs → AllByRecursion Q back
-folds-all Q a b front back [] h before later all new = subst (AllByRecursion Q) (some-is front back (sym before ∙ (ap (λ (t : Told). t.sent) h ∙ later))) all
+folds-all Q a b front back [] h before later all new = subst (AllByRecursion Q) (some-is front back (sym before ∙ (ap (λ (t : ChannelHistory). t.sent) h ∙ later))) all
   where
     some-is : (x y : List Sending) → Some x ≡ Some y → x ≡ y
     some-is x y e = cc

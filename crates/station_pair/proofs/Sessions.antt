@@ -19,7 +19,7 @@ use Rattle.end_for_callers.specs.Boxes.{told_of}
 use Rattle.end_for_callers.specs.Calls.{StationValue, outbox_of}
 use Rattle.end_for_callers.specs.declared.Outcome.{Outcome}
 use Rattle.stack_engine.specs.Incarnations.{puts_in}
-use Rattle.stack_engine.specs.Pairs.{JoinedEnd, World, changed, has_made, unless_refused, start, with_joined}
+use Rattle.stack_engine.specs.Pairs.{JoinedEnd, World, change_world, has_made, unless_refused, start, with_joined}
 use Rattle.stack_engine.specs.Pairs.Event.{Open, Calls}
 use Rattle.stack_engine.specs.Premise.{Genuine}
 use Rattle.stack_engine.proofs.one.Speaking.{all-map, all-parts}
@@ -28,7 +28,7 @@ use Rattle.station_pair.proofs.Standing.{call-accepted, call-stands, list-opened
 use Rattle.station_pair.specs.Network.{AllCarried, Arrives, IsGiven, NetworkLaw}
 use Rattle.station_pair.specs.Stands.{HeldStands, all_sent, nothing_sent}
 use Rattle.end_for_callers.specs.Answered.{IsAccepted}
-use Rattle.station_pair.specs.Steps.{AreSteps, Called, Held, Opens, Programs, Pulls, Step, Takes, called, events_of, gives, new_held}
+use Rattle.station_pair.specs.Steps.{AreSteps, Called, Held, Opens, Programs, Pulls, Step, Takes, called, events_of, popped_items, new_held}
 
 -- what was given at a station brings parts that its end made
 given-brings : (h : Held) (y : EndState) (octets : List ℕ) → HeldStands h y → IsGiven octets h.pulled → Brings (Known y) octets
@@ -104,7 +104,7 @@ all-genuine turns origin (Called Interlocking c (Ok o) t ∷ steps) h k x f b ar
     let none = call-accepted c h x b.one are.0.accepted in
     let more = all-genuine turns origin steps (called t (puts_in c) [] [] h) k (call c x) f next are.1 carried.1 in (
       λ _. genuine-call origin f.end c x b.code b.one_waits (comes c k f.end b.two carried.0),
-      subst (Genuine (events_of steps)) (sym (ap (λ r. unless_refused r (world x f) (changed (Calls Il c) (world x f))) none)) more,
+      subst (Genuine (events_of steps)) (sym (ap (λ r. unless_refused r (world x f) (change_world (Calls Il c) (world x f))) none)) more,
     )
 all-genuine turns origin (Called FieldElement c (Ok o) t ∷ steps) h k x f b are carried =
     let a = swap h k x f.end b in
@@ -114,7 +114,7 @@ all-genuine turns origin (Called FieldElement c (Ok o) t ∷ steps) h k x f b ar
     let more = all-genuine turns origin steps h (called t (puts_in c) [] [] k) x g (swap (called t (puts_in c) [] [] k) h (call c f.end) x next) are.1
     carried.1 in (
       λ _. genuine-call origin x c f.end a.code a.one_waits (comes c h x b.one carried.0),
-      subst (Genuine (events_of steps)) (sym (ap (λ r. unless_refused r (world x f) (changed (Calls Fe c) (world x f))) none)) more,
+      subst (Genuine (events_of steps)) (sym (ap (λ r. unless_refused r (world x f) (change_world (Calls Fe c) (world x f))) none)) more,
     )
 all-genuine turns origin (Called Interlocking c (Err why) t ∷ steps) h k x f b are carried =
     let l = called t [] [] [] h in
@@ -124,17 +124,17 @@ all-genuine turns origin (Called FieldElement c (Err why) t ∷ steps) h k x f b
     let a = both-kept k l h f.end x (refused-stands k t f.end are.0.1) (swap h k x f.end b) in
     all-genuine turns origin steps h l x f (swap l h f.end x a) are.1 carried.1
 all-genuine turns origin (Takes Interlocking buffer answer left t ∷ steps) h k x f b are carried =
-    let l = called t [] (gives answer left) [] h in
+    let l = called t [] (popped_items answer left) [] h in
     all-genuine turns origin steps l k x f (both-kept h l k x f.end (taken-stands buffer answer left h t x are.0) b) are.1 carried.1
 all-genuine turns origin (Takes FieldElement buffer answer left t ∷ steps) h k x f b are carried =
-    let l = called t [] (gives answer left) [] k in
+    let l = called t [] (popped_items answer left) [] k in
     let a = both-kept k l h f.end x (taken-stands buffer answer left k t f.end are.0) (swap h k x f.end b) in
     all-genuine turns origin steps h l x f (swap l h f.end x a) are.1 carried.1
 all-genuine turns origin (Pulls Interlocking buffer answer left t ∷ steps) h k x f b are carried =
-    let l = called t [] [] (gives answer left) h in
+    let l = called t [] [] (popped_items answer left) h in
     all-genuine turns origin steps l k x f (both-kept h l k x f.end (pulled-stands buffer answer left h t x are.0) b) are.1 carried.1
 all-genuine turns origin (Pulls FieldElement buffer answer left t ∷ steps) h k x f b are carried =
-    let l = called t [] [] (gives answer left) k in
+    let l = called t [] [] (popped_items answer left) k in
     let a = both-kept k l h f.end x (pulled-stands buffer answer left k t f.end are.0) (swap h k x f.end b) in
     all-genuine turns origin steps h l x f (swap l h f.end x a) are.1 carried.1
 
@@ -152,12 +152,12 @@ carried turns origin fe il steps are code all =
       one_waits = tt;
       two_waits = tt;
     } in
-    let w1 = changed (Open Fe (settings_of fe.config) fe.first_sn fe.now) start in
+    let w1 = change_world (Open Fe (settings_of fe.config) fe.first_sn fe.now) start in
     let first = list-opened FieldElement fe.config fe.first_sn fe.rooms fe.now fe.station [] [] tt are.0 tt in
     let second = list-opened Interlocking il.config il.first_sn il.rooms il.now il.station [] [] tt are.1.0 tt in
     let rest = all-genuine turns origin steps h k x (record { end = f; joined = None }) b are.1.1 all in
     let e2 = Open Il (settings_of il.config) il.first_sn il.now in
-    let after_two = subst (Genuine (events_of steps)) (sym (ap (λ r. unless_refused r w1 (changed e2 w1)) second.0)) rest in (
+    let after_two = subst (Genuine (events_of steps)) (sym (ap (λ r. unless_refused r w1 (change_world e2 w1)) second.0)) rest in (
       λ _. tt,
       subst (Genuine (e2 ∷ events_of steps)) (sym (ap (λ r. unless_refused r start w1) first.0)) (λ _. tt, after_two),
     )

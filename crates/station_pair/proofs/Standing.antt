@@ -17,7 +17,7 @@ use Rattle.stack_end.specs.EndValue.{EndStands, EndValue, channels_of, inside}
 use Rattle.stack_end.specs.Fields.{BothStand}
 use Rattle.stack_end.specs.Turned.{Turned, TurnsLaw}
 use Rattle.stack_end.specs.Turns.{Inside, turn}
-use Rattle.channels.specs.Told.{Sending, Sends, SendsOne, Told}
+use Rattle.channels.specs.Told.{Sending, Sends, SendsOne, ChannelHistory}
 use Rattle.std.specs.List.{FoldsTo}
 use Rattle.std.specs.Global.{Global}
 use Rattle.red_layer.specs.pdu.RedText.{red_text}
@@ -33,11 +33,11 @@ use Rattle.end_for_callers.specs.declared.station.Rooms.{Rooms}
 use Rattle.stack_engine.specs.Headline.{put_at, taken_at}
 use Rattle.stack_engine.specs.Incarnations.{puts_in}
 use Rattle.stack_engine.specs.Pairs.Event.{Open, Calls}
-use Rattle.stack_engine.specs.Pairs.{JoinedEnd, call_fe, call_il, changed, ends_of, refusal, unless_refused, World, Event, accepted, call_refusal, happens, is_untimely, last_time, latest, open_refusal, run, session_refusal, start}
+use Rattle.stack_engine.specs.Pairs.{JoinedEnd, call_fe, call_il, change_world, ends_of, refusal, unless_refused, World, Event, accepted_events, call_refusal, apply_event, is_untimely, last_time, latest, open_refusal, run, session_refusal, start}
 use Rattle.stack_engine.proofs.one.Speaking.{call-put, put_in_by}
 use Rattle.station_pair.specs.Stands.{AllStand, HeldStands, ProgramsStand, all_sent, nothing_sent, seen_by}
 use Rattle.end_for_callers.specs.Answered.{IsAnswered, Pop, IsAccepted, IsOpened, IsTaken, IsPulled, refusal_of}
-use Rattle.station_pair.specs.Steps.{AllLater, AreSteps, AtLatest, Called, IsLater, IsStep, Opens, OpensLater, Pulls, Takes, called, new_held, event_of, gives, goes_on, Held, Programs, Step, events_of, held_after, nothing, programs}
+use Rattle.station_pair.specs.Steps.{AllLater, AreSteps, AtLatest, Called, IsLater, IsStep, Opens, OpensLater, Pulls, Takes, called, new_held, event_of, popped_items, goes_on, Held, Programs, Step, events_of, held_after, nothing, programs}
 use Rattle.station_pair.specs.Law.{FollowsLaw}
 
 -- an accepted call comes at a time that a pair takes
@@ -107,7 +107,7 @@ call-seen c o h t x stands answer turned true was =
       λ kept. absurd (false≢true (sym kept ∙ came.stays was)),
     )
 
-abbrev told_as : List Sending → ℕ → Told
+abbrev told_as : List Sending → ℕ → ChannelHistory
 told_as xs n = record { sent = Some xs; answers = None; asked = None; failed_sends = n; failed_receives = 0; room = λ _. 0 }
 
 -- what is known of everything sent depends on the list and on the count
@@ -115,7 +115,7 @@ told-same : (xs ys : List Sending) (n m : ℕ) → xs ≡ ys → n ≡ m → tol
 told-same xs ys n m e f = ap (λ (zs : List Sending). told_as zs n) e ∙ ap (λ k. told_as ys k) f
 
 -- Before what is known something else was sent.
-abbrev behind : List Sending → Told → Told
+abbrev behind : List Sending → ChannelHistory → ChannelHistory
 behind front t = record t { sent = option_map (λ xs. front ++ xs) t.sent }
 
 behind-one : (front more : List Sending) (o : Option (List Sending)) → option_map (λ xs. front ++ xs) (option_map (λ xs. xs ++ more) o)
@@ -123,7 +123,7 @@ behind-one : (front more : List Sending) (o : Option (List Sending)) → option_
 behind-one front more None = refl
 behind-one front more (Some xs) = ap Some (sym (append_assoc front xs more))
 
-behind-sends : (front : List Sending) (went : Bool) (a b : Told) (x : Sending) → Sends went a x b → Sends went (behind front a) x (behind front b)
+behind-sends : (front : List Sending) (went : Bool) (a b : ChannelHistory) (x : Sending) → Sends went a x b → Sends went (behind front a) x (behind front b)
 behind-sends front went a b x h =
     record {
       sent = ap (λ o. option_map (λ xs. front ++ xs) o) h.sent ∙ behind-one front (if went then x ∷ [] else []) a.sent;
@@ -135,11 +135,11 @@ behind-sends front went a b x h =
       failed_receives = h.failed_receives;
     }
 
-behind-all : (front : List Sending) (a b : Told) (xs : List Sending) → FoldsTo SendsOne a xs b → FoldsTo SendsOne (behind front a) xs (behind front b)
+behind-all : (front : List Sending) (a b : ChannelHistory) (xs : List Sending) → FoldsTo SendsOne a xs b → FoldsTo SendsOne (behind front a) xs (behind front b)
 behind-all front a b [] h = ap (behind front) h
 behind-all front a b (x ∷ xs) (m, one, rest) = (behind front m, (one.0, behind-sends front one.0 a m x one.1), behind-all front m b xs rest)
 
-folds-append : (a b c : Told) (xs ys : List Sending) → FoldsTo SendsOne a xs b → FoldsTo SendsOne b ys c → FoldsTo SendsOne a (xs ++ ys) c
+folds-append : (a b c : ChannelHistory) (xs ys : List Sending) → FoldsTo SendsOne a xs b → FoldsTo SendsOne b ys c → FoldsTo SendsOne a (xs ++ ys) c
 folds-append a b c [] ys h k = subst (λ t. FoldsTo SendsOne t ys c) (sym h) k
 folds-append a b c (x ∷ xs) ys (m, one, rest) k = (m, one, folds-append m b c xs ys rest k)
 
@@ -215,7 +215,7 @@ refused-stands h t x same stands =
 
 -- what a pop gives, and then what waits, is what was given before, and then what waited
 pop-same : (buffer : List ℕ) (answer : Pop) (left : List ℕ) (given : List (ℕ × List ℕ)) (q r : Queued ℕ) → Popped answer q buffer r left
-    → (given ++ gives answer left) ++ r.waiting ≡ given ++ q.waiting
+    → (given ++ popped_items answer left) ++ r.waiting ≡ given ++ q.waiting
 pop-same buffer (Ok None) left given q r p = ap (λ g. g ++ r.waiting) (append-nil given) ∙ ap (λ (k : Queued ℕ). given ++ k.waiting) p.1
 pop-same buffer (Err short) left given q r p = ap (λ g. g ++ r.waiting) (append-nil given) ∙ ap (λ (k : Queued ℕ). given ++ k.waiting) p.1
 pop-same buffer (Ok (Some (tag, size))) left given q r p =
@@ -226,22 +226,22 @@ pop-same buffer (Ok (Some (tag, size))) left given q r p =
 
 -- `next_datagram`
 pub pulled-stands : (buffer : List ℕ) (answer : Pop) (left : List ℕ) (h : Held) (t : StationValue) (x : EndState) → IsPulled buffer answer left h.station t
-    → HeldStands h x → HeldStands (called t [] [] (gives answer left) h) x
+    → HeldStands h x → HeldStands (called t [] [] (popped_items answer left) h) x
 pulled-stands buffer answer left h t x step stands =
     let same = step.same in
-    kept-stands h (called t [] [] (gives answer left) h) x
+    kept-stands h (called t [] [] (popped_items answer left) h) x
     (record { both = subst (λ (v : Inside). BothStand v x) (sym same.kept) stands.end.both; time = same.called ∙ stands.end.time }) same.time
     (append-nil h.put)
     (ap (λ g. g ++ t.inbox.queue.waiting) (append-nil h.given) ∙ ap (λ (i : Incoming). h.given ++ i.queue.waiting) same.inbox)
     (ap (λ (i : Incoming). i.lost) same.inbox)
-    (told-same ((h.pulled ++ gives answer left) ++ (outbox_of t).queue.waiting) (h.pulled ++ (outbox_of h.station).queue.waiting) (outbox_of t).unsent
+    (told-same ((h.pulled ++ popped_items answer left) ++ (outbox_of t).queue.waiting) (h.pulled ++ (outbox_of h.station).queue.waiting) (outbox_of t).unsent
     (outbox_of h.station).unsent (pop-same buffer answer left h.pulled (outbox_of h.station).queue (outbox_of t).queue step.popped) same.unsent) stands
 
 -- `take`
 pub taken-stands : (buffer : List ℕ) (answer : Pop) (left : List ℕ) (h : Held) (t : StationValue) (x : EndState) → IsTaken buffer answer left h.station t
-    → HeldStands h x → HeldStands (called t [] (gives answer left) [] h) x
+    → HeldStands h x → HeldStands (called t [] (popped_items answer left) [] h) x
 taken-stands buffer answer left h t x step stands =
-    kept-stands h (called t [] (gives answer left) [] h) x (subst (λ e. EndStands told_of e x) (sym step.same.end) stands.end) step.same.time
+    kept-stands h (called t [] (popped_items answer left) [] h) x (subst (λ e. EndStands told_of e x) (sym step.same.end) stands.end) step.same.time
     (append-nil h.put) (pop-same buffer answer left h.given h.station.inbox.queue t.inbox.queue step.popped) step.same.lost
     (told-same ((h.pulled ++ []) ++ (outbox_of t).queue.waiting) (h.pulled ++ (outbox_of h.station).queue.waiting) (outbox_of t).unsent
     (outbox_of h.station).unsent
@@ -270,13 +270,13 @@ list-refused c f t (h ∷ hs) [] stand step = absurd stand
 list-refused c f t (h ∷ hs) (x ∷ xs) stand step = (refused-stands h t x step.1 stand.0, stand.1)
 
 list-taken : (buffer : List ℕ) (answer : Pop) (left : List ℕ) (t : StationValue) (hs : List Held) (xs : List EndState) → AllStand hs xs
-    → AtLatest (λ s. IsTaken buffer answer left s t) hs → AllStand (goes_on t [] (gives answer left) [] hs) xs
+    → AtLatest (λ s. IsTaken buffer answer left s t) hs → AllStand (goes_on t [] (popped_items answer left) [] hs) xs
 list-taken buffer answer left t [] xs stand step = absurd step
 list-taken buffer answer left t (h ∷ hs) [] stand step = absurd stand
 list-taken buffer answer left t (h ∷ hs) (x ∷ xs) stand step = (taken-stands buffer answer left h t x step stand.0, stand.1)
 
 list-pulled : (buffer : List ℕ) (answer : Pop) (left : List ℕ) (t : StationValue) (hs : List Held) (xs : List EndState) → AllStand hs xs
-    → AtLatest (λ s. IsPulled buffer answer left s t) hs → AllStand (goes_on t [] [] (gives answer left) hs) xs
+    → AtLatest (λ s. IsPulled buffer answer left s t) hs → AllStand (goes_on t [] [] (popped_items answer left) hs) xs
 list-pulled buffer answer left t [] xs stand step = absurd step
 list-pulled buffer answer left t (h ∷ hs) [] stand step = absurd stand
 list-pulled buffer answer left t (h ∷ hs) (x ∷ xs) stand step = (pulled-stands buffer answer left h t x step stand.0, stand.1)
@@ -306,13 +306,13 @@ ends-call c ils [] = refl
 ends-call c ils (f ∷ fes) = refl
 
 record Done (x : Step) (p : Programs) (w : World) : Type 0 where
-  accepted : accepted (event_of x) w ≡ event_of x
+  accepted : accepted_events (event_of x) w ≡ event_of x
   stands : ProgramsStand (held_after x p) (run (event_of x) w)
 
-done-one : (e : Event) (q : Programs) (w : World) → refusal e w ≡ None → ProgramsStand q (changed e w)
-    → (accepted (e ∷ []) w ≡ e ∷ []) × ProgramsStand q (run (e ∷ []) w)
+done-one : (e : Event) (q : Programs) (w : World) → refusal e w ≡ None → ProgramsStand q (change_world e w)
+    → (accepted_events (e ∷ []) w ≡ e ∷ []) × ProgramsStand q (run (e ∷ []) w)
 done-one e q w none stands =
-    (ap (λ r. if is_none r then e ∷ [] else []) none, subst (λ v. ProgramsStand q v) (sym (ap (λ r. unless_refused r w (changed e w)) none)) stands)
+    (ap (λ r. if is_none r then e ∷ [] else []) none, subst (λ v. ProgramsStand q v) (sym (ap (λ r. unless_refused r w (change_world e w)) none)) stands)
 
 step-done : TurnsLaw → (x : Step) (p : Programs) (w : World) → ProgramsStand p w → IsStep x p → OpensLater x p → Done x p w
 step-done turns (Opens Interlocking config first_sn rooms now (Err f)) p w h step later = record { accepted = refl; stands = h }
@@ -351,20 +351,20 @@ step-done turns (Pulls FieldElement buffer answer left t) p w h step later =
 
 run-append : (es fs : List Event) (w : World) → run (es ++ fs) w ≡ run fs (run es w)
 run-append [] fs w = refl
-run-append (e ∷ es) fs w = run-append es fs (happens w e)
+run-append (e ∷ es) fs w = run-append es fs (apply_event w e)
 
-accepted-append : (es fs : List Event) (w : World) → accepted (es ++ fs) w ≡ accepted es w ++ accepted fs (run es w)
+accepted-append : (es fs : List Event) (w : World) → accepted_events (es ++ fs) w ≡ accepted_events es w ++ accepted_events fs (run es w)
 accepted-append [] fs w = refl
-accepted-append (e ∷ es) fs w = grind (arith, accepted-append es fs (happens w e))
+accepted-append (e ∷ es) fs w = grind (arith, accepted-append es fs (apply_event w e))
 
 -- a list of steps
 steps-done : TurnsLaw → (xs : List Step) (p : Programs) (w : World) → ProgramsStand p w → AreSteps xs p → AllLater xs p
-    → (accepted (events_of xs) w ≡ events_of xs) × ProgramsStand (programs xs p) (run (events_of xs) w)
+    → (accepted_events (events_of xs) w ≡ events_of xs) × ProgramsStand (programs xs p) (run (events_of xs) w)
 steps-done turns [] p w h steps later = (refl, h)
 steps-done turns (x ∷ xs) p w h steps later =
     let one = step-done turns x p w h steps.0 later.0 in
     let more = steps-done turns xs (held_after x p) (run (event_of x) w) one.stands steps.1 later.1 in (
-      accepted-append (event_of x) (events_of xs) w ∙ (ap (λ es. es ++ accepted (events_of xs) (run (event_of x) w)) one.accepted
+      accepted-append (event_of x) (events_of xs) w ∙ (ap (λ es. es ++ accepted_events (events_of xs) (run (event_of x) w)) one.accepted
           ∙ ap (λ es. event_of x ++ es) more.0),
       subst (λ v. ProgramsStand (programs xs (held_after x p)) v) (sym (run-append (event_of x) (events_of xs) w)) more.1,
     )

@@ -6,7 +6,7 @@ use Rattle.stack_end.specs.Turns.{is_settled}
 use Rattle.stack_engine.specs.Freshness.{AllFresh}
 use Rattle.stack_engine.specs.Headline.{JoinedBelow, next_bound}
 use Rattle.stack_engine.specs.Joins.{joins_in}
-use Rattle.stack_engine.specs.Pairs.{accepted, run, start}
+use Rattle.stack_engine.specs.Pairs.{accepted_events, run, start}
 use Rattle.stack_engine.specs.Premise.{AreTyped, Genuine}
 use Rattle.stack_engine.specs.Settled.{is_number}
 use Rattle.station_pair.specs.Network.{AllCarried, Opening, SameCode, both_open, session}
@@ -15,7 +15,7 @@ use Rattle.station_pair.specs.Steps.{AllLater, AreSteps, Held, Programs, Step, e
 
 -- the stations represent the ends of a pair to which the calls happened as events
 pub record Follows (steps : List Step) : Type 0 where
-  pub accepted : accepted (events_of steps) start ≡ events_of steps  -- no event is refused
+  pub accepted : accepted_events (events_of steps) start ≡ events_of steps  -- no event is refused
   pub stands : ProgramsStand (programs steps nothing) (run (events_of steps) start)  -- the stations represent that pair's ends
 
 -- this holds for every list of calls of two programs that open a side again no earlier than its last call

@@ -13,7 +13,7 @@ use Rattle.stack_end.specs.Ends.{Call}
 use Rattle.stack_end.specs.Ends.Call.{Deliver}
 use Rattle.stack_engine.specs.Pairs.{start}
 use Rattle.stack_engine.specs.Premise.{Genuine}
-use Rattle.station_pair.specs.Steps.{AreSteps, Called, Held, Opens, Programs, Step, events_of, held, held_after, new_held, nothing}
+use Rattle.station_pair.specs.Steps.{AreSteps, Called, Held, Opens, Programs, Step, events_of, stations_of, held_after, new_held, nothing}
 
 -- the other side
 abbrev pub other : Side → Side
@@ -37,7 +37,7 @@ Arrives _ hs = Unit {0}
 
 -- a step keeps this, and opens no side again
 abbrev pub IsCarried : Step → Programs → Type 0
-IsCarried (Called side c (Ok o) t) p = Arrives c (held (other side) p)
+IsCarried (Called side c (Ok o) t) p = Arrives c (stations_of (other side) p)
 IsCarried (Opens side config first_sn rooms now (Ok s)) p = ⊥
 IsCarried _ p = Unit {0}
 

@@ -41,9 +41,9 @@ abbrev pub nothing : Programs
 nothing = record { ils = []; fes = [] }
 
 -- the stations of a side
-abbrev pub held : Side → Programs → List Held
-held Interlocking p = p.ils
-held FieldElement p = p.fes
+abbrev pub stations_of : Side → Programs → List Held
+stations_of Interlocking p = p.ils
+stations_of FieldElement p = p.fes
 
 -- P holds of the latest station, and there is one
 abbrev pub AtLatest : (StationValue → Type 0) → List Held → Type 0
@@ -54,9 +54,9 @@ AtLatest P (h ∷ before) = P h.station
 abbrev pub IsStep : Step → Programs → Type 0
 IsStep (Opens side config first_sn rooms now (Ok s)) p = IsOpened side config first_sn rooms now s
 IsStep (Opens side config first_sn rooms now (Err f)) p = Unit {0}
-IsStep (Called side c answer t) p = AtLatest (λ s. IsAnswered c answer s t) (held side p)
-IsStep (Takes side buffer answer left t) p = AtLatest (λ s. IsTaken buffer answer left s t) (held side p)
-IsStep (Pulls side buffer answer left t) p = AtLatest (λ s. IsPulled buffer answer left s t) (held side p)
+IsStep (Called side c answer t) p = AtLatest (λ s. IsAnswered c answer s t) (stations_of side p)
+IsStep (Takes side buffer answer left t) p = AtLatest (λ s. IsTaken buffer answer left s t) (stations_of side p)
+IsStep (Pulls side buffer answer left t) p = AtLatest (λ s. IsPulled buffer answer left s t) (stations_of side p)
 
 -- the telegram that an accepted put adds
 abbrev pub puts_by : Result Outcome CallFault → Call → List Item
@@ -64,9 +64,9 @@ puts_by (Ok o) c = puts_in c
 puts_by (Err f) c = []
 
 -- what a successful pop returns: a tag, and the bytes at the start of the buffer
-abbrev pub gives : Pop → (left : List ℕ) → List (ℕ × List ℕ)
-gives (Ok (Some (tag, size))) left = (tag, take size left) ∷ []
-gives _ left = []
+abbrev pub popped_items : Pop → (left : List ℕ) → List (ℕ × List ℕ)
+popped_items (Ok (Some (tag, size))) left = (tag, take size left) ∷ []
+popped_items _ left = []
 
 -- the programs with these stations of a side
 abbrev pub with_held : Side → List Held → Programs → Programs
@@ -78,9 +78,9 @@ abbrev pub new_held : StationValue → Held
 new_held s = record { station = s; put = []; given = []; pulled = [] }
 
 -- an opening that succeeds adds a station
-abbrev pub opens : Result StationValue StationFault → List Held → List Held
-opens (Ok s) hs = new_held s ∷ hs
-opens (Err f) hs = hs
+abbrev pub add_opened : Result StationValue StationFault → List Held → List Held
+add_opened (Ok s) hs = new_held s ∷ hs
+add_opened (Err f) hs = hs
 
 -- a station after a call, with what was put, given and pulled
 abbrev pub called : StationValue → (put given : List Item) → (pulled : List Sending) → Held → Held
@@ -93,10 +93,10 @@ goes_on t put given pulled (h ∷ before) = called t put given pulled h ∷ befo
 
 -- both programs after a step
 abbrev pub held_after : Step → Programs → Programs
-held_after (Opens side config first_sn rooms now answer) p = with_held side (opens answer (held side p)) p
-held_after (Called side c answer t) p = with_held side (goes_on t (puts_by answer c) [] [] (held side p)) p
-held_after (Takes side buffer answer left t) p = with_held side (goes_on t [] (gives answer left) [] (held side p)) p
-held_after (Pulls side buffer answer left t) p = with_held side (goes_on t [] [] (gives answer left) (held side p)) p
+held_after (Opens side config first_sn rooms now answer) p = with_held side (add_opened answer (stations_of side p)) p
+held_after (Called side c answer t) p = with_held side (goes_on t (puts_by answer c) [] [] (stations_of side p)) p
+held_after (Takes side buffer answer left t) p = with_held side (goes_on t [] (popped_items answer left) [] (stations_of side p)) p
+held_after (Pulls side buffer answer left t) p = with_held side (goes_on t [] [] (popped_items answer left) (stations_of side p)) p
 
 -- the contracts allow every step of a list
 abbrev pub AreSteps : List Step → Programs → Type 0
@@ -115,7 +115,7 @@ IsLater now (h ∷ before) = h.station.time ≤ now
 
 -- a side is opened again no earlier than its last call: no contract ensures this, the program must
 abbrev pub OpensLater : Step → Programs → Type 0
-OpensLater (Opens side config first_sn rooms now (Ok s)) p = IsLater now (held side p)
+OpensLater (Opens side config first_sn rooms now (Ok s)) p = IsLater now (stations_of side p)
 OpensLater _ p = Unit {0}
 
 -- this of every step of a list

@@ -2,9 +2,9 @@
 
 use crate::assertions::{assert_equal, assert_true};
 use capture::{
-    Address, Following, Header, Heard, Host, Instant, Judged, LineFault, PAYLOAD_ROOM, Record,
-    Remark, Remarks, Span, Totals, Window, hear, is_between, judge, note, read_instant, read_line,
-    sum_up,
+    Address, DecodedDatagram, Follower, Header, Host, Instant, LineFault, NumberOrder,
+    PAYLOAD_ROOM, Record, Remark, Remarks, Span, Totals, Window, hear, is_between, judge, note,
+    read_instant, read_line, sum_up,
 };
 use red_layer::pdu::RedFault;
 use safe_pdu::{CodeLength, CodeRule, Kind, Leaving, SafeFault};
@@ -35,7 +35,7 @@ fn reads_a_heartbeat(rt: HostRuntime) {
         initial_value: [0; 4],
     };
     match hear(buffer.get(..36).unwrap_or(&[]), &rule) {
-        Heard::Pdu(seq, header) => {
+        DecodedDatagram::Pdu(seq, header) => {
             assert_equal(&rt, seq, 0);
             assert_equal(&rt, header.kind, Kind::Heartbeat);
             assert_equal(&rt, (header.receiver, header.sender), (2, 1));
@@ -47,7 +47,7 @@ fn reads_a_heartbeat(rt: HostRuntime) {
     assert_equal(
         &rt,
         hear(buffer.get(..7).unwrap_or(&[]), &rule),
-        Heard::NoRed(RedFault::Short),
+        DecodedDatagram::NoRed(RedFault::Short),
     );
 }
 
@@ -139,10 +139,10 @@ fn record(time: u64, channel: u8, back: bool) -> Record {
     }
 }
 
-fn pdu(seq: u32, ends: (u32, u32), sn: u32, stamps: (u32, u32)) -> Heard {
+fn pdu(seq: u32, ends: (u32, u32), sn: u32, stamps: (u32, u32)) -> DecodedDatagram {
     let (sender, receiver) = ends;
     let (ts, cts) = stamps;
-    Heard::Pdu(
+    DecodedDatagram::Pdu(
         seq,
         Header {
             kind: Kind::Data,
@@ -169,9 +169,9 @@ fn told(remark: Remark) -> Option<Remarks> {
 /// Remarks on a PDU that is neither sent again nor a DiscReq, of an end to which nothing was confirmed.
 fn remarks(
     route: usize,
-    channel: Judged,
-    together: Judged,
-    sequence: Option<Judged>,
+    channel: NumberOrder,
+    together: NumberOrder,
+    sequence: Option<NumberOrder>,
     age: Option<u32>,
 ) -> Option<Remarks> {
     Some(Remarks {
@@ -192,10 +192,10 @@ fn remarks(
 // A damaged datagram whose good copy the receiver drops as old, and a RetrReq for a PDU that was recorded.
 #[test]
 fn names_damage_and_what_is_asked_for(rt: HostRuntime) -> Result<(), Fail> {
-    let mut all = Following::new(rt.alloc())?;
+    let mut all = Follower::new(rt.alloc())?;
     let _first = all.hear(1, &record(1000, 0, false), &pdu(5, (1, 2), 10, (100, 0)));
     let _copy = all.hear(2, &record(1010, 1, false), &pdu(5, (1, 2), 10, (100, 0)));
-    let damaged = Heard::NoSafe(6, SafeFault::Code);
+    let damaged = DecodedDatagram::NoSafe(6, SafeFault::Code);
     let _damaged = all.hear(3, &record(2000, 0, false), &damaged);
     let late = told(all.hear(4, &record(2020, 1, false), &pdu(6, (1, 2), 11, (200, 0))));
     assert_equal(&rt, late.map(|remarks| remarks.damaged), Some(Some(3)));
@@ -214,16 +214,16 @@ fn names_damage_and_what_is_asked_for(rt: HostRuntime) -> Result<(), Fail> {
         fingerprint: 1,
         leaving: None,
     };
-    let asks = told(all.hear(7, &record(2100, 0, true), &Heard::Pdu(0, request)));
+    let asks = told(all.hear(7, &record(2100, 0, true), &DecodedDatagram::Pdu(0, request)));
     assert_equal(&rt, asks.map(|remarks| remarks.asks), Some(Some(4)));
-    let copy = told(all.hear(8, &record(2110, 1, true), &Heard::Pdu(0, request)));
+    let copy = told(all.hear(8, &record(2110, 1, true), &DecodedDatagram::Pdu(0, request)));
     assert_equal(&rt, copy.map(|remarks| remarks.asks), Some(None));
     let request = Header {
         sn: 901,
         cs: 12,
         ..request
     };
-    let asks = told(all.hear(9, &record(2200, 0, true), &Heard::Pdu(1, request)));
+    let asks = told(all.hear(9, &record(2200, 0, true), &DecodedDatagram::Pdu(1, request)));
     assert_equal(&rt, asks.map(|remarks| remarks.asks), Some(None));
     Ok(())
 }
@@ -231,18 +231,24 @@ fn names_damage_and_what_is_asked_for(rt: HostRuntime) -> Result<(), Fail> {
 // Two channels: a copy, a gap that is closed late on the other channel, an answer with its age, and a repeat.
 #[test]
 fn follows_two_channels(rt: HostRuntime) -> Result<(), Fail> {
-    let mut all = Following::new(rt.alloc())?;
+    let mut all = Follower::new(rt.alloc())?;
     let first = told(all.hear(1, &record(1000, 0, false), &pdu(0, (1, 2), 10, (100, 0))));
     assert_equal(
         &rt,
         first,
-        remarks(0, Judged::First, Judged::First, Some(Judged::First), None),
+        remarks(
+            0,
+            NumberOrder::First,
+            NumberOrder::First,
+            Some(NumberOrder::First),
+            None,
+        ),
     );
     let copy = told(all.hear(2, &record(1001, 1, false), &pdu(0, (1, 2), 10, (100, 0))));
     assert_equal(
         &rt,
         copy,
-        remarks(1, Judged::First, Judged::Repeat(1), None, None),
+        remarks(1, NumberOrder::First, NumberOrder::Repeat(1), None, None),
     );
     let gap = told(all.hear(3, &record(4000, 0, false), &pdu(3, (1, 2), 13, (130, 0))));
     assert_equal(
@@ -250,9 +256,9 @@ fn follows_two_channels(rt: HostRuntime) -> Result<(), Fail> {
         gap,
         remarks(
             0,
-            Judged::Ahead(2),
-            Judged::Ahead(2),
-            Some(Judged::Ahead(2)),
+            NumberOrder::Ahead(2),
+            NumberOrder::Ahead(2),
+            Some(NumberOrder::Ahead(2)),
             None,
         ),
     );
@@ -260,7 +266,13 @@ fn follows_two_channels(rt: HostRuntime) -> Result<(), Fail> {
     assert_equal(
         &rt,
         late,
-        remarks(1, Judged::Next, Judged::Late, Some(Judged::Late), None),
+        remarks(
+            1,
+            NumberOrder::Next,
+            NumberOrder::Late,
+            Some(NumberOrder::Late),
+            None,
+        ),
     );
     let answer = told(all.hear(5, &record(5000, 0, true), &pdu(7, (2, 1), 500, (9, 100))));
     assert_equal(
@@ -268,9 +280,9 @@ fn follows_two_channels(rt: HostRuntime) -> Result<(), Fail> {
         answer,
         remarks(
             0,
-            Judged::First,
-            Judged::First,
-            Some(Judged::First),
+            NumberOrder::First,
+            NumberOrder::First,
+            Some(NumberOrder::First),
             Some(30),
         ),
     );
@@ -278,9 +290,19 @@ fn follows_two_channels(rt: HostRuntime) -> Result<(), Fail> {
     assert_equal(
         &rt,
         again,
-        remarks(0, Judged::Repeat(3), Judged::Repeat(3), None, Some(9)),
+        remarks(
+            0,
+            NumberOrder::Repeat(3),
+            NumberOrder::Repeat(3),
+            None,
+            Some(9),
+        ),
     );
-    let broken = all.hear(7, &record(7000, 0, false), &Heard::NoRed(RedFault::Length));
+    let broken = all.hear(
+        7,
+        &record(7000, 0, false),
+        &DecodedDatagram::NoRed(RedFault::Length),
+    );
     assert_equal(&rt, broken, Remark::NoRed(RedFault::Length));
     assert_equal(&rt, all.damaged, 1);
     let wanted = Totals {
@@ -299,7 +321,7 @@ fn follows_two_channels(rt: HostRuntime) -> Result<(), Fail> {
 // One connection too many takes the place of the one that was silent longest.
 #[test]
 fn forgets_the_one_silent_longest(rt: HostRuntime) -> Result<(), Fail> {
-    let mut all = Following::new(rt.alloc())?;
+    let mut all = Follower::new(rt.alloc())?;
     for end in 1..258u32 {
         let _remark = all.hear(
             end as u64,
@@ -322,7 +344,7 @@ fn forgets_the_one_silent_longest(rt: HostRuntime) -> Result<(), Fail> {
 // A connection that an end has left gives way first, even if it was heard last.
 #[test]
 fn forgets_the_one_that_was_left(rt: HostRuntime) -> Result<(), Fail> {
-    let mut all = Following::new(rt.alloc())?;
+    let mut all = Follower::new(rt.alloc())?;
     for end in 1..257u32 {
         let _remark = all.hear(
             end as u64,
@@ -344,7 +366,11 @@ fn forgets_the_one_that_was_left(rt: HostRuntime) -> Result<(), Fail> {
             reason: 0,
         }),
     };
-    let _left = all.hear(257, &record(257, 0, false), &Heard::Pdu(1, leaves));
+    let _left = all.hear(
+        257,
+        &record(257, 0, false),
+        &DecodedDatagram::Pdu(1, leaves),
+    );
     let _further = all.hear(258, &record(258, 0, false), &pdu(0, (257, 100), 1, (1, 0)));
     let ends = all.connections.as_slice();
     assert_equal(&rt, ends.len(), 256);
@@ -357,13 +383,17 @@ fn forgets_the_one_that_was_left(rt: HostRuntime) -> Result<(), Fail> {
 #[test]
 fn goes_round_and_begins_anew(rt: HostRuntime) {
     let mut window = Window::new();
-    assert_equal(&rt, note(&mut window, u32::MAX, 1, 0), Judged::First);
-    assert_equal(&rt, note(&mut window, 0, 2, 0), Judged::Next);
-    assert_equal(&rt, note(&mut window, 65_536, 3, 0), Judged::Ahead(65_535));
-    assert_equal(&rt, note(&mut window, 4_000_000, 4, 0), Judged::Anew);
-    assert_equal(&rt, note(&mut window, 4_000_001, 5, 0), Judged::Next);
-    assert_equal(&rt, note(&mut window, 0, 6, 0), Judged::Stale);
-    assert_equal(&rt, note(&mut window, 4_000_002, 7, 0), Judged::Next);
+    assert_equal(&rt, note(&mut window, u32::MAX, 1, 0), NumberOrder::First);
+    assert_equal(&rt, note(&mut window, 0, 2, 0), NumberOrder::Next);
+    assert_equal(
+        &rt,
+        note(&mut window, 65_536, 3, 0),
+        NumberOrder::Ahead(65_535),
+    );
+    assert_equal(&rt, note(&mut window, 4_000_000, 4, 0), NumberOrder::Anew);
+    assert_equal(&rt, note(&mut window, 4_000_001, 5, 0), NumberOrder::Next);
+    assert_equal(&rt, note(&mut window, 0, 6, 0), NumberOrder::Stale);
+    assert_equal(&rt, note(&mut window, 4_000_002, 7, 0), NumberOrder::Next);
     assert_equal(&rt, (window.missing, window.stale), (65_535, 1));
 }
 
@@ -372,18 +402,18 @@ fn goes_round_and_begins_anew(rt: HostRuntime) {
 #[test]
 fn keeps_the_newest(rt: HostRuntime) -> Result<(), Fail> {
     let mut window = Window::new();
-    assert_equal(&rt, note(&mut window, 60, 1, 0), Judged::First);
-    assert_equal(&rt, judge(&window, 59, 0), Judged::Stale);
-    assert_equal(&rt, note(&mut window, 100, 2, 7), Judged::Ahead(39));
-    assert_equal(&rt, judge(&window, 68, 0), Judged::Stale);
-    assert_equal(&rt, note(&mut window, 69, 3, 0), Judged::Late);
-    assert_equal(&rt, judge(&window, 100, 7), Judged::Repeat(2));
-    assert_equal(&rt, judge(&window, 100, 8), Judged::Differs(2));
+    assert_equal(&rt, note(&mut window, 60, 1, 0), NumberOrder::First);
+    assert_equal(&rt, judge(&window, 59, 0), NumberOrder::Stale);
+    assert_equal(&rt, note(&mut window, 100, 2, 7), NumberOrder::Ahead(39));
+    assert_equal(&rt, judge(&window, 68, 0), NumberOrder::Stale);
+    assert_equal(&rt, note(&mut window, 69, 3, 0), NumberOrder::Late);
+    assert_equal(&rt, judge(&window, 100, 7), NumberOrder::Repeat(2));
+    assert_equal(&rt, judge(&window, 100, 8), NumberOrder::Differs(2));
     Ok(())
 }
 
-fn opening(seq: u32, sn: u32, ts: u32) -> Heard {
-    Heard::Pdu(
+fn opening(seq: u32, sn: u32, ts: u32) -> DecodedDatagram {
+    DecodedDatagram::Pdu(
         seq,
         Header {
             kind: Kind::ConnReq,
@@ -402,7 +432,7 @@ fn opening(seq: u32, sn: u32, ts: u32) -> Heard {
 // A process that was started anew begins with the same octets: behind another PDU of its end on that channel they open.
 #[test]
 fn opens_with_the_same_octets(rt: HostRuntime) -> Result<(), Fail> {
-    let mut all = Following::new(rt.alloc())?;
+    let mut all = Follower::new(rt.alloc())?;
     for line in [1, 3u64] {
         let first = told(all.hear(line, &record(line, 0, false), &opening(0, 900, 7)));
         assert_true(&rt, first.is_some_and(|remarks| remarks.opens));
@@ -413,13 +443,13 @@ fn opens_with_the_same_octets(rt: HostRuntime) -> Result<(), Fail> {
         ));
         assert_true(
             &rt,
-            beat.is_some_and(|remarks| remarks.together == Judged::Next),
+            beat.is_some_and(|remarks| remarks.together == NumberOrder::Next),
         );
     }
     let copy = told(all.hear(5, &record(5, 1, false), &opening(0, 900, 7)));
     assert_true(
         &rt,
-        copy.is_some_and(|remarks| !remarks.opens && remarks.together == Judged::Repeat(3)),
+        copy.is_some_and(|remarks| !remarks.opens && remarks.together == NumberOrder::Repeat(3)),
     );
     Ok(())
 }
@@ -427,7 +457,7 @@ fn opens_with_the_same_octets(rt: HostRuntime) -> Result<(), Fail> {
 // A copy more than 31 numbers late changes nothing; a new ConnReq begins all numbers, and a copy of it does not.
 #[test]
 fn opens_again(rt: HostRuntime) -> Result<(), Fail> {
-    let mut all = Following::new(rt.alloc())?;
+    let mut all = Follower::new(rt.alloc())?;
     for seq in 0..50u32 {
         let at = seq as u64 + 1;
         let _remark = all.hear(at, &record(at, 0, false), &pdu(seq, (1, 2), seq, (100, 0)));
@@ -436,20 +466,26 @@ fn opens_again(rt: HostRuntime) -> Result<(), Fail> {
     assert_equal(
         &rt,
         stale,
-        remarks(1, Judged::First, Judged::Stale, None, None),
+        remarks(1, NumberOrder::First, NumberOrder::Stale, None, None),
     );
     let next = told(all.hear(52, &record(52, 0, false), &pdu(50, (1, 2), 50, (150, 0))));
     assert_equal(
         &rt,
         next,
-        remarks(0, Judged::Next, Judged::Next, Some(Judged::Next), None),
+        remarks(
+            0,
+            NumberOrder::Next,
+            NumberOrder::Next,
+            Some(NumberOrder::Next),
+            None,
+        ),
     );
     let fresh = Remarks {
         opens: true,
         route: 0,
-        channel: Some(Judged::First),
-        together: Judged::First,
-        sequence: Some(Judged::First),
+        channel: Some(NumberOrder::First),
+        together: NumberOrder::First,
+        sequence: Some(NumberOrder::First),
         resent: false,
         damaged: None,
         asks: None,
@@ -466,7 +502,7 @@ fn opens_again(rt: HostRuntime) -> Result<(), Fail> {
     assert_equal(
         &rt,
         copy,
-        remarks(1, Judged::First, Judged::Repeat(53), None, None),
+        remarks(1, NumberOrder::First, NumberOrder::Repeat(53), None, None),
     );
     let wanted = Totals {
         heard: 52,
@@ -483,20 +519,20 @@ fn opens_again(rt: HostRuntime) -> Result<(), Fail> {
 // A client that heard nothing leaves directly behind its ConnReq and confirms nothing; a later DiscReq confirms.
 #[test]
 fn ages_no_goodbye_that_confirms_nothing(rt: HostRuntime) -> Result<(), Fail> {
-    let mut all = Following::new(rt.alloc())?;
-    let server = Heard::Pdu(9, leaving((2, 1), u32::MAX, (1900, 0)));
+    let mut all = Follower::new(rt.alloc())?;
+    let server = DecodedDatagram::Pdu(9, leaving((2, 1), u32::MAX, (1900, 0)));
     let _remark = all.hear(1, &record(1, 0, true), &server);
     let _remark = all.hear(2, &record(2, 0, false), &opening(0, u32::MAX, 1600));
     let unheard = told(all.hear(
         3,
         &record(3, 0, false),
-        &Heard::Pdu(1, leaving((1, 2), 0, (1950, 0))),
+        &DecodedDatagram::Pdu(1, leaving((1, 2), 0, (1950, 0))),
     ));
     assert_true(&rt, unheard.is_some_and(|remarks| remarks.age.is_none()));
     let heard = told(all.hear(
         4,
         &record(4, 0, false),
-        &Heard::Pdu(2, leaving((1, 2), 1, (1960, 0))),
+        &DecodedDatagram::Pdu(2, leaving((1, 2), 1, (1960, 0))),
     ));
     assert_true(&rt, heard.is_some_and(|remarks| remarks.age == Some(1900)));
     Ok(())
@@ -523,12 +559,12 @@ fn leaving(ends: (u32, u32), sn: u32, stamps: (u32, u32)) -> Header {
 // channel the one heard last counts it, and on an unknown pair of addresses none does.
 #[test]
 fn counts_damage_by_channel(rt: HostRuntime) -> Result<(), Fail> {
-    let mut all = Following::new(rt.alloc())?;
+    let mut all = Follower::new(rt.alloc())?;
     let _remark = all.hear(1, &record(1, 0, false), &pdu(0, (1, 2), 10, (100, 0)));
     let _remark = all.hear(2, &record(2, 1, true), &pdu(0, (2, 1), 20, (200, 100)));
     let _remark = all.hear(3, &record(3, 3, false), &pdu(1, (1, 2), 11, (110, 0)));
     let _remark = all.hear(4, &record(4, 1, true), &pdu(0, (5, 4), 30, (300, 0)));
-    let broken = Heard::NoRed(RedFault::Length);
+    let broken = DecodedDatagram::NoRed(RedFault::Length);
     let _remark = all.hear(5, &record(5, 0, true), &broken);
     let _remark = all.hear(6, &record(6, 1, false), &broken);
     let _remark = all.hear(7, &record(7, 1, false), &broken);
@@ -549,11 +585,16 @@ fn counts_damage_by_channel(rt: HostRuntime) -> Result<(), Fail> {
 }
 
 /// A PDU of an end with these SN and CS, TS and CTS; its redundancy number is the last digit of its SN.
-fn confirming(kind: Kind, ends: (u32, u32), numbers: (u32, u32), stamps: (u32, u32)) -> Heard {
+fn confirming(
+    kind: Kind,
+    ends: (u32, u32),
+    numbers: (u32, u32),
+    stamps: (u32, u32),
+) -> DecodedDatagram {
     let (sender, receiver) = ends;
     let (sn, cs) = numbers;
     let (ts, cts) = stamps;
-    Heard::Pdu(
+    DecodedDatagram::Pdu(
         sn % 10,
         Header {
             kind,
@@ -573,7 +614,7 @@ fn confirming(kind: Kind, ends: (u32, u32), numbers: (u32, u32), stamps: (u32, u
 // not take does not count. A copy has no wait, and behind a new opening a timestamp from before it has no age.
 #[test]
 fn waits_for_a_confirmation(rt: HostRuntime) -> Result<(), Fail> {
-    let mut all = Following::new(rt.alloc())?;
+    let mut all = Follower::new(rt.alloc())?;
     let il = (1u32, 2u32);
     let fe = (2u32, 1u32);
     let cases = [
@@ -640,7 +681,7 @@ fn waits_for_a_confirmation(rt: HostRuntime) -> Result<(), Fail> {
     ];
     let mut line = 0u64;
     for (channel, heard, age, waits) in cases {
-        let back = matches!(heard, Heard::Pdu(_, header) if header.sender == 2);
+        let back = matches!(heard, DecodedDatagram::Pdu(_, header) if header.sender == 2);
         line = line.wrapping_add(1);
         let remarks = told(all.hear(line, &record(line, channel, back), &heard));
         assert_true(

@@ -1,8 +1,10 @@
 //! Whole captures, and the text that is to be printed of each, worked out by hand.
 
 use crate::assertions::{assert_equal, assert_true};
-use capture::{Judged, Remarks, Span};
-use capture_text::{Asked, FollowStatus, OutputForm, Remarkable, TimeForm, run, write_remarks};
+use capture::{NumberOrder, Remarks, Span};
+use capture_text::{
+    FollowOptions, FollowStatus, OutputForm, Remarkable, TimeForm, run, write_remarks,
+};
 use md4::INITIAL_VALUE;
 use safe_pdu::{CodeLength, CodeRule, Kind, Leaving};
 use std::alloc::Allocator;
@@ -102,7 +104,7 @@ type Line = (u32, u8, bool, Pdu);
 fn follows(
     rt: &(impl AllocGlobal + Abort),
     lines: &[Line],
-    asked: &Asked,
+    asked: &FollowOptions,
     wanted: &str,
 ) -> Result<(), Fail> {
     let mut text = Vec::new(rt.alloc());
@@ -116,7 +118,7 @@ fn follows(
 fn prints(
     rt: &(impl AllocGlobal + Abort),
     text: &[u8],
-    asked: &Asked,
+    asked: &FollowOptions,
     status: FollowStatus,
     wanted: &str,
     faults: &str,
@@ -129,8 +131,8 @@ fn prints(
     Ok(())
 }
 
-fn asked(length: CodeLength, only: Option<Remarkable>) -> Asked {
-    Asked {
+fn asked(length: CodeLength, only: Option<Remarkable>) -> FollowOptions {
+    FollowOptions {
         rule: CodeRule {
             length,
             initial_value: INITIAL_VALUE,
@@ -178,7 +180,7 @@ fn tells_events(rt: HostRuntime) -> Result<(), Fail> {
     put(&mut text, 1_800_040, 1, false, leaves)?;
     put_front(&mut text, 1_900_000, 0, true)?;
     text.extend_from_slice(b"00\n")?;
-    let choice = Asked {
+    let choice = FollowOptions {
         form: OutputForm::Events,
         only: Some(Remarkable::Fault),
         ..asked(CodeLength::Zero, None)
@@ -192,7 +194,7 @@ fn tells_events(rt: HostRuntime) -> Result<(), Fail> {
 \"layer\":\"red\",\"fault\":1,\"name\":\"Short\"}
 {\"first\":1700000000000000,\"t_max\":1800,";
     assert_true(&rt, out.as_slice().starts_with(wanted.as_bytes()));
-    let choice = Asked {
+    let choice = FollowOptions {
         only: None,
         ..choice
     };
@@ -405,9 +407,9 @@ fn writes_remarks(rt: HostRuntime) -> Result<(), Fail> {
     let quiet = Remarks {
         opens: false,
         route: 0,
-        channel: Some(Judged::First),
-        together: Judged::Next,
-        sequence: Some(Judged::Next),
+        channel: Some(NumberOrder::First),
+        together: NumberOrder::Next,
+        sequence: Some(NumberOrder::Next),
         resent: false,
         damaged: None,
         asks: None,
@@ -420,9 +422,9 @@ fn writes_remarks(rt: HostRuntime) -> Result<(), Fail> {
     let loud = Remarks {
         opens: true,
         route: 0,
-        channel: Some(Judged::Repeat(12)),
-        together: Judged::Late,
-        sequence: Some(Judged::Ahead(2)),
+        channel: Some(NumberOrder::Repeat(12)),
+        together: NumberOrder::Late,
+        sequence: Some(NumberOrder::Ahead(2)),
         resent: true,
         damaged: Some(10),
         asks: Some(8),

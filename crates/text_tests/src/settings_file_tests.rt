@@ -1,7 +1,7 @@
 use crate::assertions::{assert_equal, assert_equal_at, assert_true, assert_true_at};
 use end_settings::Side;
 use settings_file::{
-    Ends, Settings, SettingsFault, Warning, Word, findings, settings, warnings, word_of,
+    Ends, Settings, SettingsFault, Subcommand, Warning, findings, settings, warnings, word_of,
 };
 use std::test::Fail;
 
@@ -27,219 +27,235 @@ fn text_of(alloc: std::alloc::Global, more: &str) -> Result<String, Fail> {
 }
 
 // What the second line of a refusal says of a file, which has these keys beside the required ones; nothing where it is read.
-fn said(alloc: std::alloc::Global, word: Word, text: &str) -> Result<String, Fail> {
+fn said(alloc: std::alloc::Global, word: Subcommand, text: &str) -> Result<String, Fail> {
     match settings(alloc, word, text) {
         Ok(_) => Ok(String::new(alloc)),
         Err(fault) => Ok(format!(in alloc; "{fault}")?),
     }
 }
 
-const FAULTS: [(Word, &str, &str); 52] = [
-    (Word::Il, "", ""),
-    (Word::Fe, "", ""),
-    (Word::Il, "q==1\n", "line 7: not valid TOML"),
-    (Word::Il, "q=1\nq=2\n", "line 8: not valid TOML"),
-    (Word::Il, "nonsense=1\n", "nonsense: unknown key"),
-    (Word::Il, "[il]\nq=1\n", "il: unknown key"),
-    (Word::Pair, "", "id: unknown key"),
+const FAULTS: [(Subcommand, &str, &str); 52] = [
+    (Subcommand::Il, "", ""),
+    (Subcommand::Fe, "", ""),
+    (Subcommand::Il, "q==1\n", "line 7: not valid TOML"),
+    (Subcommand::Il, "q=1\nq=2\n", "line 8: not valid TOML"),
+    (Subcommand::Il, "nonsense=1\n", "nonsense: unknown key"),
+    (Subcommand::Il, "[il]\nq=1\n", "il: unknown key"),
+    (Subcommand::Pair, "", "id: unknown key"),
     (
-        Word::Il,
+        Subcommand::Il,
         "id=\"x\"\n",
         "id: expected 0 to 4294967295, found another value",
     ),
     (
-        Word::Il,
+        Subcommand::Il,
         "id=4294967296\n",
         "id: expected 0 to 4294967295, found 4294967296",
     ),
     (
-        Word::Il,
+        Subcommand::Il,
         "id=2\n",
         "peer_id: expected a number other than id, found 2",
     ),
     (
-        Word::Il,
+        Subcommand::Il,
         "peer_id=-1\n",
         "peer_id: expected 0 to 4294967295, found -1",
     ),
     (
-        Word::Il,
+        Subcommand::Il,
         "name=''\n",
         "name: expected 1 to 20 printable ASCII characters, no space or underscore, found another value",
     ),
     (
-        Word::Il,
+        Subcommand::Il,
         "name=7\n",
         "name: expected 1 to 20 printable ASCII characters, no space or underscore, found 7",
     ),
     (
-        Word::Il,
+        Subcommand::Il,
         "peer_name='A_B'\n",
         "peer_name: expected 1 to 20 printable ASCII characters, no space or underscore, found another value",
     ),
     (
-        Word::Il,
+        Subcommand::Il,
         "protocol=256\n",
         "protocol: expected 0 to 255, found 256",
     ),
     (
-        Word::Il,
+        Subcommand::Il,
         "version=-1\n",
         "version: expected 0 to 255, found -1",
     ),
-    (Word::Il, "versions=[1]\n", "versions: not allowed here"),
-    (Word::Fe, "versions=[1,2,3,4]\n", ""),
     (
-        Word::Fe,
+        Subcommand::Il,
+        "versions=[1]\n",
+        "versions: not allowed here",
+    ),
+    (Subcommand::Fe, "versions=[1,2,3,4]\n", ""),
+    (
+        Subcommand::Fe,
         "versions=[]\n",
         "versions: expected 1 to 4 different numbers from 0 to 255, found another value",
     ),
     (
-        Word::Fe,
+        Subcommand::Fe,
         "versions=[1,1]\n",
         "versions: expected 1 to 4 different numbers from 0 to 255, found another value",
     ),
     (
-        Word::Fe,
+        Subcommand::Fe,
         "versions=[1,2,3,4,5]\n",
         "versions: expected 1 to 4 different numbers from 0 to 255, found another value",
     ),
     (
-        Word::Fe,
+        Subcommand::Fe,
         "versions=[256]\n",
         "versions: expected 1 to 4 different numbers from 0 to 255, found another value",
     ),
     (
-        Word::Fe,
+        Subcommand::Fe,
         "version=1\nversions=[1]\n",
         "version: not allowed here",
     ),
-    (Word::Il, "code=9\n", "code: expected 8 or 16, found 9"),
     (
-        Word::Il,
+        Subcommand::Il,
+        "code=9\n",
+        "code: expected 8 or 16, found 9",
+    ),
+    (
+        Subcommand::Il,
         "checksum='0'\n",
         "checksum: expected 0 to 16 bytes as hex digits, found another value",
     ),
     (
-        Word::Il,
+        Subcommand::Il,
         "checksum='000102030405060708090a0b0c0d0e0f10'\n",
         "checksum: expected 0 to 16 bytes as hex digits, found another value",
     ),
     (
-        Word::Il,
+        Subcommand::Il,
         "iv='00'\n",
         "iv: expected 32 hex digits, found another value",
     ),
     (
-        Word::Il,
+        Subcommand::Il,
         "first_sn=4294967296\n",
         "first_sn: expected 0 to 4294967295 or \"random\", found 4294967296",
     ),
     (
-        Word::Il,
+        Subcommand::Il,
         "first_sn='Random'\n",
         "first_sn: expected 0 to 4294967295 or \"random\", found another value",
     ),
     (
-        Word::Il,
+        Subcommand::Il,
         "local=[]\n",
         "local: expected 1 to 4 texts, as many in local as in remote, found another value",
     ),
     (
-        Word::Il,
+        Subcommand::Il,
         "local=['a','b','c','d','e']\n",
         "local: expected 1 to 4 texts, as many in local as in remote, found another value",
     ),
     (
-        Word::Il,
+        Subcommand::Il,
         "local=[1]\n",
         "local: expected 1 to 4 texts, as many in local as in remote, found another value",
     ),
     (
-        Word::Il,
+        Subcommand::Il,
         "local='127.0.0.1:1'\n",
         "local: expected 1 to 4 texts, as many in local as in remote, found another value",
     ),
     (
-        Word::Il,
+        Subcommand::Il,
         "remote=['a','b']\n",
         "remote: expected 1 to 4 texts, as many in local as in remote, found another value",
     ),
     (
-        Word::Il,
+        Subcommand::Il,
         "n_sendmax=0\n",
         "n_sendmax: expected 1 to 32, found 0",
     ),
     (
-        Word::Il,
+        Subcommand::Il,
         "n_sendmax=33\n",
         "n_sendmax: expected 1 to 32, found 33",
     ),
     (
-        Word::Il,
+        Subcommand::Il,
         "n_maxpacket=4\n",
         "n_maxpacket: expected 1 to 3, found 4",
     ),
-    (Word::Il, "q=9\n", "q: expected 1 to 8, found 9"),
+    (Subcommand::Il, "q=9\n", "q: expected 1 to 8, found 9"),
     (
-        Word::Il,
+        Subcommand::Il,
         "t_max=99\n",
         "t_max: expected 100 to 60000, found 99",
     ),
     (
-        Word::Il,
+        Subcommand::Il,
         "t_max=60001\n",
         "t_max: expected 100 to 60000, found 60001",
     ),
     (
-        Word::Il,
+        Subcommand::Il,
         "t_h=1800\n",
         "t_h: expected 10 to 1799, found 1800",
     ),
-    (Word::Il, "t_h=9\n", "t_h: expected 10 to 1799, found 9"),
     (
-        Word::Il,
+        Subcommand::Il,
+        "t_h=9\n",
+        "t_h: expected 10 to 1799, found 9",
+    ),
+    (
+        Subcommand::Il,
         "t_max=200\n",
         "t_h: expected 10 to 199, found nothing",
     ),
     (
-        Word::Il,
+        Subcommand::Il,
         "t_seq=1001\n",
         "t_seq: expected 10 to 1000, found 1001",
     ),
-    (Word::Il, "mwa=17\n", "mwa: expected 1 to 16, found 17"),
     (
-        Word::Il,
+        Subcommand::Il,
+        "mwa=17\n",
+        "mwa: expected 1 to 16, found 17",
+    ),
+    (
+        Subcommand::Il,
         "pdu_limit=99\n",
         "pdu_limit: expected 100 to 4294901760, found 99",
     ),
     (
-        Word::Il,
+        Subcommand::Il,
         "pdu_limit=4294901761\n",
         "pdu_limit: expected 100 to 4294901760, found 4294901761",
     ),
     (
-        Word::Il,
+        Subcommand::Il,
         "pdu_limit=1.5\n",
         "pdu_limit: expected 100 to 4294901760, found another value",
     ),
     (
-        Word::Il,
+        Subcommand::Il,
         "puts=['0100:0a', '12:']\n",
         "puts: expected a list of texts TYPE:HEX, found another value",
     ),
     (
-        Word::Il,
+        Subcommand::Il,
         "puts=['0100:0']\n",
         "puts: expected a list of texts TYPE:HEX, found another value",
     ),
     (
-        Word::Il,
+        Subcommand::Il,
         "puts=['0100-0a']\n",
         "puts: expected a list of texts TYPE:HEX, found another value",
     ),
     (
-        Word::Il,
+        Subcommand::Il,
         "puts='0100:0a'\n",
         "puts: expected a list of texts TYPE:HEX, found another value",
     ),
@@ -293,13 +309,13 @@ fn names_what_is_missing(rt: HostRuntime) -> Result<(), Fail> {
     ] {
         assert_equal(
             &rt,
-            said(rt.alloc(), Word::Pair, text.as_str())?.as_str(),
+            said(rt.alloc(), Subcommand::Pair, text.as_str())?.as_str(),
             want,
         );
     }
     assert_equal(
         &rt,
-        said(rt.alloc(), Word::Il, "")?.as_str(),
+        said(rt.alloc(), Subcommand::Il, "")?.as_str(),
         "id: expected 0 to 4294967295, found nothing",
     );
     Ok(())
@@ -311,7 +327,7 @@ const WHOLE: &str =
 // Each key comes to its place, and the defaults are those of the profile.
 #[test]
 fn reads_each_key(rt: HostRuntime) -> Result<(), Fail> {
-    let Ok(Ends::Fe(whole)) = settings(rt.alloc(), Word::Fe, WHOLE) else {
+    let Ok(Ends::Fe(whole)) = settings(rt.alloc(), Subcommand::Fe, WHOLE) else {
         return Err(Fail::from("refused"));
     };
     let config = &whole.config;
@@ -357,7 +373,7 @@ fn reads_each_key(rt: HostRuntime) -> Result<(), Fail> {
         [0x0a, 0xff].as_slice(),
     );
     let text = text_of(rt.alloc(), "")?;
-    let Ok(Ends::Il(least)) = settings(rt.alloc(), Word::Il, text.as_str()) else {
+    let Ok(Ends::Il(least)) = settings(rt.alloc(), Subcommand::Il, text.as_str()) else {
         return Err(Fail::from("refused"));
     };
     let config = &least.config;
@@ -385,11 +401,11 @@ fn reads_each_key(rt: HostRuntime) -> Result<(), Fail> {
     Ok(())
 }
 
-const FINDINGS: [(Word, &str, &[&str]); 8] = [
-    (Word::Il, "", &[]),
-    (Word::Il, "q==1\n", &["line 7: not valid TOML"]),
+const FINDINGS: [(Subcommand, &str, &[&str]); 8] = [
+    (Subcommand::Il, "", &[]),
+    (Subcommand::Il, "q==1\n", &["line 7: not valid TOML"]),
     (
-        Word::Il,
+        Subcommand::Il,
         "id='x'\nname='A_B'\nt_max=99\nt_h=5\ncolour=3\n",
         &[
             "colour: unknown key",
@@ -399,7 +415,7 @@ const FINDINGS: [(Word, &str, &[&str]); 8] = [
         ],
     ),
     (
-        Word::Il,
+        Subcommand::Il,
         "id=2\nt_max=200\n",
         &[
             "peer_id: expected a number other than id, found 2",
@@ -407,7 +423,7 @@ const FINDINGS: [(Word, &str, &[&str]); 8] = [
         ],
     ),
     (
-        Word::Il,
+        Subcommand::Il,
         "puts=['0100:0a', '12:', 7, '0100:0']\n",
         &[
             "puts: entry 2: expected a text TYPE:HEX, found \"12:\"",
@@ -416,7 +432,7 @@ const FINDINGS: [(Word, &str, &[&str]); 8] = [
         ],
     ),
     (
-        Word::Il,
+        Subcommand::Il,
         "puts='0100:0a'\nlocal=[]\n",
         &[
             "local: expected 1 to 4 texts, as many in local as in remote, found another value",
@@ -424,12 +440,12 @@ const FINDINGS: [(Word, &str, &[&str]); 8] = [
         ],
     ),
     (
-        Word::Il,
+        Subcommand::Il,
         "local=['127.0.0.1:1', '127.0.0.1:3']\n",
         &["remote: expected 1 to 4 texts, as many in local as in remote, found another value"],
     ),
     (
-        Word::Pair,
+        Subcommand::Pair,
         "pause=1\n",
         &[
             "id: unknown key",
@@ -463,10 +479,10 @@ fn finds_all_that_is_wrong(rt: HostRuntime) -> Result<(), Fail> {
 // Limits by the rule of docs/choosing.md.
 const FIT: &str = "n_sendmax=7\nmwa=3\nq=8\n";
 
-const WARNINGS: [(Word, bool, &str, &[&str]); 22] = [
-    (Word::Il, false, "", &[]),
+const WARNINGS: [(Subcommand, bool, &str, &[&str]); 22] = [
+    (Subcommand::Il, false, "", &[]),
     (
-        Word::Il,
+        Subcommand::Il,
         false,
         "t_seq=100\nt_max=100\nt_h=50\n",
         &[
@@ -475,39 +491,39 @@ const WARNINGS: [(Word, bool, &str, &[&str]); 22] = [
         ],
     ),
     (
-        Word::Il,
+        Subcommand::Il,
         false,
         "t_seq=99\nt_max=100\nt_h=50\n",
         &["t_max: 100 is below three t_h 50 and t_seq 99: a single loss can end the connection"],
     ),
-    (Word::Il, false, "t_seq=50\nt_max=200\nt_h=50\n", &[]),
+    (Subcommand::Il, false, "t_seq=50\nt_max=200\nt_h=50\n", &[]),
     (
-        Word::Il,
+        Subcommand::Il,
         false,
         "t_seq=51\nt_max=200\nt_h=50\n",
         &["t_max: 200 is below three t_h 50 and t_seq 51: a single loss can end the connection"],
     ),
     (
-        Word::Il,
+        Subcommand::Il,
         false,
         "n_sendmax=2\nmwa=2\n",
         &[
             "mwa: 2 is not below n_sendmax 2: with a full window the peer waits for the next heartbeat",
         ],
     ),
-    (Word::Il, false, "n_sendmax=2\nmwa=1\n", &[]),
+    (Subcommand::Il, false, "n_sendmax=2\nmwa=1\n", &[]),
     // The defaults of the profile.
     (
-        Word::Il,
+        Subcommand::Il,
         false,
         "n_sendmax=20\n",
         &[
             "q: 4 is too small for n_sendmax 20 and mwa 10: what comes after one lost datagram overruns it, and the connection may end",
         ],
     ),
-    (Word::Il, false, "n_sendmax=4\nmwa=3\n", &[]),
+    (Subcommand::Il, false, "n_sendmax=4\nmwa=3\n", &[]),
     (
-        Word::Il,
+        Subcommand::Il,
         false,
         "n_sendmax=4\nmwa=2\n",
         &[
@@ -515,7 +531,7 @@ const WARNINGS: [(Word, bool, &str, &[&str]); 22] = [
         ],
     ),
     (
-        Word::Il,
+        Subcommand::Il,
         false,
         "n_sendmax=8\nmwa=3\nq=8\n",
         &[
@@ -523,22 +539,22 @@ const WARNINGS: [(Word, bool, &str, &[&str]); 22] = [
         ],
     ),
     (
-        Word::Il,
+        Subcommand::Il,
         false,
         "peer_name='IL1'\n",
         &["name: equal to peer_name: telegrams do not show which end sent them"],
     ),
     (
-        Word::Il,
+        Subcommand::Il,
         false,
         "checksum='00'\n",
         &["checksum: not used: only a field element sends one"],
     ),
-    (Word::Il, false, "checksum=''\n", &[]),
-    (Word::Fe, false, "checksum='00'\n", &[]),
-    (Word::Il, false, "first_sn=0\n", &[]),
+    (Subcommand::Il, false, "checksum=''\n", &[]),
+    (Subcommand::Fe, false, "checksum='00'\n", &[]),
+    (Subcommand::Il, false, "first_sn=0\n", &[]),
     (
-        Word::Il,
+        Subcommand::Il,
         true,
         "first_sn=0\n",
         &[
@@ -547,16 +563,16 @@ const WARNINGS: [(Word, bool, &str, &[&str]); 22] = [
     ),
     // Without the key the number is 1.
     (
-        Word::Fe,
+        Subcommand::Fe,
         true,
         "",
         &[
             "first_sn: 1 holds for the first opening only: with --keep each reopening draws a number",
         ],
     ),
-    (Word::Fe, true, "first_sn='random'\n", &[]),
+    (Subcommand::Fe, true, "first_sn='random'\n", &[]),
     (
-        Word::Il,
+        Subcommand::Il,
         false,
         "local=['127.0.0.1:0']\nremote=['[::1]:2']\n",
         &[
@@ -565,7 +581,7 @@ const WARNINGS: [(Word, bool, &str, &[&str]); 22] = [
         ],
     ),
     (
-        Word::Il,
+        Subcommand::Il,
         false,
         "local=['127.0.0.1:1', '127.0.0.1:1']\nremote=['127.0.0.1:2', '127.0.0.1:1']\n",
         &[
@@ -573,7 +589,7 @@ const WARNINGS: [(Word, bool, &str, &[&str]); 22] = [
             "remote: entry 2: same address as local entry 2",
         ],
     ),
-    (Word::Il, false, "puts=['0100:', '0101:0a']\n", &[]),
+    (Subcommand::Il, false, "puts=['0100:', '0101:0a']\n", &[]),
 ];
 
 // The settings of the end in a file for one end.
@@ -596,7 +612,7 @@ fn warns_of_mistakes(rt: HostRuntime) -> Result<(), Fail> {
         };
         let read = only_end(ends)?;
         let side = match word {
-            Word::Fe => Side::FieldElement,
+            Subcommand::Fe => Side::FieldElement,
             _ => Side::Interlocking,
         };
         let found = warnings(rt.alloc(), side, keep, &read)?;
@@ -622,7 +638,7 @@ fn warns_of_long_payloads(rt: HostRuntime) -> Result<(), Fail> {
         text.push_str("0b")?;
     }
     text.push_str("']\n")?;
-    let Ok(Ends::Il(read)) = settings(rt.alloc(), Word::Il, text.as_str()) else {
+    let Ok(Ends::Il(read)) = settings(rt.alloc(), Subcommand::Il, text.as_str()) else {
         return Err(Fail::from("refused"));
     };
     let found = warnings(rt.alloc(), Side::Interlocking, false, &read)?;
@@ -642,13 +658,13 @@ fn warns_of_long_payloads(rt: HostRuntime) -> Result<(), Fail> {
 #[test]
 fn knows_the_word_of_a_file(rt: HostRuntime) -> Result<(), Fail> {
     for (text, want) in [
-        ("", Word::Il),
-        ("id=1\nversion=1\n", Word::Il),
-        ("versions=[1]\n", Word::Fe),
-        ("checksum=''\n", Word::Fe),
-        ("[il]\n", Word::Pair),
-        ("[fe]\nversions=[1]\n", Word::Pair),
-        ("versions=[1]\n[il]\n", Word::Pair),
+        ("", Subcommand::Il),
+        ("id=1\nversion=1\n", Subcommand::Il),
+        ("versions=[1]\n", Subcommand::Fe),
+        ("checksum=''\n", Subcommand::Fe),
+        ("[il]\n", Subcommand::Pair),
+        ("[fe]\nversions=[1]\n", Subcommand::Pair),
+        ("versions=[1]\n[il]\n", Subcommand::Pair),
     ] {
         assert_true_at(
             &rt,

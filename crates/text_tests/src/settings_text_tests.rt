@@ -1,5 +1,5 @@
 use crate::assertions::{assert_equal, assert_true};
-use settings_file::{Ends, Word, settings};
+use settings_file::{Ends, Subcommand, settings};
 use settings_text::{write_place, write_settings};
 use std::test::Fail;
 
@@ -79,7 +79,7 @@ fe.puts = [\"0200:1a\"]
 ";
 
 // The settings in force of a text.
-fn in_force(alloc: std::alloc::Global, word: Word, text: &str) -> Result<Vec<u8>, Fail> {
+fn in_force(alloc: std::alloc::Global, word: Subcommand, text: &str) -> Result<Vec<u8>, Fail> {
     let Ok(ends) = settings(alloc, word, text) else {
         return Err(Fail::from("refused"));
     };
@@ -94,10 +94,14 @@ fn in_force(alloc: std::alloc::Global, word: Word, text: &str) -> Result<Vec<u8>
 #[test]
 fn writes_the_settings_in_force(rt: HostRuntime) -> Result<(), Fail> {
     for (word, text, want) in [
-        (Word::Fe, FIELD_ELEMENT, FIELD_ELEMENT_IN_FORCE),
-        (Word::Fe, FIELD_ELEMENT_IN_FORCE, FIELD_ELEMENT_IN_FORCE),
-        (Word::Pair, PAIR, PAIR_IN_FORCE),
-        (Word::Pair, PAIR_IN_FORCE, PAIR_IN_FORCE),
+        (Subcommand::Fe, FIELD_ELEMENT, FIELD_ELEMENT_IN_FORCE),
+        (
+            Subcommand::Fe,
+            FIELD_ELEMENT_IN_FORCE,
+            FIELD_ELEMENT_IN_FORCE,
+        ),
+        (Subcommand::Pair, PAIR, PAIR_IN_FORCE),
+        (Subcommand::Pair, PAIR_IN_FORCE, PAIR_IN_FORCE),
     ] {
         assert_equal(
             &rt,

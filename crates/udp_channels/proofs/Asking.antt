@@ -2,7 +2,7 @@
 use Rattle.std.proofs.Common.{◌≡◌, ℕ, ◌+◌, ◌-◌, ◌≤◌, ◌<◌, ◌⊎◌, inl, inr, Bool, true, false, List, [], ◌∷◌, ◌++◌, Option, Some, None, Result, Ok, Err, is_ok, length, take, drop, slice_set, slice_index_or, refl, sym, subst, rules, arith}
 use Rattle.std.proofs.lemmas.List.{drop_at, take_at}
 use Rattle.std.proofs.lemmas.Option.{slice_get-get_or}
-use Rattle.channels.specs.Told.{Answer, answered}
+use Rattle.channels.specs.Told.{Answer, answers_of}
 use Rattle.channels.specs.declared.ChannelFault.{ChannelFault}
 use Rattle.udp_channels.specs.Sockets.{Asks, AsksAround, AsksThen, ChannelState, IsAsked, IsSent, SendsOn, or_none, unless_failed}
 use Rattle.udp_channels.specs.declared.sockets.CallFault.{CallFault}
@@ -29,8 +29,8 @@ pub asks-nothing : {S : Type 0} {receives : S → ℕ → Reception → List ℕ
     (result joined : Result (Option (ℕ × ℕ)) ChannelFault) (buffer : List ℕ)
     {asked left : ChannelState S} {others before : List (ChannelState S)} (rest : List (ChannelState S))
     → joined ≡ unless_failed result → before ≡ asked ∷ others → same ≡ room
-    → IsAsked receives room Nothing [] asked left → Asks receives same (channel + 1) (answered result buffer) others rest
-    → Asks receives room channel (answered joined buffer) before (left ∷ rest)
+    → IsAsked receives room Nothing [] asked left → Asks receives same (channel + 1) (answers_of result buffer) others rest
+    → Asks receives room channel (answers_of joined buffer) before (left ∷ rest)
 asks-nothing {receives = receives} channel (Ok None) joined buffer {others = others} rest joins is equal asked later =
     rw (joins, is) (_, _, refl, inr (inl (None ∷ [], asked, subst (λ n. Asks receives n (channel + 1) (None ∷ []) others rest) equal later, refl)))
 asks-nothing {receives = receives} channel (Ok (Some (number, size))) joined buffer {others = others} rest joins is equal asked later =
@@ -39,9 +39,9 @@ asks-nothing {receives = receives} channel (Ok (Some (number, size))) joined buf
       _,
       refl,
       inr (inl (
-        answered (Ok (Some (number, size))) buffer,
+        answers_of (Ok (Some (number, size))) buffer,
         asked,
-        subst (λ n. Asks receives n (channel + 1) (answered (Ok (Some (number, size))) buffer) others rest) equal later,
+        subst (λ n. Asks receives n (channel + 1) (answers_of (Ok (Some (number, size))) buffer) others rest) equal later,
         refl,
       )),
     )
@@ -50,7 +50,7 @@ asks-nothing {receives = receives} channel (Err why) joined buffer {others = oth
 
 -- a failure of all others is no failure if one channel has nothing
 answers-or-none : (result joined : Result (Option (ℕ × ℕ)) ChannelFault) (buffer : List ℕ) → joined ≡ unless_failed result
-    → answered joined buffer ≡ or_none (answered result buffer)
+    → answers_of joined buffer ≡ or_none (answers_of result buffer)
 answers-or-none (Ok None) joined buffer joins = rw joins refl
 answers-or-none (Ok (Some (number, size))) joined buffer joins = rw joins refl
 answers-or-none (Err why) joined buffer joins = rw joins refl
@@ -71,20 +71,20 @@ asks-around {receives = receives} {room = room} last first answers before front 
 -- the same, if the later ones did not all fail
 pub asks-on : {S : Type 0} {receives : S → ℕ → Reception → List ℕ → S → Type 0} {room : ℕ} (last : ℕ) (found given : Option (ℕ × ℕ)) (buffer : List ℕ)
     (answers : List Answer) (before front back earlier later : List (ChannelState S)) → length earlier ≡ last → front ≡ take last before
-    → back ≡ drop last before → given ≡ found → Asks receives room (last + 1) (answered (Ok given) buffer) back later
-    → AsksThen receives room (answered (Ok found) buffer) answers front earlier
+    → back ≡ drop last before → given ≡ found → Asks receives room (last + 1) (answers_of (Ok given) buffer) back later
+    → AsksThen receives room (answers_of (Ok found) buffer) answers front earlier
     → AsksAround receives room last answers before (earlier ++ later)
 asks-on {receives = receives} {room = room} last found given buffer answers before front back earlier later size is_front is_back same asked others =
-    asks-around last (answered (Ok found) buffer) answers before front back earlier later size is_front is_back
-    (subst (λ o. Asks receives room (last + 1) (answered (Ok o) buffer) back later) same asked) others
+    asks-around last (answers_of (Ok found) buffer) answers before front back earlier later size is_front is_back
+    (subst (λ o. Asks receives room (last + 1) (answers_of (Ok o) buffer) back later) same asked) others
 
 -- after the later channels had nothing, the earlier ones are asked
 pub then-joined : {S : Type 0} (receives : S → ℕ → Reception → List ℕ → S → Type 0) {room same : ℕ}
     (result joined : Result (Option (ℕ × ℕ)) ChannelFault) (buffer : List ℕ) (front earlier : List (ChannelState S)) → joined ≡ unless_failed result
-    → same ≡ room → Asks receives same 1 (answered result buffer) front earlier
-    → AsksThen receives room (None ∷ []) (answered joined buffer) front earlier
+    → same ≡ room → Asks receives same 1 (answers_of result buffer) front earlier
+    → AsksThen receives room (None ∷ []) (answers_of joined buffer) front earlier
 then-joined receives result joined buffer front earlier joins equal asked =
-    (answered result buffer, subst (λ n. Asks receives n 1 (answered result buffer) front earlier) equal asked, answers-or-none result joined buffer joins)
+    (answers_of result buffer, subst (λ n. Asks receives n 1 (answers_of result buffer) front earlier) equal asked, answers-or-none result joined buffer joins)
 
 -- after the later channels all refused, the earlier ones are asked
 pub then-asked : {S : Type 0} (receives : S → ℕ → Reception → List ℕ → S → Type 0) {room same : ℕ} (answers : List Answer)

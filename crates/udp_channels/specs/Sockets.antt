@@ -1,7 +1,7 @@
 -- Channels over sockets: what a send and a reception do to the channels, and what contracts know of them.
 use Rattle.std.specs.Prelude.{◌≡◌, ℕ, ◌+◌, ◌-◌, ◌%◌, ◌^◌, ◌≤◌, ◌==◌, ◌&&◌, ◌⊎◌, Bool, true, false, nat_le, if◌then◌else◌, Option, None, Some, option_map, Result, Ok, Err, is_ok, List, [], ◌∷◌, length, take, drop, slice_get, slice_set}
 use Rattle.octets.specs.declared.limits.TheConstants.{CHANNELS_MAX}
-use Rattle.channels.specs.Told.{Answer, Told}
+use Rattle.channels.specs.Told.{Answer, ChannelHistory}
 use Rattle.channels.specs.declared.ChannelFault.{ChannelFault}
 use Rattle.channels.specs.declared.ChannelFault.TheVariants as fault
 use Rattle.udp_channels.specs.declared.sockets.CallFault.{CallFault}
@@ -49,7 +49,7 @@ abbrev pub new_kept : {S : Type 0} → List (ChannelState S) → Kept S
 new_kept channels = record { channels = channels; last = 0; failed_sends = 0; failed_receives = 0; received = 0 }
 
 -- the state as contracts of `Channels` see it: only the failures are known, not what a socket sends or delivers
-abbrev pub told_of : {S : Type 0} → Kept S → Told
+abbrev pub told_of : {S : Type 0} → Kept S → ChannelHistory
 told_of c =
     record {
       sent = None;
@@ -73,15 +73,15 @@ Fits Nothing room = Unit {0}
 Fits (Refused why) room = Unit {0}
 
 -- why a socket did not accept a datagram, if it did not
-abbrev pub unsent : Result (Unit {0}) CallFault → Option CallFault
-unsent (Ok done) = None
-unsent (Err why) = Some why
+abbrev pub send_fault : Result (Unit {0}) CallFault → Option CallFault
+send_fault (Ok done) = None
+send_fault (Err why) = Some why
 
 -- why a socket refused a reception, if it did
-abbrev pub unheard : Reception → Option CallFault
-unheard (Came size) = None
-unheard Nothing = None
-unheard (Refused why) = Some why
+abbrev pub receive_fault : Reception → Option CallFault
+receive_fault (Came size) = None
+receive_fault Nothing = None
+receive_fault (Refused why) = Some why
 
 -- there is such a channel; channels are numbered from 1
 abbrev pub has_channel : {S : Type 0} → ℕ → List S → Bool
@@ -96,7 +96,7 @@ pub record IsSent {S : Type 0} (sends : S → List ℕ → Result (Unit {0}) Cal
   -- the socket makes one send of the datagram, and accepts it or not
   pub sent : sends before.socket datagram given after.socket
   -- a datagram that it does not accept adds 1 to this channel's failed sends, with its cause
-  pub failures : after.failures ≡ record { sends = failed_after (unsent given) before.failures.sends; receives = before.failures.receives }
+  pub failures : after.failures ≡ record { sends = failed_after (send_fault given) before.failures.sends; receives = before.failures.receives }
 
 -- a send on a channel: only this channel changes, and it makes the send
 pub record SendsOn {S : Type 0} (sends : S → List ℕ → Result (Unit {0}) CallFault → S → Type 0) (channel : ℕ) (datagram : List ℕ) (went : Bool) (before after : List (ChannelState S)) : Type 0 where
@@ -114,7 +114,7 @@ pub record IsAsked {S : Type 0} (receives : S → ℕ → Reception → List ℕ
   -- the socket makes one reception with this result and these bytes
   pub received : receives before.socket room reception octets after.socket
   -- a refusal adds 1 to this channel's failed receptions, with its cause
-  pub failures : after.failures ≡ record { sends = before.failures.sends; receives = failed_after (unheard reception) before.failures.receives }
+  pub failures : after.failures ≡ record { sends = before.failures.sends; receives = failed_after (receive_fault reception) before.failures.receives }
 
 -- the result of several channels if one more of them has nothing
 abbrev pub unless_failed : Result (Option (ℕ × ℕ)) ChannelFault → Result (Option (ℕ × ℕ)) ChannelFault

@@ -2,7 +2,7 @@
 //! test can replace it. The calls themselves are trusted.
 
 ghost use Rattle.std.specs.Prelude.{◌≡◌, ◌+◌, ◌^◌, ◌<◌, ◌≤◌, ℕ, Result, false, List, Err, length, is_ok, IfErr, IfOk, IfSome};
-ghost use Rattle.channels.specs.Told.{Sends, after_receive, answered};
+ghost use Rattle.channels.specs.Told.{Sends, after_receive, answers_of};
 ghost use Rattle.udp_channels.specs.Sockets.{Asks, AsksAround, Fits, IsAsked, IsSent, SendsOn, failures_of, fault_on, last_after, new_channel, new_kept, no_failures, octets_of, one_more, received_after, told_of, unless_failed};
 ghost use Rattle.channels.specs.declared.ChannelFault.TheVariants as channel_fault;
 ghost use Rattle.udp_channels.specs.declared.sockets.CallFault.{CallFault};
@@ -283,7 +283,7 @@ impl<S: Socket, A: Allocator> Channels for SocketChannels<S, A> {
         // The channels are asked in a circle, from the one after the channel that gave the last datagram on, until
         // one gives a datagram, which is returned with its number. One that refuses counts it and stops nothing.
         // `receive` fails if and only if all refuse.
-        ensures asked { AsksAround S.receives (length buffer.old) self.old.last (answered result buffer.new) self.old.channels self.new.channels }
+        ensures asked { AsksAround S.receives (length buffer.old) self.old.last (answers_of result buffer.new) self.old.channels self.new.channels }
         // A channel that gave a datagram is the last one that did; otherwise that does not change.
         ensures last { self.new.last ≡ last_after result self.old.last }
         // The count of datagrams received grows by 1, modulo 2^64, if and only if a datagram is returned.
@@ -341,7 +341,7 @@ fn ask_around<S: Socket>(
     requires last { last ≤ length list.old }
     requires counted { length list.old + 1 < 2 ^ 64 }
     // `ask_around` asks the channels in a circle, from the one after `last` on.
-    ensures asked { AsksAround S.receives (length buffer.old) last (answered result buffer.new) list.old list.new }
+    ensures asked { AsksAround S.receives (length buffer.old) last (answers_of result buffer.new) list.old list.new }
     // The size that `ask_around` returns is at most the length of the buffer.
     ensures fits { IfOk result (λ came. IfSome came (λ p. p.1 ≤ length buffer.new)) }
     // The channel that `ask_around` returns is one of the list.
@@ -366,7 +366,7 @@ fn ask<S: Socket>(
     requires { first + length list.old < 2 ^ 64 }
     // `ask` asks the channels in order until one gives a datagram, which is returned with its number. One that
     // refuses counts it and stops nothing. `ask` fails if and only if all refuse.
-    ensures asked { Asks S.receives (length buffer.old) first (answered result buffer.new) list.old list.new }
+    ensures asked { Asks S.receives (length buffer.old) first (answers_of result buffer.new) list.old list.new }
     // The size that `ask` returns is at most the length of the buffer.
     ensures fits { IfOk result (λ came. IfSome came (λ p. p.1 ≤ length buffer.new)) }
     // The channel that `ask` returns is one of the list.

@@ -6,7 +6,7 @@ use Rattle.std.proofs.lemmas.Bool.{ltb-false, true≢false}
 use Rattle.std.proofs.lemmas.List.{length-append}
 use Rattle.byteorder.specs.Endian.{little_bytes}
 use Rattle.octets.specs.declared.limits.TheConstants.{PAYLOAD_MAX}
-use Rattle.pdi_session.specs.telegram.Names.{filled}
+use Rattle.pdi_session.specs.telegram.Names.{fill_name}
 use Rattle.pdi_session.specs.telegram.Tele.{Tele}
 use Rattle.pdi_session.specs.telegram.TeleText.{TeleText, tele_text}
 use Rattle.pdi_session.proofs.TeleLemmas.{length-filled, tele_read}
@@ -20,19 +20,19 @@ use Rattle.pdi_session.specs.declared.PutFault.TheVariants as fault
 use Rattle.pdi_session.specs.Settings.{AreSettings, checksum_of}
 use Rattle.pdi_session.specs.Telegrams.{is_reserved, kind_of, payload_of, telegram}
 use Rattle.pdi_session.specs.Tables.{may_put}
-use Rattle.pdi_session.specs.SessionStep.{Up, Arrives, Puts, InitDone, Closes, SessionState, at_init_done, judged, init_refusal, put_refusal, sent_by}
+use Rattle.pdi_session.specs.SessionStep.{Up, Arrives, Puts, InitDone, Closes, SessionState, at_init_done, judge_telegram, init_refusal, put_refusal, sent_by}
 use Rattle.pdi_session.specs.Laws.{HasMessage, MessageLaw}
 use Rattle.pdi_session.proofs.one.TableLemmas.{by_cond}
 
 length-tele_text : (t : Tele) → TeleText t (tele_text t) → length (tele_text t) ≡ 43 + length t.payload
 length-tele_text t text =
     let front : List ℕ = (t.protocol ∷ []) ++ little_bytes 2 t.kind in
-    let named : List ℕ = front ++ filled t.sender in
+    let named : List ℕ = front ++ fill_name t.sender in
     omega (
       arith,
-      length-append (named ++ filled t.receiver) t.payload,
-      length-append named (filled t.receiver),
-      length-append front (filled t.sender),
+      length-append (named ++ fill_name t.receiver) t.payload,
+      length-append named (fill_name t.receiver),
+      length-append front (fill_name t.sender),
       length-filled t.sender text.sender,
       length-filled t.receiver text.receiver,
     )
@@ -76,7 +76,7 @@ put_short payload false b c none = absurd (true≢false (sym none))
 
 pub message_law : MessageLaw
 message_law s Up set small = sent_messages s _ set
-message_law s (Arrives t) set small = sent_messages s (judged s t) set
+message_law s (Arrives t) set small = sent_messages s (judge_telegram s t) set
 message_law s (Puts kind payload waits) set small =
     by_cond (AllByRecursion HasMessage) (is_none (put_refusal s kind payload waits)) _ _
     (λ none. (has_message s kind payload set small (put_short payload (may_put s.role s.phase) (nat_le WAITING_MAX waits) (is_reserved kind) none), tt)) (λ _. tt)

@@ -3,10 +3,10 @@ use Rattle.std.proofs.Common.{◌≡◌, ℕ, List, ◌++◌, sym, ap, ◌∙◌
 use Rattle.std.proofs.lemmas.List.{map-append}
 use Rattle.pdi_session.specs.telegram.TeleText.{tele_text}
 use Rattle.pdi_session.specs.SessionStep.{Event, SessionState, added_by, after, texts}
-use Rattle.pdi_session.specs.Histories.{History, StandsFor, grown}
+use Rattle.pdi_session.specs.Histories.{History, StandsFor, add_event}
 
 -- a session that fits a history before an event fits the extended one after it
-pub stands_on : (e : Event) (s t : SessionState) (old new : List (List ℕ)) (h : History) → t ≡ after e s → new ≡ old ++ texts (added_by e s) → StandsFor s old h → StandsFor t new (grown e h)
+pub stands_on : (e : Event) (s t : SessionState) (old new : List (List ℕ)) (h : History) → t ≡ after e s → new ≡ old ++ texts (added_by e s) → StandsFor s old h → StandsFor t new (add_event e h)
 stands_on e s t old new h left added stands =
     record {
       state = ap (after e) stands.state ∙ sym left;

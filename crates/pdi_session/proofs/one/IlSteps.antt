@@ -18,7 +18,7 @@ use Rattle.pdi_session.specs.declared.PutFault.TheVariants as fault
 use Rattle.pdi_session.specs.Settings.{Interlocking}
 use Rattle.pdi_session.specs.Telegrams.{form_of, is_addressed, is_reserved, kind_of, telegram}
 use Rattle.pdi_session.specs.Tables.{at_up, interlocking_up, is_initialising, may_put, table}
-use Rattle.pdi_session.specs.SessionStep.{Event, Up, Arrives, Puts, InitDone, Closes, SessionState, added_by, judged, phase_after, phase_by, put_refusal, sent_by}
+use Rattle.pdi_session.specs.SessionStep.{Event, Up, Arrives, Puts, InitDone, Closes, SessionState, added_by, judge_telegram, phase_after, phase_by, put_refusal, sent_by}
 use Rattle.pdi_session.specs.Histories.{handed_by}
 use Rattle.pdi_session.specs.Laws.{IsItem, completions}
 use Rattle.pdi_session.proofs.one.TableLemmas.{by_cond}
@@ -49,8 +49,8 @@ unreserved kind free = by_bool (λ b. (kind == INITIALISATION_COMPLETED) ≡ b �
 pub item_uncounted : (t : Tele) → is_reserved t.kind ≡ false → completions (t ∷ []) ≡ 0
 item_uncounted t free = one_completion t (unreserved t.kind free)
 
-told_more : (version : ℕ) (judged more : List Tele) → Told version judged → Told version (judged ++ more)
-told_more version judged more told = record { first = told.first; others = told.others ++ more; is = ap (λ xs. xs ++ more) told.is; says = told.says }
+told_more : (version : ℕ) (judge_telegram more : List Tele) → Told version judge_telegram → Told version (judge_telegram ++ more)
+told_more version judge_telegram more told = record { first = told.first; others = told.others ++ more; is = ap (λ xs. xs ++ more) told.is; says = told.says }
 
 -- more was judged, and nothing was added
 asked_more : (version : ℕ) (s : SessionState) (queue js more : List Tele) → Asked version s queue js → Asked version s (queue ++ []) (js ++ more)
@@ -168,7 +168,7 @@ il_by_row version s queue js t verdict (IlStatus p f e) at =
     (subst (λ x. IlAt version (base s) x (queue ++ []) (js ++ t ∷ [])) (sym p) (il_status version (base s) queue js t f (subst (λ x. IlAt version (base s) x queue js) p at)))
 
 -- the row of an interlocking's decision
-pub il_row : (version : ℕ) (s : SessionState) (t : Tele) → s.role ≡ Interlocking version → InterlockingRow version s.phase (form_of t.kind t.payload) (judged s t)
+pub il_row : (version : ℕ) (s : SessionState) (t : Tele) → s.role ≡ Interlocking version → InterlockingRow version s.phase (form_of t.kind t.payload) (judge_telegram s t)
 il_row version s t role =
     by_cond (InterlockingRow version s.phase (form_of t.kind t.payload)) (is_addressed s.addressing t) _ _
     (λ _. subst (λ r. InterlockingRow version s.phase (form_of t.kind t.payload) (table r s.phase (form_of t.kind t.payload))) (sym role) (interlocking_row version s.phase (form_of t.kind t.payload)))
@@ -224,7 +224,7 @@ il_puts version s queue js kind payload free at =
 pub il_step : (version : ℕ) (e : Event) (s : SessionState) (queue js : List Tele) → s.role ≡ Interlocking version → IlAt version (base s) s.phase queue js
     → IlAt version (base s) (phase_after e s) (queue ++ added_by e s) (js ++ handed_by e)
 il_step version Up s queue js role at = subst (λ r. IlThen version s queue (js ++ []) s.phase (at_up r s.phase)) (sym role) (il_up version s queue js s.phase at)
-il_step version (Arrives t) s queue js role at = il_by_row version s queue js t (judged s t) (il_row version s t role) at
+il_step version (Arrives t) s queue js role at = il_by_row version s queue js t (judge_telegram s t) (il_row version s t role) at
 il_step version (Puts kind payload waits) s queue js role at =
     by_cond (λ x. IlAt version (base s) s.phase (queue ++ x) (js ++ [])) (is_none (put_refusal s kind payload waits)) _ _
     (λ none.

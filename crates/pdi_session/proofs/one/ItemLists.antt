@@ -16,8 +16,8 @@ use Rattle.pdi_session.specs.declared.Verdict.TheVariants.{Ends}
 use Rattle.pdi_session.specs.Settings.{Addressing, Role, Interlocking, Field}
 use Rattle.pdi_session.specs.Telegrams.{form_of, is_addressed, is_reserved, telegram}
 use Rattle.pdi_session.specs.Tables.{at_up, is_initialising, may_put, table}
-use Rattle.pdi_session.specs.SessionStep.{Event, Up, Arrives, Puts, InitDone, Closes, Item, SessionState, added_by, item_of, judged, phase_after, phase_by, put_refusal, taken_as, taken_by}
-use Rattle.pdi_session.specs.Histories.{History, begun, grown, grown_along, handed_by, is_ended, put_by}
+use Rattle.pdi_session.specs.SessionStep.{Event, Up, Arrives, Puts, InitDone, Closes, Item, SessionState, added_by, item_of, judge_telegram, phase_after, phase_by, put_refusal, taken_as, taken_by}
+use Rattle.pdi_session.specs.Histories.{History, new_history, add_event, add_events, handed_by, is_ended, put_by}
 use Rattle.pdi_session.specs.Laws.{AreReserved, QueueLaw, TakenLaw, items_of}
 use Rattle.pdi_session.proofs.one.TableLemmas.{by_cond}
 use Rattle.pdi_session.proofs.one.Rows.{reserved_of, item_of_form}
@@ -49,16 +49,16 @@ items-added Closes s = refl
 abbrev pub PutIsQueue : History → Type 0
 PutIsQueue h = items_of h.queue ≡ h.put
 
-pub put_grows : (e : Event) (h : History) → PutIsQueue h → PutIsQueue (grown e h)
+pub put_grows : (e : Event) (h : History) → PutIsQueue h → PutIsQueue (add_event e h)
 put_grows e h is = items-append h.queue (added_by e h.state) ∙ ap (λ xs. xs ++ items_of (added_by e h.state)) is ∙ ap (λ xs. h.put ++ xs) (items-added e h.state)
 
 -- a fact that each event keeps holds after a list of events
-pub along : (P : History → Type 0) → ((e : Event) (h : History) → P h → P (grown e h)) → (es : List Event) (h : History) → P h → P (grown_along es h)
+pub along : (P : History → Type 0) → ((e : Event) (h : History) → P h → P (add_event e h)) → (es : List Event) (h : History) → P h → P (add_events es h)
 along P step [] h p = p
-along P step (e ∷ es) h p = along P step es (grown e h) (step e h p)
+along P step (e ∷ es) h p = along P step es (add_event e h) (step e h p)
 
 pub queue_law : QueueLaw
-queue_law addressing role es = along PutIsQueue put_grows es (begun addressing role) refl
+queue_law addressing role es = along PutIsQueue put_grows es (new_history addressing role) refl
 
 -- what is taken is a prefix of what was judged, and all of it while the session is not over
 pub record Taken (h : History) : Type 0 where
@@ -94,7 +94,7 @@ table_over : (role : Role) (form : Form) → table role Ended form ≡ Ends deta
 table_over (Interlocking version) form = refl
 table_over (Field versions checksum) form = refl
 
-pub judged_over : (s : SessionState) (t : Tele) → s.phase ≡ Ended → (why : SessionDetail) × (judged s t ≡ Ends why)
+pub judged_over : (s : SessionState) (t : Tele) → s.phase ≡ Ended → (why : SessionDetail) × (judge_telegram s t ≡ Ends why)
 judged_over s t over =
     by_cond (λ v. (why : SessionDetail) × (v ≡ Ends why)) (is_addressed s.addressing t) _ _
     (λ _. (detail.OutOfOrder, ap (λ p. table s.role p (form_of t.kind t.payload)) over ∙ table_over s.role (form_of t.kind t.payload)))
@@ -132,28 +132,28 @@ begins_more a b c front = (front.0 ++ c, ap (λ xs. xs ++ (front.0 ++ c)) (appen
 begins_after : (a b c d : List Item) → a ≡ b → IsBeginning c d → IsBeginning (a ++ c) (b ++ d)
 begins_after a b c d same front = (front.0, append_assoc a c front.0 ∙ ap (λ xs. a ++ xs) front.1 ∙ ap (λ xs. xs ++ d) same)
 
-taken_front : (t : Tele) (h : History) → Taken h → (b : Bool) → is_ended h.state.phase ≡ b → IsBeginning (h.taken ++ taken_as t (judged h.state t)) (items_of h.judged ++ items_of (t ∷ []))
-taken_front t h taken false on = begins_after h.taken (items_of h.judged) _ _ (taken.whole on) (begins_by t (judged h.state t) (outcome h.state t))
+taken_front : (t : Tele) (h : History) → Taken h → (b : Bool) → is_ended h.state.phase ≡ b → IsBeginning (h.taken ++ taken_as t (judge_telegram h.state t)) (items_of h.judged ++ items_of (t ∷ []))
+taken_front t h taken false on = begins_after h.taken (items_of h.judged) _ _ (taken.whole on) (begins_by t (judge_telegram h.state t) (outcome h.state t))
 taken_front t h taken true over =
     let end = judged_over h.state t (is_over h.state.phase over) in
     rw end.1 (begins_more h.taken (items_of h.judged) (items_of (t ∷ [])) taken.front)
 
 -- an event without a telegram
-still : (e : Event) (h : History) → taken_by e h.state ≡ [] → handed_by e ≡ [] → Taken h → Taken (grown e h)
+still : (e : Event) (h : History) → taken_by e h.state ≡ [] → handed_by e ≡ [] → Taken h → Taken (add_event e h)
 still e h none silent taken =
     record {
       front = (taken.front.0, rw (none, silent) (ap (λ xs. xs ++ taken.front.0) (append-nil h.taken) ∙ taken.front.1 ∙ ap items_of (sym (append-nil h.judged))));
       whole = λ on. rw (none, silent) (append-nil h.taken ∙ taken.whole (on_before e h.state on) ∙ ap items_of (sym (append-nil h.judged)));
     }
 
-pub taken_grows : (e : Event) (h : History) → Taken h → Taken (grown e h)
+pub taken_grows : (e : Event) (h : History) → Taken h → Taken (add_event e h)
 taken_grows Up h taken = still Up h refl refl taken
 taken_grows (Arrives t) h taken =
     record {
-      front = subst (IsBeginning (h.taken ++ taken_as t (judged h.state t))) (sym (items-append h.judged (t ∷ []))) (taken_front t h taken (is_ended h.state.phase) refl);
+      front = subst (IsBeginning (h.taken ++ taken_as t (judge_telegram h.state t))) (sym (items-append h.judged (t ∷ []))) (taken_front t h taken (is_ended h.state.phase) refl);
       whole = λ on.
-          ap (λ xs. xs ++ taken_as t (judged h.state t)) (taken.whole (on_before (Arrives t) h.state on))
-          ∙ ap (λ xs. items_of h.judged ++ xs) (taken_whole t (judged h.state t) (outcome h.state t) h.state.phase on) ∙ sym (items-append h.judged (t ∷ []));
+          ap (λ xs. xs ++ taken_as t (judge_telegram h.state t)) (taken.whole (on_before (Arrives t) h.state on))
+          ∙ ap (λ xs. items_of h.judged ++ xs) (taken_whole t (judge_telegram h.state t) (outcome h.state t) h.state.phase on) ∙ sym (items-append h.judged (t ∷ []));
     }
 taken_grows (Puts kind payload waits) h taken = still (Puts kind payload waits) h refl refl taken
 taken_grows (InitDone waits) h taken = still (InitDone waits) h refl refl taken
@@ -166,10 +166,10 @@ items_begin xs ys b = (items_of b.0, sym (items-append xs b.0) ∙ ap items_of b
 pub begins_through : (a b c : List Item) → IsBeginning a b → IsBeginning b c → IsBeginning a c
 begins_through a b c f g = (f.0 ++ g.0, sym (append_assoc a f.0 g.0) ∙ ap (λ xs. xs ++ g.0) f.1 ∙ g.1)
 
-pub taken_begun : (addressing : Addressing) (role : Role) → Taken (begun addressing role)
+pub taken_begun : (addressing : Addressing) (role : Role) → Taken (new_history addressing role)
 taken_begun addressing role = record { front = ([], refl); whole = λ _. refl }
 
 pub taken_law : TakenLaw
 taken_law addressing role es =
-    let end = along Taken taken_grows es (begun addressing role) (taken_begun addressing role) in
+    let end = along Taken taken_grows es (new_history addressing role) (taken_begun addressing role) in
     (end.front, end.whole)

@@ -11,7 +11,7 @@ use Rattle.pdi_session.specs.declared.Verdict.TheVariants.{Ends}
 use Rattle.pdi_session.specs.Settings.{Role, Interlocking, Field}
 use Rattle.pdi_session.specs.Telegrams.{form_of, is_addressed}
 use Rattle.pdi_session.specs.Tables.{at_up, table}
-use Rattle.pdi_session.specs.SessionStep.{Event, Up, Arrives, Puts, InitDone, Closes, SessionState, end_of, init_refusal, judged, phase_after, phase_by}
+use Rattle.pdi_session.specs.SessionStep.{Event, Up, Arrives, Puts, InitDone, Closes, SessionState, end_of, init_refusal, judge_telegram, phase_after, phase_by}
 use Rattle.pdi_session.specs.Histories.{is_ended}
 use Rattle.pdi_session.specs.Laws.{OverLaw, BegunLaw}
 use Rattle.pdi_session.proofs.one.TableLemmas.{by_cond}
@@ -36,7 +36,7 @@ table-on : (role : Role) (phase : Phase) (form : Form) → is_ended phase ≡ fa
 table-on (Interlocking version) phase form on none = row-on version phase _ form (interlocking_row version phase form) on none
 table-on (Field versions checksum) phase form on none = field-on versions phase _ form (field_row versions phase form) on none
 
-arrives-on : (s : SessionState) (t : Tele) → is_ended s.phase ≡ false → end_of (judged s t) ≡ None → is_ended (phase_after (Arrives t) s) ≡ false
+arrives-on : (s : SessionState) (t : Tele) → is_ended s.phase ≡ false → end_of (judge_telegram s t) ≡ None → is_ended (phase_after (Arrives t) s) ≡ false
 arrives-on s t on none =
     by_cond (λ v. end_of v ≡ None → is_ended (phase_by s.phase v) ≡ false) (is_addressed s.addressing t) (table s.role s.phase (form_of t.kind t.payload)) (Ends _)
     (λ _ none. table-on s.role s.phase (form_of t.kind t.payload) on none) (λ _ no. cc) none
@@ -71,7 +71,7 @@ not-ending false (Some why) on quiet = cc
 
 pub over_law : OverLaw
 over_law Up s on quiet other = up-on s.role s.phase on
-over_law (Arrives t) s on quiet other = arrives-on s t on (not-ending (is_ended s.phase) (end_of (judged s t)) on quiet)
+over_law (Arrives t) s on quiet other = arrives-on s t on (not-ending (is_ended s.phase) (end_of (judge_telegram s t)) on quiet)
 over_law (Puts kind payload waits) s on quiet other = on
 over_law (InitDone waits) s on quiet other = done-on s waits on
 over_law Closes s on quiet other = absurd (other refl)

@@ -9,8 +9,8 @@ use Rattle.pdi_session.specs.declared.Form.{Form}
 use Rattle.pdi_session.specs.Settings.{Role, Interlocking, Field}
 use Rattle.pdi_session.specs.Telegrams.{form_of, is_addressed}
 use Rattle.pdi_session.specs.Tables.{at_up, is_early, may_put, table}
-use Rattle.pdi_session.specs.SessionStep.{Event, Up, Arrives, Puts, InitDone, Closes, SessionState, Item, init_refusal, judged, phase_after, phase_by}
-use Rattle.pdi_session.specs.Histories.{History, begun, grown, grown_along, put_by}
+use Rattle.pdi_session.specs.SessionStep.{Event, Up, Arrives, Puts, InitDone, Closes, SessionState, Item, init_refusal, judge_telegram, phase_after, phase_by}
+use Rattle.pdi_session.specs.Histories.{History, new_history, add_event, add_events, put_by}
 use Rattle.pdi_session.specs.Laws.{OwnEarlyLaw}
 use Rattle.pdi_session.proofs.one.TableLemmas.{by_cond}
 use Rattle.pdi_session.proofs.one.Rows.{InterlockingRow, IlOver, IlEqual, IlBegins, IlInitial, IlDone, IlStatus, FieldRow, FeOver, FeEqual, FeDiffers, FeAsked, FeCommand, interlocking_row, field_row}
@@ -108,7 +108,7 @@ record Own (h : History) : Type 0 where
 none_more : (a b : List Item) → a ≡ [] → b ≡ [] → a ++ b ≡ []
 none_more a b e f = ap (λ l. l ++ b) e ∙ f
 
-own_grows : (e : Event) (h : History) → Own h → Own (grown e h)
+own_grows : (e : Event) (h : History) → Own h → Own (add_event e h)
 own_grows e h o =
     record {
       early = λ early.
@@ -118,18 +118,18 @@ own_grows e h o =
           (λ t same fails early. none_more h.put (put_by e h.state) (o.early early) (ap (λ f. put_by f h.state) same))
           (λ phase is early. none_more h.put (put_by e h.state) (o.ended phase is early) (shut_puts e h.state (ap (may_put h.state.role) (o.over phase is) ∙ over_shut h.state.role)));
       over = ended_by (λ _. phase_after e h.state ≡ Ended) e h
-          (λ t same fails. ap (λ f. phase_after f h.state) same ∙ phase_by_end h.state.phase (judged h.state t) fails)
+          (λ t same fails. ap (λ f. phase_after f h.state) same ∙ phase_by_end h.state.phase (judge_telegram h.state t) fails)
           (λ phase is. phase_over e h.state (o.over phase is));
     }
 
-own_along : (es : List Event) (h : History) → Own h → Own (grown_along es h)
+own_along : (es : List Event) (h : History) → Own h → Own (add_events es h)
 own_along [] h o = o
-own_along (e ∷ es) h o = own_along es (grown e h) (own_grows e h o)
+own_along (e ∷ es) h o = own_along es (add_event e h) (own_grows e h o)
 
 nothing_some : (phase : Phase) → ◌≡◌ {A = Option Phase} None (Some phase) → ⊥
 nothing_some phase e = cc
 
 pub own_early_law : OwnEarlyLaw
 own_early_law addressing role es =
-    (own_along es (begun addressing role)
+    (own_along es (new_history addressing role)
     (record { early = λ _. refl; ended = λ phase is early. refl; over = λ phase is. absurd (nothing_some phase is) })).ended

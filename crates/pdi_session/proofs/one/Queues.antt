@@ -10,7 +10,7 @@ use Rattle.pdi_session.specs.declared.Phase.TheVariants.{Idle, Checking, Request
 use Rattle.pdi_session.specs.Settings.{Interlocking, Field}
 use Rattle.pdi_session.specs.Tables.{may_put}
 use Rattle.pdi_session.specs.SessionStep.{Event, Up, Arrives, Puts, InitDone, Closes, SessionState, item_of, phase_after, put_refusal}
-use Rattle.pdi_session.specs.Histories.{History, begun, grown, grown_along, put_by}
+use Rattle.pdi_session.specs.Histories.{History, new_history, add_event, add_events, put_by}
 use Rattle.pdi_session.specs.Laws.{FieldLaw, InterlockingLaw, IsFieldQueue, IsInterlockingQueue, IsItem, is_established, items_of, was_established}
 use Rattle.pdi_session.proofs.one.ItemLists.{PutIsQueue, along, put_grows}
 use Rattle.pdi_session.proofs.one.Shapes.{FeAt, FePast, IlAt, IlPast, base, fe_past, il_past}
@@ -58,7 +58,7 @@ put_was version (Puts kind payload waits) h well some =
 put_was version (InitDone waits) h well some = well.some (λ none. some (append-nil h.put ∙ none))
 put_was version Closes h well some = well.some (λ none. some (append-nil h.put ∙ none))
 
-pub il_grows : (version : ℕ) (e : Event) (h : History) → IlWell version h → IlWell version (grown e h)
+pub il_grows : (version : ℕ) (e : Event) (h : History) → IlWell version h → IlWell version (add_event e h)
 il_grows version e h well =
     record {
       role = well.role;
@@ -85,11 +85,11 @@ il_queue version h well past =
 
 pub interlocking_law : InterlockingLaw
 interlocking_law addressing version es =
-    let well : IlWell version (grown_along es (begun addressing (Interlocking version))) =
-    along (IlWell version) (il_grows version) es (begun addressing (Interlocking version))
+    let well : IlWell version (add_events es (new_history addressing (Interlocking version))) =
+    along (IlWell version) (il_grows version) es (new_history addressing (Interlocking version))
     (record { role = refl; at = (refl, refl); now = λ is. absurd (false≢true is); some = λ more. absurd (more refl); items = refl })
     in
-    let h : History = grown_along es (begun addressing (Interlocking version)) in
+    let h : History = add_events es (new_history addressing (Interlocking version)) in
     il_queue version h well (il_past version (base h.state) h.state.phase h.queue h.judged well.at)
 
 -- facts that a field element's history keeps
@@ -98,7 +98,7 @@ pub record FeWell (versions checksum : List ℕ) (h : History) : Type 0 where
   pub at : FeAt (base h.state) h.state.phase h.queue h.judged
   pub items : PutIsQueue h
 
-pub fe_grows : (versions checksum : List ℕ) (e : Event) (h : History) → FeWell versions checksum h → FeWell versions checksum (grown e h)
+pub fe_grows : (versions checksum : List ℕ) (e : Event) (h : History) → FeWell versions checksum h → FeWell versions checksum (add_event e h)
 fe_grows versions checksum e h well =
     record { role = well.role; at = fe_step versions checksum e h.state h.queue h.judged well.role well.at; items = put_grows e h well.items }
 
@@ -110,8 +110,8 @@ fe_queue h past =
 
 pub field_law : FieldLaw
 field_law addressing versions checksum es =
-    let well : FeWell versions checksum (grown_along es (begun addressing (Field versions checksum))) =
-    along (FeWell versions checksum) (fe_grows versions checksum) es (begun addressing (Field versions checksum)) (record { role = refl; at = (refl, refl); items = refl })
+    let well : FeWell versions checksum (add_events es (new_history addressing (Field versions checksum))) =
+    along (FeWell versions checksum) (fe_grows versions checksum) es (new_history addressing (Field versions checksum)) (record { role = refl; at = (refl, refl); items = refl })
     in
-    let h : History = grown_along es (begun addressing (Field versions checksum)) in
+    let h : History = add_events es (new_history addressing (Field versions checksum)) in
     fe_queue h (fe_past (base h.state) h.state.phase h.queue h.judged well.at)

@@ -18,7 +18,7 @@ use Rattle.pdi_session.specs.declared.PutFault.TheVariants as fault
 use Rattle.pdi_session.specs.Settings.{Role, Interlocking, Field}
 use Rattle.pdi_session.specs.Telegrams.{form_of, is_addressed, is_reserved}
 use Rattle.pdi_session.specs.Tables.{table, may_put, is_early}
-use Rattle.pdi_session.specs.SessionStep.{InitDone, SessionState, added_by, at_init_done, end_of, item_of, judged, notice_tele, init_refusal, sent_by, taken_as, most_waiting}
+use Rattle.pdi_session.specs.SessionStep.{InitDone, SessionState, added_by, at_init_done, end_of, item_of, judge_telegram, notice_tele, init_refusal, sent_by, taken_as, most_waiting}
 use Rattle.pdi_session.specs.Laws.{AreReserved, TakesLaw, GoesLaw, OwnLaw, PutLaw, RoomLaw}
 use Rattle.pdi_session.proofs.one.TableLemmas.{by_cond}
 use Rattle.pdi_session.proofs.one.Rows.{InterlockingRow, IlOver, IlEqual, IlBegins, IlInitial, IlDone, IlStatus, FieldRow, FeOver, FeEqual, FeDiffers, FeAsked, FeCommand, interlocking_row, field_row, reserved_of, item_of_form, reserved_notice}
@@ -49,7 +49,7 @@ of_table : (t : Tele) (role : Role) (phase : Phase) → Outcome t (table role ph
 of_table t (Interlocking version) phase = of_interlocking t version phase _ (interlocking_row version phase (form_of t.kind t.payload))
 of_table t (Field versions checksum) phase = of_field t versions phase _ (field_row versions phase (form_of t.kind t.payload))
 
-pub outcome : (s : SessionState) (t : Tele) → Outcome t (judged s t)
+pub outcome : (s : SessionState) (t : Tele) → Outcome t (judge_telegram s t)
 outcome s t = by_cond (Outcome t) (is_addressed s.addressing t) _ _ (λ _. of_table t s.role s.phase) (λ _. Closed detail.NotOfThisPair refl)
 
 takes_by : (t : Tele) (verdict : Verdict) → Outcome t verdict → taken_as t verdict ≢ [] → (is_reserved t.kind ≡ false) × (taken_as t verdict ≡ item_of t ∷ [])
@@ -59,7 +59,7 @@ takes_by t verdict (Answered n f next answer e) some = absurd (some (ap (taken_a
 takes_by t verdict (Took f e) some = (item_of_form t.kind t.payload f, ap (taken_as t) e)
 
 pub takes_law : TakesLaw
-takes_law s t some = takes_by t (judged s t) (outcome s t) some
+takes_law s t some = takes_by t (judge_telegram s t) (outcome s t) some
 
 none_reserved : AreReserved []
 none_reserved = tt
@@ -80,13 +80,13 @@ goes_by t verdict (Answered n f next answer e) on none = reserved_of t.kind t.pa
 goes_by t verdict (Took f e) on none = let some : item_of t ∷ [] ≡ [] = sym (ap (taken_as t) e) ∙ none in cc
 
 pub goes_law : GoesLaw
-goes_law s t on none = (goes_by t (judged s t) (outcome s t) on none, sent_reserved s (judged s t))
+goes_law s t on none = (goes_by t (judge_telegram s t) (outcome s t) on none, sent_reserved s (judge_telegram s t))
 
 own_done : (s : SessionState) (waits : ℕ) → AreReserved (added_by (InitDone waits) s)
 own_done s waits = by_cond AreReserved (is_none (init_refusal s waits)) _ _ (λ _. sent_reserved s at_init_done) (λ _. none_reserved)
 
 pub own_law : OwnLaw
-own_law s = (sent_reserved s _, own_done s, λ t. sent_reserved s (judged s t))
+own_law s = (sent_reserved s _, own_done s, λ t. sent_reserved s (judge_telegram s t))
 
 put_by_tests : (s : SessionState) (kind : ℕ) (payload : List ℕ) (a b c d : Bool) → is_reserved kind ≡ c
     → cond (not a) (Some fault.NotEstablished) (cond b (Some fault.Full) (cond c (Some fault.ReservedType) (cond d (Some fault.TooLong) None))) ≡ None → is_reserved kind ≡ false

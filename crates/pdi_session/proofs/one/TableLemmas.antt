@@ -14,7 +14,7 @@ use Rattle.pdi_session.specs.declared.Verdict.TheVariants.{Takes, Goes, Answers,
 use Rattle.pdi_session.specs.Settings.{Role, Interlocking, Field}
 use Rattle.pdi_session.specs.Telegrams.{form_of, is_addressed}
 use Rattle.pdi_session.specs.Tables.{table, interlocking_table, field_table}
-use Rattle.pdi_session.specs.SessionStep.{SessionState, FewWait, judged, most_waiting, phase_by, sent_by, texts, with_phase}
+use Rattle.pdi_session.specs.SessionStep.{SessionState, FewWait, judge_telegram, most_waiting, phase_by, sent_by, texts, with_phase}
 
 -- a choice by a test has what both ways have
 pub by_cond : {A : Type 0} (P : A → Type 0) (b : Bool) (x y : A) → (b ≡ true → P x) → (b ≡ false → P y) → P (cond b x y)
@@ -107,7 +107,7 @@ table_fits (Interlocking version) phase form = interlocking_fits version phase f
 table_fits (Field versions checksum) phase form = field_fits versions phase form
 
 -- so it is for any decision on a telegram
-pub judged_fits : (s : SessionState) (t : Tele) → Fits s.phase (judged s t)
+pub judged_fits : (s : SessionState) (t : Tele) → Fits s.phase (judge_telegram s t)
 judged_fits s t = by_cond (Fits s.phase) (is_addressed s.addressing t) _ _ (λ _. table_fits s.role s.phase (form_of t.kind t.payload)) (λ _. most s.phase)
 
 length-sent : (s : SessionState) (verdict : Verdict) → length (texts (sent_by s verdict)) ≡ sends verdict
@@ -117,6 +117,6 @@ length-sent s (Answers next n) = refl
 length-sent s (Ends why) = refl
 
 -- and the bound on waiting messages still holds
-pub few_judged : (s : SessionState) (t : Tele) (waiting : List (List ℕ)) → FewWait s waiting → FewWait (with_phase (phase_by s.phase (judged s t)) s) (waiting ++ texts (sent_by s (judged s t)))
+pub few_judged : (s : SessionState) (t : Tele) (waiting : List (List ℕ)) → FewWait s waiting → FewWait (with_phase (phase_by s.phase (judge_telegram s t)) s) (waiting ++ texts (sent_by s (judge_telegram s t)))
 few_judged s t waiting few =
-    omega (arith, few, judged_fits s t, length-sent s (judged s t), length-append waiting (texts (sent_by s (judged s t))))
+    omega (arith, few, judged_fits s t, length-sent s (judge_telegram s t), length-append waiting (texts (sent_by s (judge_telegram s t))))

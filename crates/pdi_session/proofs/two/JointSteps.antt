@@ -15,10 +15,10 @@ use Rattle.pdi_session.specs.declared.Verdict.TheVariants.{Takes, Goes, Answers,
 use Rattle.pdi_session.specs.Settings.{Addressing, Role, Interlocking, Field}
 use Rattle.pdi_session.specs.Telegrams.{form_of, is_addressed}
 use Rattle.pdi_session.specs.Tables.{at_up, is_early, is_initialising, may_put, table}
-use Rattle.pdi_session.specs.SessionStep.{Event, Up, Arrives, Puts, InitDone, Closes, SessionState, added_by, end_of, judged, phase_after, phase_by, sent_by}
-use Rattle.pdi_session.specs.Histories.{History, ends_by, grown, grown_along, handed_by, is_ended}
+use Rattle.pdi_session.specs.SessionStep.{Event, Up, Arrives, Puts, InitDone, Closes, SessionState, added_by, end_of, judge_telegram, phase_after, phase_by, sent_by}
+use Rattle.pdi_session.specs.Histories.{History, ends_by, add_event, add_events, handed_by, is_ended}
 use Rattle.pdi_session.specs.Laws.{items_of}
-use Rattle.pdi_session.specs.JoinedSessions.{AtFe, AtIl, EndsEarly, InTurn, IsNext, IsNextAt, Joined, JoinedEvent, OneMoreLaw, PhaseLaw, TakesFrontLaw, happen, happens, joined}
+use Rattle.pdi_session.specs.JoinedSessions.{AtFe, AtIl, EndsEarly, InTurn, IsNext, IsNextAt, Joined, JoinedEvent, OneMoreLaw, PhaseLaw, TakesFrontLaw, apply_events, apply_event, new_sessions}
 use Rattle.pdi_session.proofs.one.TableLemmas.{by_cond}
 use Rattle.pdi_session.proofs.one.ItemLists.{PutIsQueue, Taken, begins_through, items_begin, phase_over, put_grows, taken_begun, taken_grows}
 use Rattle.pdi_session.proofs.one.Shapes.{FeAt, base, differs_from, equal_from, fe_past, il_past}
@@ -91,14 +91,14 @@ next_begins Closes h peer next begins = subst (λ l. IsBeginning l peer.queue) (
 
 -- the phase in which a session ended, by whether this event ended it
 pub ended_by : (P : Phase → Type 0) (e : Event) (h : History) → ((t : Tele) → e ≡ Arrives t → Fails h t → P h.state.phase) → ((phase : Phase) → h.ended_in ≡ Some phase → P phase)
-    → (phase : Phase) → (grown e h).ended_in ≡ Some phase → P phase
+    → (phase : Phase) → (add_event e h).ended_in ≡ Some phase → P phase
 ended_by P Up h new old phase is = old phase is
 ended_by P (Arrives t) h new old phase is =
     by_bool (λ b. ends_by (Arrives t) h.state ≡ b → cond b (Some h.state.phase) h.ended_in ≡ Some phase → P phase) (ends_by (Arrives t) h.state)
-    (λ _ ends some. subst P (ap (λ o. unwrap_or o h.state.phase) some) (new t refl (fails (is_ended h.state.phase) (is_none (end_of (judged h.state t))) refl ends)))
+    (λ _ ends some. subst P (ap (λ o. unwrap_or o h.state.phase) some) (new t refl (fails (is_ended h.state.phase) (is_none (end_of (judge_telegram h.state t))) refl ends)))
     (λ _ _ some. old phase some) refl is
   where
-    fails : (a b : Bool) → is_none (end_of (judged h.state t)) ≡ b → (not a && not b) ≡ true → is_none (end_of (judged h.state t)) ≡ false
+    fails : (a b : Bool) → is_none (end_of (judge_telegram h.state t)) ≡ b → (not a && not b) ≡ true → is_none (end_of (judge_telegram h.state t)) ≡ false
     fails false false same ends = same
     fails false true same ends = absurd (false≢true ends)
     fails true b same ends = absurd (false≢true ends)
@@ -106,7 +106,7 @@ ended_by P (Puts kind payload waits) h new old phase is = old phase is
 ended_by P (InitDone waits) h new old phase is = old phase is
 ended_by P Closes h new old phase is = old phase is
 
-pub il_event : (version : ℕ) (versions checksum : List ℕ) (e : Event) (x y : History) → IsNext e x y → Both version versions checksum x y → Both version versions checksum (grown e x) y
+pub il_event : (version : ℕ) (versions checksum : List ℕ) (e : Event) (x y : History) → IsNext e x y → Both version versions checksum x y → Both version versions checksum (add_event e x) y
 il_event version versions checksum e x y next b =
     let j : Joint version versions checksum x y = b.joint in
     record {
@@ -144,7 +144,7 @@ phase_by_end phase (Goes next) over = absurd (true≢false over)
 phase_by_end phase (Answers next n) over = absurd (true≢false over)
 phase_by_end phase (Ends why) over = refl
 
-pub fe_event : (version : ℕ) (versions checksum : List ℕ) (e : Event) (x y : History) → IsNext e y x → Both version versions checksum x y → Both version versions checksum x (grown e y)
+pub fe_event : (version : ℕ) (versions checksum : List ℕ) (e : Event) (x y : History) → IsNext e y x → Both version versions checksum x y → Both version versions checksum x (add_event e y)
 fe_event version versions checksum e x y next b =
     let j : Joint version versions checksum x y = b.joint in
     record {
@@ -171,24 +171,24 @@ fe_event version versions checksum e x y next b =
           (λ t same fails.
           let n : IsNext (Arrives t) y x = subst (λ f. IsNext f y x) same next in
           let failed = fe_fails version versions checksum x y t n.1.0 j y.state.phase refl j.fe_at (il_past version (base x.state) x.state.phase x.queue x.judged j.il_at) n.1.1 n.0 fails in
-          let none : added_by e y.state ≡ [] = ap (λ f. added_by f y.state) same ∙ sent_over y.state (judged y.state t) fails in
+          let none : added_by e y.state ≡ [] = ap (λ f. added_by f y.state) same ∙ sent_over y.state (judge_telegram y.state t) fails in
           (failed.0, ap (λ l. y.queue ++ l) none ∙ append-nil y.queue ∙ failed.1))
           (λ phase is.
           let before = b.fe_ended phase is in
           let none : added_by e y.state ≡ [] = quiet_field versions checksum e y.state j.fe_role (inr (b.fe_over phase is)) in
           (before.0, ap (λ l. y.queue ++ l) none ∙ append-nil y.queue ∙ before.1));
       fe_over = ended_by (λ _. phase_after e y.state ≡ Ended) e y
-          (λ t same fails. ap (λ f. phase_after f y.state) same ∙ phase_by_end y.state.phase (judged y.state t) fails)
+          (λ t same fails. ap (λ f. phase_after f y.state) same ∙ phase_by_end y.state.phase (judge_telegram y.state t) fails)
           (λ phase is. phase_over e y.state (b.fe_over phase is));
     }
 
 both_along : (version : ℕ) (versions checksum : List ℕ) (es : List JoinedEvent) (j : Joined) → InTurn es j → Both version versions checksum j.il j.fe
-    → Both version versions checksum (happen es j).il (happen es j).fe
+    → Both version versions checksum (apply_events es j).il (apply_events es j).fe
 both_along version versions checksum [] j turn b = b
 both_along version versions checksum (AtIl e ∷ es) j turn b =
-    both_along version versions checksum es (happens (AtIl e) j) turn.1 (il_event version versions checksum e j.il j.fe turn.0 b)
+    both_along version versions checksum es (apply_event (AtIl e) j) turn.1 (il_event version versions checksum e j.il j.fe turn.0 b)
 both_along version versions checksum (AtFe e ∷ es) j turn b =
-    both_along version versions checksum es (happens (AtFe e) j) turn.1 (fe_event version versions checksum e j.il j.fe turn.0 b)
+    both_along version versions checksum es (apply_event (AtFe e) j) turn.1 (fe_event version versions checksum e j.il j.fe turn.0 b)
 
 -- while a field element has sent nothing, its peer has put no command
 nothing_put : (version : ℕ) (versions checksum : List ℕ) (x y : History) → Both version versions checksum x y → y.queue ≡ [] → x.put ≡ []
@@ -211,7 +211,7 @@ some_none phase e = cc
 
 -- two new sessions keep it
 pub both_joined : (il fe : Addressing) (version : ℕ) (versions checksum : List ℕ) → length checksum ≤ CHECKSUM_MAX
-    → Both version versions checksum (joined il version fe versions checksum).il (joined il version fe versions checksum).fe
+    → Both version versions checksum (new_sessions il version fe versions checksum).il (new_sessions il version fe versions checksum).fe
 both_joined il fe version versions checksum short =
     record {
       joint = record { il_role = refl; fe_role = refl; short = short; il_at = (refl, refl); fe_at = (refl, refl); il_hears = ([], refl); fe_hears = ([], refl) };
@@ -225,10 +225,10 @@ both_joined il fe version versions checksum short =
     }
 
 -- and after all events
-pub both_after : (il fe : Addressing) (version : ℕ) (versions checksum : List ℕ) → length checksum ≤ CHECKSUM_MAX → (es : List JoinedEvent) → InTurn es (joined il version fe versions checksum)
-    → Both version versions checksum (happen es (joined il version fe versions checksum)).il (happen es (joined il version fe versions checksum)).fe
+pub both_after : (il fe : Addressing) (version : ℕ) (versions checksum : List ℕ) → length checksum ≤ CHECKSUM_MAX → (es : List JoinedEvent) → InTurn es (new_sessions il version fe versions checksum)
+    → Both version versions checksum (apply_events es (new_sessions il version fe versions checksum)).il (apply_events es (new_sessions il version fe versions checksum)).fe
 both_after il fe version versions checksum short es turn =
-    both_along version versions checksum es (joined il version fe versions checksum) turn (both_joined il fe version versions checksum short)
+    both_along version versions checksum es (new_sessions il version fe versions checksum) turn (both_joined il fe version versions checksum short)
 
 pub phase_law : PhaseLaw
 phase_law il fe version versions checksum short es turn = ends_early version versions checksum _ _ (both_after il fe version versions checksum short es turn)
@@ -240,22 +240,22 @@ takes_front h peer taken hears items =
 
 pub fronts_law : TakesFrontLaw
 fronts_law il fe version versions checksum short es turn =
-    let end : Joined = happen es (joined il version fe versions checksum) in
+    let end : Joined = apply_events es (new_sessions il version fe versions checksum) in
     let b : Both version versions checksum end.il end.fe = both_after il fe version versions checksum short es turn in
     (takes_front end.il end.fe b.il_taken b.joint.il_hears b.fe_items, takes_front end.fe end.il b.fe_taken b.joint.fe_hears b.il_items)
 
 -- one more event, at the end
-grown_more : (es : List Event) (e : Event) (h : History) → grown_along (es ++ e ∷ []) h ≡ grown e (grown_along es h)
+grown_more : (es : List Event) (e : Event) (h : History) → add_events (es ++ e ∷ []) h ≡ add_event e (add_events es h)
 grown_more [] e h = refl
-grown_more (x ∷ es) e h = grown_more es e (grown x h)
+grown_more (x ∷ es) e h = grown_more es e (add_event x h)
 
-happen_more : (es : List JoinedEvent) (e : JoinedEvent) (j : Joined) → happen (es ++ e ∷ []) j ≡ happens e (happen es j)
+happen_more : (es : List JoinedEvent) (e : JoinedEvent) (j : Joined) → apply_events (es ++ e ∷ []) j ≡ apply_event e (apply_events es j)
 happen_more [] e j = refl
-happen_more (x ∷ es) e j = happen_more es e (happens x j)
+happen_more (x ∷ es) e j = happen_more es e (apply_event x j)
 
-turn_more : (es : List JoinedEvent) (e : JoinedEvent) (j : Joined) → InTurn es j → IsNextAt e (happen es j) → InTurn (es ++ e ∷ []) j
+turn_more : (es : List JoinedEvent) (e : JoinedEvent) (j : Joined) → InTurn es j → IsNextAt e (apply_events es j) → InTurn (es ++ e ∷ []) j
 turn_more [] e j turn next = (next, tt)
-turn_more (x ∷ es) e j turn next = (turn.0, turn_more es e (happens x j) turn.1 next)
+turn_more (x ∷ es) e j turn next = (turn.0, turn_more es e (apply_event x j) turn.1 next)
 
 pub one_more_law : OneMoreLaw
 one_more_law = (grown_more, happen_more, turn_more)

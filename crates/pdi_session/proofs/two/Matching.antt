@@ -13,9 +13,9 @@ use Rattle.pdi_session.specs.declared.Verdict.TheVariants.{Answers}
 use Rattle.pdi_session.specs.Settings.{Field}
 use Rattle.pdi_session.specs.Telegrams.{form_of, is_addressed}
 use Rattle.pdi_session.specs.Tables.{at_up, is_early}
-use Rattle.pdi_session.specs.SessionStep.{Event, Up, Arrives, Puts, InitDone, Closes, added_by, end_of, judged, sent_by}
-use Rattle.pdi_session.specs.Histories.{History, grown}
-use Rattle.pdi_session.specs.JoinedSessions.{AtFe, AtIl, InTurn, IsNext, Joined, JoinedEvent, MatchingLaw, happen, happens, joined}
+use Rattle.pdi_session.specs.SessionStep.{Event, Up, Arrives, Puts, InitDone, Closes, added_by, end_of, judge_telegram, sent_by}
+use Rattle.pdi_session.specs.Histories.{History, add_event}
+use Rattle.pdi_session.specs.JoinedSessions.{AtFe, AtIl, InTurn, IsNext, Joined, JoinedEvent, MatchingLaw, apply_events, apply_event, new_sessions}
 use Rattle.pdi_session.proofs.one.Shapes.{FeAt, base, check_from, differs_from, il_past}
 use Rattle.pdi_session.proofs.two.PhaseLemma.{Crossed, Joint, decides, first_same, to_field}
 use Rattle.pdi_session.proofs.two.PhaseFails.{Fails, fe_fails}
@@ -30,7 +30,7 @@ record Fit (version : ℕ) (versions : List ℕ) (x y : History) : Type 0 where
 
 -- the reply to the check has its version
 answers : (version : ℕ) (versions checksum : List ℕ) (x y : History) (t : Tele) → Both version versions checksum x y → Fit version versions x y → y.state.phase ≡ AwaitCheck → y.judged ≡ []
-    → IsBeginning (y.judged ++ t ∷ []) x.queue → judged y.state t ≡ Answers AwaitRequest (notice.VersionEqual version)
+    → IsBeginning (y.judged ++ t ∷ []) x.queue → judge_telegram y.state t ≡ Answers AwaitRequest (notice.VersionEqual version)
 answers version versions checksum x y t b f phase none begins =
     let j : Joint version versions checksum x y = b.joint in
     let line : t ∷ begins.0 ≡ x.queue = ap (λ l. (l ++ t ∷ []) ++ begins.0) (sym none) ∙ begins.1 in
@@ -97,10 +97,10 @@ fails_idle version versions checksum x y t b f next Initialising p at early fail
 fails_idle version versions checksum x y t b f next Established p at early fails = absurd (false≢true early.0)
 fails_idle version versions checksum x y t b f next Ended p at early fails = absurd (false≢true early.0)
 
-fit_il : (version : ℕ) (versions : List ℕ) (e : Event) (x y : History) → Fit version versions x y → Fit version versions (grown e x) y
+fit_il : (version : ℕ) (versions : List ℕ) (e : Event) (x y : History) → Fit version versions x y → Fit version versions (add_event e x) y
 fit_il version versions e x y f = record { crossed = f.crossed; version_is = f.version_is; equal = f.equal; idle = f.idle }
 
-fit_fe : (version : ℕ) (versions checksum : List ℕ) (e : Event) (x y : History) → IsNext e y x → Both version versions checksum x y → Fit version versions x y → Fit version versions x (grown e y)
+fit_fe : (version : ℕ) (versions checksum : List ℕ) (e : Event) (x y : History) → IsNext e y x → Both version versions checksum x y → Fit version versions x y → Fit version versions x (add_event e y)
 fit_fe version versions checksum e x y next b f =
     let j : Joint version versions checksum x y = b.joint in
     record {
@@ -121,20 +121,20 @@ record Well (version : ℕ) (versions checksum : List ℕ) (x y : History) : Typ
   both : Both version versions checksum x y
   fit : Fit version versions x y
 
-well_along : (version : ℕ) (versions checksum : List ℕ) (es : List JoinedEvent) (j : Joined) → InTurn es j → Well version versions checksum j.il j.fe → Well version versions checksum (happen es j).il (happen es j).fe
+well_along : (version : ℕ) (versions checksum : List ℕ) (es : List JoinedEvent) (j : Joined) → InTurn es j → Well version versions checksum j.il j.fe → Well version versions checksum (apply_events es j).il (apply_events es j).fe
 well_along version versions checksum [] j turn w = w
 well_along version versions checksum (AtIl e ∷ es) j turn w =
-    well_along version versions checksum es (happens (AtIl e) j) turn.1 (record { both = il_event version versions checksum e j.il j.fe turn.0 w.both; fit = fit_il version versions e j.il j.fe w.fit })
+    well_along version versions checksum es (apply_event (AtIl e) j) turn.1 (record { both = il_event version versions checksum e j.il j.fe turn.0 w.both; fit = fit_il version versions e j.il j.fe w.fit })
 well_along version versions checksum (AtFe e ∷ es) j turn w =
-    well_along version versions checksum es (happens (AtFe e) j) turn.1 (record { both = fe_event version versions checksum e j.il j.fe turn.0 w.both; fit = fit_fe version versions checksum e j.il j.fe turn.0 w.both w.fit })
+    well_along version versions checksum es (apply_event (AtFe e) j) turn.1 (record { both = fe_event version versions checksum e j.il j.fe turn.0 w.both; fit = fit_fe version versions checksum e j.il j.fe turn.0 w.both w.fit })
 
 nothing_some : (phase : Phase) → ◌≡◌ {A = Option Phase} None (Some phase) → ⊥
 nothing_some phase e = cc
 
 pub matching_law : MatchingLaw
 matching_law il fe version versions checksum short fits es turn =
-    let b = joined il version fe versions checksum in
-    let w : Well version versions checksum (happen es b).il (happen es b).fe =
+    let b = new_sessions il version fe versions checksum in
+    let w : Well version versions checksum (apply_events es b).il (apply_events es b).fe =
     well_along version versions checksum es b turn
     (record {
       both = both_joined il fe version versions checksum short;
@@ -145,7 +145,7 @@ matching_law il fe version versions checksum short fits es turn =
         idle = λ phase is. absurd (nothing_some phase is);
       };
     }) in
-    (none_of (happen es b).il.ended_in refl w, w.fit.idle)
+    (none_of (apply_events es b).il.ended_in refl w, w.fit.idle)
   where
     none_of : {x y : History} (o : Option Phase) → x.ended_in ≡ o → Well version versions checksum x y → o ≡ None
     none_of None is w = refl

@@ -13,7 +13,7 @@ use Rattle.pdi_session.specs.declared.Verdict.TheVariants.{Takes, Goes, Answers}
 use Rattle.pdi_session.specs.Settings.{Interlocking, Field}
 use Rattle.pdi_session.specs.Telegrams.{form_of, is_addressed}
 use Rattle.pdi_session.specs.Tables.{interlocking_table, is_early}
-use Rattle.pdi_session.specs.SessionStep.{SessionState, end_of, judged, notice_tele}
+use Rattle.pdi_session.specs.SessionStep.{SessionState, end_of, judge_telegram, notice_tele}
 use Rattle.pdi_session.specs.Histories.{History, is_ended}
 use Rattle.pdi_session.specs.Laws.{IsItem, IsStatus, completions}
 use Rattle.pdi_session.proofs.one.Shapes.{Accepts, Asked, FeAt, FePast, Heard, IlAt, IlPast, Refuses, Starts, Told, base, check_from, completions-append, differs_from, equal_from, request_from, start_from}
@@ -22,7 +22,7 @@ use Rattle.pdi_session.proofs.two.PhaseLemma.{Joint, decides, equal_says, first_
 
 -- a telegram ends the session
 abbrev pub Fails : History → Tele → Type 0
-Fails h t = is_none (end_of (judged h.state t)) ≡ false
+Fails h t = is_none (end_of (judge_telegram h.state t)) ≡ false
 
 -- then the field element has refused the version
 abbrev pub IlFailed : Phase → History → Type 0
@@ -42,7 +42,7 @@ heard_some asked s js queue heard begins none =
 
 module _ (version : ℕ) (versions checksum : List ℕ) (x y : History) (t : Tele) (rest : List Tele) (j : Joint version versions checksum x y) where
   -- the interlocking goes on at a reply of equal versions
-  equal_goes : (asked : ℕ) → Heard asked (base y.state) y.judged → x.state.phase ≡ Checking → t ≡ equal_from asked (base y.state) → is_none (end_of (judged x.state t)) ≡ true
+  equal_goes : (asked : ℕ) → Heard asked (base y.state) y.judged → x.state.phase ≡ Checking → t ≡ equal_from asked (base y.state) → is_none (end_of (judge_telegram x.state t)) ≡ true
   equal_goes asked heard phase is =
       let m = met version versions checksum x y asked j heard in
       let from : is_addressed x.state.addressing t ≡ true = ap (is_addressed x.state.addressing) is ∙ to_interlocking x.state.addressing y.state.addressing (equal_from asked (base y.state)).kind (equal_from asked (base y.state)).payload m.crossed in
@@ -51,7 +51,7 @@ module _ (version : ℕ) (versions checksum : List ℕ) (x y : History) (t : Tel
       goes_on x.state t (Answers Requesting notice.InitialisationRequest) (decides x.state t (Interlocking version) Checking (Notifies (notice.VersionEqual asked)) j.il_role phase from says ∙ rw same refl) refl
 
   -- and at the start of the initialisation
-  start_goes : (asked : ℕ) → Heard asked (base y.state) y.judged → x.state.phase ≡ Requesting → t ≡ start_from (base y.state) → is_none (end_of (judged x.state t)) ≡ true
+  start_goes : (asked : ℕ) → Heard asked (base y.state) y.judged → x.state.phase ≡ Requesting → t ≡ start_from (base y.state) → is_none (end_of (judge_telegram x.state t)) ≡ true
   start_goes asked heard phase is =
       let m = met version versions checksum x y asked j heard in
       let from : is_addressed x.state.addressing t ≡ true = ap (is_addressed x.state.addressing) is ∙ to_interlocking x.state.addressing y.state.addressing (start_from (base y.state)).kind (start_from (base y.state)).payload m.crossed in
@@ -60,7 +60,7 @@ module _ (version : ℕ) (versions checksum : List ℕ) (x y : History) (t : Tel
 
   -- and at a status
   status_goes : (asked : ℕ) (phase : Phase) → Heard asked (base y.state) y.judged → x.state.phase ≡ phase → (phase ≡ Initialising) ⊎ (phase ≡ Established) → IsItem (base y.state) t
-      → is_none (end_of (judged x.state t)) ≡ true
+      → is_none (end_of (judge_telegram x.state t)) ≡ true
   status_goes asked phase heard p now item =
       let m = met version versions checksum x y asked j heard in
       let from : is_addressed x.state.addressing t ≡ true = ap (is_addressed x.state.addressing) item.1 ∙ to_interlocking x.state.addressing y.state.addressing t.kind t.payload m.crossed in
@@ -68,7 +68,7 @@ module _ (version : ℕ) (versions checksum : List ℕ) (x y : History) (t : Tel
       goes_on x.state t Takes (decides x.state t (Interlocking version) phase Item j.il_role p from (free_form t.kind t.payload item.0) ∙ takes) refl
 
   -- and, while it is Initialising, at the end of the initialisation
-  done_goes : (asked : ℕ) → Heard asked (base y.state) y.judged → x.state.phase ≡ Initialising → t ≡ notice_tele (base y.state) notice.InitialisationCompleted → is_none (end_of (judged x.state t)) ≡ true
+  done_goes : (asked : ℕ) → Heard asked (base y.state) y.judged → x.state.phase ≡ Initialising → t ≡ notice_tele (base y.state) notice.InitialisationCompleted → is_none (end_of (judge_telegram x.state t)) ≡ true
   done_goes asked heard phase is =
       let m = met version versions checksum x y asked j heard in
       let from : is_addressed x.state.addressing t ≡ true = ap (is_addressed x.state.addressing) is ∙ to_interlocking x.state.addressing y.state.addressing (notice_tele (base y.state) notice.InitialisationCompleted).kind (notice_tele (base y.state) notice.InitialisationCompleted).payload m.crossed in
@@ -86,7 +86,7 @@ module _ (version : ℕ) (versions checksum : List ℕ) (x y : History) (t : Tel
       nobody : (asked : ℕ) → Heard asked (base y.state) y.judged → x.queue ≡ [] → ⊥
       nobody asked heard none = heard_some asked (base y.state) y.judged x.queue heard j.fe_hears none
 
-      against : is_none (end_of (judged x.state t)) ≡ true → ⊥
+      against : is_none (end_of (judge_telegram x.state t)) ≡ true → ⊥
       against goes = true≢false (sym goes ∙ fails)
 
       refused : (phase : Phase) → x.state.phase ≡ phase → IlAt version (base x.state) phase x.queue x.judged → Refuses (base y.state) y.queue y.judged → is_ended phase ≡ false → IlFailed phase y
@@ -136,7 +136,7 @@ module _ (version : ℕ) (versions checksum : List ℕ) (x y : History) (t : Tel
       started Ended p at r unfinished = absurd (true≢false unfinished)
 
   -- the field element goes on at the request
-  request_goes : (asked : ℕ) → Heard asked (base y.state) y.judged → y.state.phase ≡ AwaitRequest → t ≡ request_from (base x.state) → is_none (end_of (judged y.state t)) ≡ true
+  request_goes : (asked : ℕ) → Heard asked (base y.state) y.judged → y.state.phase ≡ AwaitRequest → t ≡ request_from (base x.state) → is_none (end_of (judge_telegram y.state t)) ≡ true
   request_goes asked heard phase is =
       let m = met version versions checksum x y asked j heard in
       let from : is_addressed y.state.addressing t ≡ true =
@@ -147,7 +147,7 @@ module _ (version : ℕ) (versions checksum : List ℕ) (x y : History) (t : Tel
       (decides y.state t (Field versions checksum) AwaitRequest (Notifies notice.InitialisationRequest) j.fe_role phase from says) refl
 
   -- and at a command
-  command_goes : (asked : ℕ) → Heard asked (base y.state) y.judged → y.state.phase ≡ Established → IsItem (base x.state) t → is_none (end_of (judged y.state t)) ≡ true
+  command_goes : (asked : ℕ) → Heard asked (base y.state) y.judged → y.state.phase ≡ Established → IsItem (base x.state) t → is_none (end_of (judge_telegram y.state t)) ≡ true
   command_goes asked heard phase item =
       let m = met version versions checksum x y asked j heard in
       let from : is_addressed y.state.addressing t ≡ true = ap (is_addressed y.state.addressing) item.1 ∙ to_field x.state.addressing y.state.addressing t.kind t.payload m.crossed in
@@ -158,7 +158,7 @@ module _ (version : ℕ) (versions checksum : List ℕ) (x y : History) (t : Tel
       → is_ended phase ≡ false → Fails y t → (is_early phase ≡ true) × (y.queue ≡ [])
   fe_fails phase p at past next unended fails = by phase p at unended
     where
-      against : is_none (end_of (judged y.state t)) ≡ true → ⊥
+      against : is_none (end_of (judge_telegram y.state t)) ≡ true → ⊥
       against goes = true≢false (sym goes ∙ fails)
 
       -- there are two telegrams, so it was requested

@@ -16,7 +16,7 @@ use Rattle.pdi_session.specs.declared.Verdict.{Verdict}
 use Rattle.pdi_session.specs.Settings.{Addressing, Role, Interlocking, Field, checksum_of}
 use Rattle.pdi_session.specs.Telegrams.{form_of, is_addressed, is_reserved, kind_of, payload_of, telegram}
 use Rattle.pdi_session.specs.Tables.{table}
-use Rattle.pdi_session.specs.SessionStep.{SessionState, end_of, judged}
+use Rattle.pdi_session.specs.SessionStep.{SessionState, end_of, judge_telegram}
 use Rattle.pdi_session.specs.Histories.{History}
 use Rattle.pdi_session.proofs.one.Rows.{FormKind, form_kind, reserved_notice}
 use Rattle.pdi_session.proofs.one.Shapes.{All-next, FeAt, Heard, IlAt, IlPast, base, check_from, equal_from, il_past, request_from}
@@ -55,10 +55,10 @@ to_interlocking a b kind payload c = to_field b a kind payload (record { protoco
 
 -- the decision on a telegram for this end with this form
 pub decides : (s : SessionState) (t : Tele) (role : Role) (phase : Phase) (form : Form) → s.role ≡ role → s.phase ≡ phase → is_addressed s.addressing t ≡ true → form_of t.kind t.payload ≡ form
-    → judged s t ≡ table role phase form
+    → judge_telegram s t ≡ table role phase form
 decides s t role phase form r p from says = rw from (ap (λ x. table x s.phase (form_of t.kind t.payload)) r ∙ ap (λ x. table role x (form_of t.kind t.payload)) p ∙ ap (table role phase) says)
 
-pub goes_on : (s : SessionState) (t : Tele) (verdict : Verdict) → judged s t ≡ verdict → is_none (end_of verdict) ≡ true → is_none (end_of (judged s t)) ≡ true
+pub goes_on : (s : SessionState) (t : Tele) (verdict : Verdict) → judge_telegram s t ≡ verdict → is_none (end_of verdict) ≡ true → is_none (end_of (judge_telegram s t)) ≡ true
 goes_on s t verdict e is = ap (λ v. is_none (end_of v)) e ∙ is
 
 -- the form of a message type that is not reserved

@@ -18,8 +18,8 @@ abbrev pub IsName : List ℕ → Type 0
 IsName text = (0 < length text) × (length text ≤ NAME_LENGTH) × HasCharacters text
 
 -- a name as a telegram has it: with filling, 20 bytes
-abbrev pub filled : List ℕ → List ℕ
-filled name = name ++ replicate (NAME_LENGTH - length name) FILLING
+abbrev pub fill_name : List ℕ → List ℕ
+fill_name name = name ++ replicate (NAME_LENGTH - length name) FILLING
 
 -- the fault is the first that the text has
 abbrev pub FirstNameFault : List ℕ → NameFault → Type 0

@@ -10,7 +10,7 @@ use Rattle.pdi_session.specs.declared.telegram.Name.{Name}
 use Rattle.pdi_session.specs.declared.telegram.TeleFault.{TeleFault}
 use Rattle.pdi_session.specs.declared.telegram.TeleFault.TheVariants as fault
 use Rattle.pdi_session.specs.declared.telegram.Telegram.{Telegram}
-use Rattle.pdi_session.specs.telegram.Names.{IsName, filled, name_read}
+use Rattle.pdi_session.specs.telegram.Names.{IsName, fill_name, name_read}
 use Rattle.pdi_session.specs.telegram.Tele.{Tele, characters_of, tele_of}
 
 -- the number of bytes before the first filling
@@ -44,7 +44,7 @@ IsSized octets = (MESSAGE_MIN ≤ length octets) × (length octets ≤ MESSAGE_M
 
 -- the field is not a valid name with its filling
 abbrev pub HoldsNoName : List ℕ → Type 0
-HoldsNoName field = (name : List ℕ) → IsName name → ¬ (field ≡ filled name)
+HoldsNoName field = (name : List ℕ) → IsName name → ¬ (field ≡ fill_name name)
 
 -- the fault is the first that these bytes have
 abbrev pub FirstFault : List ℕ → TeleFault → Type 0

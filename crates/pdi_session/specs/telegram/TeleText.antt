@@ -2,12 +2,12 @@
 use Rattle.std.specs.Prelude.{◌≡◌, ◌<◌, ◌≤◌, ◌^◌, ℕ, List, [], ◌∷◌, ◌++◌, length}
 use Rattle.byteorder.specs.Endian.{little_bytes}
 use Rattle.octets.specs.declared.limits.TheConstants.{PAYLOAD_MAX}
-use Rattle.pdi_session.specs.telegram.Names.{IsName, filled}
+use Rattle.pdi_session.specs.telegram.Names.{IsName, fill_name}
 use Rattle.pdi_session.specs.telegram.Tele.{Tele}
 
 -- protocol type, message type, sender, receiver, payload
 abbrev pub tele_text : Tele → List ℕ
-tele_text t = (t.protocol ∷ []) ++ little_bytes 2 t.kind ++ filled t.sender ++ filled t.receiver ++ t.payload
+tele_text t = (t.protocol ∷ []) ++ little_bytes 2 t.kind ++ fill_name t.sender ++ fill_name t.receiver ++ t.payload
 
 -- the bytes are the encoding of the telegram with these fields
 pub record TeleText (t : Tele) (octets : List ℕ) : Type 0 where

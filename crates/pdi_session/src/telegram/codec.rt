@@ -1,7 +1,7 @@
 //! Encoding and decoding of telegrams.
 
 ghost use Rattle.std.specs.Prelude.{◌≡◌, ◌==◌, ℕ, ◌+◌, ◌≤◌, ◌++◌, not, List, length, take, drop, count_by, Ok, IfOk, IfErr, IsOkAnd};
-ghost use Rattle.pdi_session.specs.telegram.Names.{filled};
+ghost use Rattle.pdi_session.specs.telegram.Names.{fill_name};
 ghost use Rattle.pdi_session.specs.telegram.Tele.{Tele, characters_of, tele_of};
 ghost use Rattle.pdi_session.specs.telegram.TeleText.{TeleText};
 ghost use Rattle.pdi_session.specs.telegram.Places.{FirstFault, name_found, name_seen, seen_of, tele_seen};
@@ -91,8 +91,8 @@ pub fn decode(octets: &[u8]) -> Result<Telegram<'_>, TeleFault>
 pub(super) fn put_name(buffer: &mut [u8], place: usize, name: Name<'_>)
     requires { place + NAME_LENGTH ≤ length buffer.old }
     // Up to the end of the name, the buffer has its old bytes before `place`, and then the name with its filling
-    // (`filled`).
-    ensures front { take (place + NAME_LENGTH) buffer.new ≡ take place buffer.old ++ filled (characters_of name.entry) }
+    // (`fill_name`).
+    ensures front { take (place + NAME_LENGTH) buffer.new ≡ take place buffer.old ++ fill_name (characters_of name.entry) }
     // The bytes after the 20 of the name are unchanged.
     ensures rest { drop (place + NAME_LENGTH) buffer.new ≡ drop (place + NAME_LENGTH) buffer.old }
 {

@@ -4,9 +4,9 @@ use Rattle.safe_machine.proofs.Words.{false≢true, and_parts, drop_all, length-
 use Rattle.safe_machine.proofs.Words.{after_at, carried_at, ring_of, Kind, ConnReq, ConnResp, RetrResp, Heartbeat, Data, RetrData, Pdu, IsBody, window_of}
 use Rattle.safe_machine.proofs.Words.{HasNumbers, Down, Reason, Detail, Made, opening_body, Settings, is_legal, Decision, decide, distance, Nothing, Drops}
 use Rattle.safe_machine.proofs.Words.{Shuts, Leaves, Takes, Resumes, AnswersNext, AnswersEarly, take_unit, tests_passed, carry_out, respond, send}
-use Rattle.safe_machine.proofs.Words.{confirm_units, Move, move, moved, IsUnitSized, Hears, Sends, State, opened, make, move_to, pass, note_request, resend}
+use Rattle.safe_machine.proofs.Words.{confirm_units, Move, move, make_moves, IsUnitSized, Hears, Sends, State, new_state, make, move_to, pass, note_request, resend}
 use Rattle.safe_machine.proofs.Words.{reply, unconfirmed, leave, IsRead, AreRead, IsReached, AllBelow, AllUnits, Sound, MaySend, turn, View, kept_of}
-use Rattle.safe_machine.proofs.Words.{is_connected, arrive, arrives, guards, index_step, ◌-◌, length-append, ltb-true, above, renumbered, RetrReq, DiscReq}
+use Rattle.safe_machine.proofs.Words.{is_connected, arrive, arrival_turn, guard_turn, index_step, ◌-◌, length-append, ltb-true, above, renumber_units, RetrReq, DiscReq}
 use Rattle.safe_machine.proofs.Words.{WrongVersion, Unspecified, leaving_body, next_made, hand_up, ask, cs_fits, cs_step, Rejects, Accepts, Connects, Asks}
 use Rattle.safe_machine.proofs.Words.{set_window, WINDOW_MAX, beside, StopsOnly, octets-renumbered, may_send, FewLaw, if◌then◌else◌}
 use Rattle.safe_machine.proofs.one.Turning.{opened-cases, send-is}
@@ -21,7 +21,7 @@ use Rattle.safe_machine.proofs.one.Kept.{texts-opened}
 use Rattle.safe_machine.proofs.one.Turning.{tells_law_holds, turns_law_holds}
 
 -- What holds for every machine, since it is in a state that moves lead to from an opening.
-moved-snoc : (ms : List Move) (m : Move) (s : State) → moved (ms ++ m ∷ []) s ≡ move m (moved ms s)
+moved-snoc : (ms : List Move) (m : Move) (s : State) → make_moves (ms ++ m ∷ []) s ≡ move m (make_moves ms s)
 moved-snoc [] m s = refl
 moved-snoc (n ∷ ms) m s = moved-snoc ms m (move n s)
 
@@ -92,22 +92,22 @@ sure-move m s a h =
     (λ connected _. waits-made Heartbeat [] (when m) s connected h.since)
     (λ unit turn _. waits-made Data unit (when m) s (turn-connected s.connection turn) h.since))
 
-pub sure-moved : (ms : List Move) (s : State) → AreRead ms → Sure s → Sure (moved ms s)
+pub sure-moved : (ms : List Move) (s : State) → AreRead ms → Sure s → Sure (make_moves ms s)
 sure-moved [] s a h = h
 sure-moved (m ∷ ms) s a h = sure-moved ms (move m s) a.1 (sure-move m s a.0 h)
 
 read-allows : (m : Move) → IsRead m → AllowsMove HasNumbers IsUnitSized m
 read-allows m h = grind arith
 
-texts-moved : (ms : List Move) (s : State) → AreRead ms → Texts s → Texts (moved ms s)
+texts-moved : (ms : List Move) (s : State) → AreRead ms → Texts s → Texts (make_moves ms s)
 texts-moved [] s a h = h
 texts-moved (m ∷ ms) s a h = texts-moved ms (move m s) a.1 (kept-move HasNumbers IsUnitSized Texts kept-texts m s (read-allows m a.0) h)
 
-pub opened-sure : (settings : Settings) (first now : ℕ) → is_legal settings ≡ true → Sure (opened settings first now)
+pub opened-sure : (settings : Settings) (first now : ℕ) → is_legal settings ≡ true → Sure (new_state settings first now)
 opened-sure settings first now legal =
     let since = (lawful settings legal).mwa_least in
-    let waits : Waits (opened settings first now) = opened-cases Waits settings first now (λ _. ((λ e. cc), since)) (λ _. ((λ e. refl), since)) in
-    sure (opened settings first now) (bounded-opened settings first now legal) waits
+    let waits : Waits (new_state settings first now) = opened-cases Waits settings first now (λ _. ((λ e. cc), since)) (λ _. ((λ e. refl), since)) in
+    sure (new_state settings first now) (bounded-opened settings first now legal) waits
 
 -- The ring of a state.
 units-of : (us : List Numbered) → AllSized (octets_of us) → AllUnits us
@@ -132,10 +132,10 @@ below-carried n end us (m ∷ ms) h k = below-carried (n + 1) end (after_at m.pd
 below-ring : (s : State) → AllBelow (length s.made) (ring_of s)
 below-ring s = grind (arith, below-carried, length-drop, drop_all)
 
-pub legal-reached : (v : View) (r : IsReached v) → is_legal (moved r.moves (opened r.settings r.first r.began)).settings ≡ true
+pub legal-reached : (v : View) (r : IsReached v) → is_legal (make_moves r.moves (new_state r.settings r.first r.began)).settings ≡ true
 legal-reached v r =
     let P : State → Type 0 = λ s. is_legal s.settings ≡ true in
-    kept-moved P (kept-lists P (λ s t e f h. ap is_legal e ∙ h) (λ kind body now s h. h)) r.moves (opened r.settings r.first r.began)
+    kept-moved P (kept-lists P (λ s t e f h. ap is_legal e ∙ h) (λ kind body now s h. h)) r.moves (new_state r.settings r.first r.began)
     (opened-cases P r.settings r.first r.began (λ _. r.legal) (λ _. r.legal))
 
 pub reached-legal : (v : View) → IsReached v → is_legal v.settings ≡ true
@@ -144,13 +144,13 @@ reached-legal v r = subst (λ (w : View). is_legal w.settings ≡ true) (sym r.s
 pub reached-room : (v : View) → IsReached v → v.room ≡ WINDOW_MAX
 reached-room v r = ap (λ (w : View). w.room) r.stands
 
-sure-reached : (v : View) (r : IsReached v) → Sure (moved r.moves (opened r.settings r.first r.began))
-sure-reached v r = sure-moved r.moves (opened r.settings r.first r.began) r.read (opened-sure r.settings r.first r.began r.legal)
+sure-reached : (v : View) (r : IsReached v) → Sure (make_moves r.moves (new_state r.settings r.first r.began))
+sure-reached v r = sure-moved r.moves (new_state r.settings r.first r.began) r.read (opened-sure r.settings r.first r.began r.legal)
 
 pub reached-sound : (v : View) → IsReached v → Sound v
 reached-sound v r =
-    let s : State = opened r.settings r.first r.began in
-    let t : State = moved r.moves s in
+    let s : State = new_state r.settings r.first r.began in
+    let t : State = make_moves r.moves s in
     let h : Sure t = sure-reached v r in
     let legal : is_legal t.settings ≡ true = legal-reached v r in
     let texts : Texts t = texts-moved r.moves s r.read (texts-opened r.settings r.first r.began r.legal) in
@@ -179,7 +179,7 @@ reached-may _ v r = tt
 -- One more move.
 pub reached-turn : (m : Move) (v w : View) → IsReached v → IsRead m → w ≡ (turn m v).left → IsReached w
 reached-turn m v w r read e =
-    let s = moved r.moves (opened r.settings r.first r.began) in
+    let s = make_moves r.moves (new_state r.settings r.first r.began) in
     record {
       settings = r.settings;
       first = r.first;
@@ -187,13 +187,13 @@ reached-turn m v w r read e =
       moves = r.moves ++ m ∷ [];
       legal = r.legal;
       read = read-snoc r.moves m r.read read;
-      stands = e ∙ ((turns_law_holds m v s (reached-may m v r) r.stands).stands ∙ ap kept_of (sym (moved-snoc r.moves m (opened r.settings r.first r.began))));
+      stands = e ∙ ((turns_law_holds m v s (reached-may m v r) r.stands).stands ∙ ap kept_of (sym (moved-snoc r.moves m (new_state r.settings r.first r.began))));
     }
 
 -- At most as many units are unconfirmed as the peer's window allows.
 pub reached-window : (v : View) → IsReached v → length v.ring ≤ v.window
 reached-window v r =
-    let t : State = moved r.moves (opened r.settings r.first r.began) in
+    let t : State = make_moves r.moves (new_state r.settings r.first r.began) in
     let count : length v.ring ≡ length (unconfirmed t) = (tells_law_holds v t r.stands).awaiting in
     let window : v.window ≡ t.window = ap (λ (w : View). w.window) r.stands in
     omega (arith, (sure-reached v r).bounded.in_window)
@@ -216,16 +216,16 @@ near-arrive p now s small =
     (λ _ _ _. near-decided p now (decide (kept_of s) p now) s small (decide-fits (kept_of s) p now))
 
 -- One arrival.
-pub reached-near : (p : Pdu) (now : ℕ) (v w : View) → IsReached v → w ≡ (arrives p now v).left → w.expected ≤ v.expected + index_step
+pub reached-near : (p : Pdu) (now : ℕ) (v w : View) → IsReached v → w ≡ (arrival_turn p now v).left → w.expected ≤ v.expected + index_step
 reached-near p now v w r e =
-    let t = moved r.moves (opened r.settings r.first r.began) in
+    let t = make_moves r.moves (new_state r.settings r.first r.began) in
     let stands = (turns_law_holds (Hears p now) v t tt r.stands).stands in
     let before : v.expected ≡ t.expected = ap (λ (x : View). x.expected) r.stands in
     let after : w.expected ≡ (arrive p now t).expected = ap (λ (x : View). x.expected) (e ∙ stands) in
     omega (arith, before, after, near-arrive p now t (legal t.settings (legal-reached v r)).window_most)
 
 -- Bytes that are not a PDU do not move it.
-pub reached-still : (now : ℕ) (v w : View) → IsReached v → w ≡ (guards now v).left → w.expected ≡ v.expected
+pub reached-still : (now : ℕ) (v w : View) → IsReached v → w ≡ (guard_turn now v).left → w.expected ≡ v.expected
 reached-still now v w r e = grind arith
 
 -- Which units an arrival confirms.
@@ -247,7 +247,7 @@ ring-reply now y within =
     let more : length t.made ≡ length y.made + 1 = length-append y.made (next_made y RetrResp [] now ∷ []) in
     ap octets_of
     (plain-ring Heartbeat [] now r refl
-    ∙ (ring-resend us now t (omega arith) ∙ ap (λ cs. cs ++ renumbered (length t.made) us) (answer-ring now y within)))
+    ∙ (ring-resend us now t (omega arith) ∙ ap (λ cs. cs ++ renumber_units (length t.made) us) (answer-ring now y within)))
     ∙ (octets-renumbered (length t.made) us ∙ sym (ring_of-units y))
 
 -- A server that was just opened has no unit, also after its ConnResp.
@@ -296,16 +296,16 @@ stops-arrive p now s down =
     (λ _ _ _. stops-decided p now (decide (kept_of s) p now) s down (decide-fits (kept_of s) p now))
 
 -- For every machine.
-pub reached-stops : (p : Pdu) (now : ℕ) (v w : View) → IsReached v → w ≡ (arrives p now v).left → StopsOnly (v.confirmed + cs_step v p) v w
+pub reached-stops : (p : Pdu) (now : ℕ) (v w : View) → IsReached v → w ≡ (arrival_turn p now v).left → StopsOnly (v.confirmed + cs_step v p) v w
 reached-stops p now v w r is =
-    let t = moved r.moves (opened r.settings r.first r.began) in
+    let t = make_moves r.moves (new_state r.settings r.first r.began) in
     let down : t.connection ≡ Down → ring_of t ≡ [] =
     λ e. sym (ap (λ (x : View). x.ring) r.stands) ∙ (reached-sound v r).down (ap (λ (x : View). x.connection) r.stands ∙ e) in
     subst (λ (x : View). StopsOnly (x.confirmed + cs_step x p) x w) (sym r.stands)
     (subst (λ (y : View). StopsOnly (t.confirmed + cs_step (kept_of t) p) (beside (ring_of t) t) y)
     (sym (is ∙ (turns_law_holds (Hears p now) v t tt r.stands).stands)) (stops-arrive p now t down))
 
-pub reached-keeps : (now : ℕ) (v w : View) → IsReached v → w ≡ (guards now v).left → octets_of w.ring ≡ octets_of v.ring
+pub reached-keeps : (now : ℕ) (v w : View) → IsReached v → w ≡ (guard_turn now v).left → octets_of w.ring ≡ octets_of v.ring
 reached-keeps now v w r is = grind arith
 
 -- How few PDUs a move makes.

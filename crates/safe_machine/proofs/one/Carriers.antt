@@ -2,9 +2,9 @@
 use Rattle.safe_machine.proofs.Words.{◌≡◌, ◌⊎◌, inl, inr, ℕ, suc, ◌+◌, ◌-◌, ◌<◌, ◌≤◌, List, [], ◌∷◌, ◌++◌, length, take, drop, Bool, true, false, refl, sym, ap}
 use Rattle.safe_machine.proofs.Words.{subst, ◌∙◌, arith, append_assoc, length-append, if◌then◌else◌, nat_lt, drop-append-le, length-drop, take-append_seam}
 use Rattle.safe_machine.proofs.Words.{drop-append_seam, lt-ltb, ltb-true, nat_tests, Kind, ConnResp, RetrResp, Heartbeat, Data, RetrData, Made, units}
-use Rattle.safe_machine.proofs.Words.{first_sent, opening_body, Settings, State, next_made, make, resend, reply, unconfirmed, opened, Numbered, above}
-use Rattle.safe_machine.proofs.Words.{renumbered, octets_of, after_at, carried_at, is_resent, resent, carried_again, after_carrier, carriers_from, carriers}
-use Rattle.safe_machine.proofs.Words.{moved, ReachedState, ReachedLaw, octets-renumbered, cs_step, kept_of, append-nil}
+use Rattle.safe_machine.proofs.Words.{first_sent, opening_body, Settings, State, next_made, make, resend, reply, unconfirmed, new_state, Numbered, above}
+use Rattle.safe_machine.proofs.Words.{renumber_units, octets_of, after_at, carried_at, is_resent, count_resent, carried_again, after_carrier, carriers_from, carriers}
+use Rattle.safe_machine.proofs.Words.{make_moves, ReachedState, ReachedLaw, octets-renumbered, cs_step, kept_of, append-nil}
 use Rattle.safe_machine.proofs.one.Runs.{units-append, octets_of-append, octets_of-length, carried_at-append, above-append, carried_at-above, ring_of-units}
 use Rattle.safe_machine.proofs.one.Runs.{ring-confirm, ring-resend, resend-confirmed}
 use Rattle.safe_machine.proofs.one.Kept.{Kept, Anything, is_plain, kept-unsent, kept-moved}
@@ -14,9 +14,9 @@ abbrev Begins : List Made → Type 0
 Begins [] = Unit {0}
 Begins (m ∷ ms) = is_resent m.pdu.kind ≡ false
 
-resent-append : (a b : List Made) → Begins b → resent (a ++ b) ≡ resent a
+resent-append : (a b : List Made) → Begins b → count_resent (a ++ b) ≡ count_resent a
 resent-append [] [] h = refl
-resent-append [] (m ∷ ms) h = ap (λ (t : Bool). if t then suc (resent ms) else 0) h
+resent-append [] (m ∷ ms) h = ap (λ (t : Bool). if t then suc (count_resent ms) else 0) h
 resent-append (m ∷ a) b h = ap (λ (n : ℕ). if is_resent m.pdu.kind then suc n else 0) (resent-append a b h)
 
 carriers-append : (index : ℕ) (cs : List Numbered) (a b : List Made) → Begins b →
@@ -25,8 +25,8 @@ carriers-append index cs [] b h = ap (λ (n : ℕ). carriers_from n cs b) (omega
 carriers-append index cs (m ∷ a) b h =
     let next : ℕ → List Numbered = λ n. after_carrier m.pdu.kind m.pdu.body index n cs in
     ap (λ (n : ℕ). carriers_from (index + 1) (next n) (a ++ b)) (resent-append a b h)
-    ∙ (carriers-append (index + 1) (next (resent a)) a b h
-    ∙ ap (λ (n : ℕ). carriers_from n (carriers_from (index + 1) (next (resent a)) a) b) (omega arith))
+    ∙ (carriers-append (index + 1) (next (count_resent a)) a b h
+    ∙ ap (λ (n : ℕ). carriers_from n (carriers_from (index + 1) (next (count_resent a)) a) b) (omega arith))
 
 abbrev Ring : ℕ → List Made → List Numbered
 Ring confirmed made = carried_at (confirmed + 1) [] (drop (confirmed + 1) made)
@@ -200,7 +200,7 @@ resend-made [] now s = sym (append-nil s.made)
 resend-made (u ∷ us) now s =
     resend-made us now (make RetrData u now s) ∙ append_assoc s.made (next_made s RetrData u now ∷ []) (datas us now (make RetrData u now s))
 
-resent-datas : (us : List (List ℕ)) (now : ℕ) (s : State) (m : Made) → is_resent m.pdu.kind ≡ false → resent (datas us now s ++ m ∷ []) ≡ length us
+resent-datas : (us : List (List ℕ)) (now : ℕ) (s : State) (m : Made) → is_resent m.pdu.kind ≡ false → count_resent (datas us now s ++ m ∷ []) ≡ length us
 unfolding datas
 resent-datas [] now s m h = ap (λ (t : Bool). if t then 1 else 0) h
 resent-datas (u ∷ us) now s m h = ap suc (resent-datas us now (make RetrData u now s) m h)
@@ -213,13 +213,13 @@ carriers-datas (u ∷ us) now index s cs m h = carriers-datas us now (index + 1)
 
 -- The last units, carried again.
 again : (front ring : List Numbered) (us : List (List ℕ)) (index : ℕ) → octets_of ring ≡ us → carried_again (length us) index (front ++ ring) ≡ front
-    ++ renumbered index us
+    ++ renumber_units index us
 again front ring us index e =
     let size : length us ≡ length ring = sym (ap length e) ∙ octets_of-length ring in
     let at : length (front ++ ring) - length us ≡ length front = omega (arith, length-append front ring) in
-    ap (λ (n : ℕ). take n (front ++ ring) ++ renumbered index (octets_of (drop n (front ++ ring)))) at
-    ∙ (ap (λ cs. cs ++ renumbered index (octets_of (drop (length front) (front ++ ring)))) (take-append_seam front ring)
-    ∙ ap (λ cs. front ++ renumbered index cs) (ap octets_of (drop-append_seam front ring) ∙ e))
+    ap (λ (n : ℕ). take n (front ++ ring) ++ renumber_units index (octets_of (drop n (front ++ ring)))) at
+    ∙ (ap (λ cs. cs ++ renumber_units index (octets_of (drop (length front) (front ++ ring)))) (take-append_seam front ring)
+    ∙ ap (λ cs. front ++ renumber_units index cs) (ap octets_of (drop-append_seam front ring) ∙ e))
 
 ring-answer : (confirmed : ℕ) (made : List Made) (m : Made) → m.pdu.kind ≡ RetrResp → (confirmed < length made) ⊎ ((made ≡ []) × (confirmed ≡ 0))
     → Ring confirmed (made ++ m ∷ []) ≡ []
@@ -246,21 +246,21 @@ replied now s h =
     ap (λ ms. ms ++ last ∷ []) (resend-made us now a ∙ append_assoc s.made (answer ∷ []) (datas us now a))
     ∙ append_assoc s.made (answer ∷ datas us now a) (last ∷ []) in
     let first_again : 0 + length s.made + 1 ≡ length s.made + 1 = omega arith in
-    let n : resent block ≡ length us = resent-datas us now a last refl in
-    let new : carriers (reply now s).made ≡ h.front ++ renumbered (length s.made + 1) us =
+    let n : count_resent block ≡ length us = resent-datas us now a last refl in
+    let new : carriers (reply now s).made ≡ h.front ++ renumber_units (length s.made + 1) us =
     ap carriers whole
     ∙ (carriers-append 0 [] s.made (answer ∷ block) refl
-    ∙ (carriers-datas us now (0 + length s.made + 1) a (carried_again (resent block) (0 + length s.made + 1) (carriers s.made)) last refl
-    ∙ (ap (λ (k : ℕ). carried_again (resent block) k (carriers s.made)) first_again
+    ∙ (carriers-datas us now (0 + length s.made + 1) a (carried_again (count_resent block) (0 + length s.made + 1) (carriers s.made)) last refl
+    ∙ (ap (λ (k : ℕ). carried_again (count_resent block) k (carriers s.made)) first_again
     ∙ (ap (λ (k : ℕ). carried_again k (length s.made + 1) (carriers s.made)) n
     ∙ (ap (carried_again (length us) (length s.made + 1)) h.is ∙ again h.front (Ring s.confirmed s.made) us (length s.made + 1) (ring_of-units s)))))) in
     let grown : length b.made ≡ length a.made + length (datas us now a) = ap length (resend-made us now a) ∙ length-append a.made (datas us now a) in
     let still : b.confirmed ≡ s.confirmed = resend-confirmed us now a in
-    let ring : Ring b.confirmed (reply now s).made ≡ renumbered (length s.made + 1) us =
+    let ring : Ring b.confirmed (reply now s).made ≡ renumber_units (length s.made + 1) us =
     ring-push b.confirmed b.made last (omega (arith, still, grown, in_place))
     ∙ (ring-resend us now a in_place
-    ∙ (ap (λ cs. cs ++ renumbered (length a.made) us) (ring-answer s.confirmed s.made answer refl h.placed)
-    ∙ ap (λ (k : ℕ). renumbered k us) size)) in
+    ∙ (ap (λ cs. cs ++ renumber_units (length a.made) us) (ring-answer s.confirmed s.made answer refl h.placed)
+    ∙ ap (λ (k : ℕ). renumber_units k us) size)) in
     record {
       front = h.front;
       is = new ∙ ap (λ cs. h.front ++ cs) (sym ring);
@@ -268,7 +268,7 @@ replied now s h =
       placed = inl (omega (arith, still, grown, in_place, length-append b.made (last ∷ [])));
       all =
           ap octets_of new
-          ∙ (octets_of-append h.front (renumbered (length s.made + 1) us)
+          ∙ (octets_of-append h.front (renumber_units (length s.made + 1) us)
           ∙ (ap (λ xs. octets_of h.front ++ xs) (octets-renumbered (length s.made + 1) us)
           ∙ (ended s h ∙ sym ((kept-unsent (units s.made)).replies now s refl))));
     }
@@ -292,7 +292,7 @@ kept-carriers =
       replies = λ now s h. replied now s h;
     }
 
-carriers-opened : (settings : Settings) (first now : ℕ) → Carriers (opened settings first now)
+carriers-opened : (settings : Settings) (first now : ℕ) → Carriers (new_state settings first now)
 carriers-opened settings first now = grind arith
 
 reached : (s : State) → Carriers s → ReachedState s
@@ -309,5 +309,5 @@ reached s h =
     }
 
 pub reached_law_holds : ReachedLaw
-reached_law_holds settings first now ms = reached (moved ms (opened settings first now))
-    (kept-moved Carriers kept-carriers ms (opened settings first now) (carriers-opened settings first now))
+reached_law_holds settings first now ms = reached (make_moves ms (new_state settings first now))
+    (kept-moved Carriers kept-carriers ms (new_state settings first now) (carriers-opened settings first now))

@@ -7,7 +7,7 @@ use Rattle.safe_machine.proofs.Words.{is_live, ◌-◌, ◌++◌, length, take, 
 use Rattle.safe_machine.proofs.Words.{take-append-drop, drop-drop, ltb-true, false≢true, DiscReq, window_of, Made, run_after, run_of, opening_body}
 use Rattle.safe_machine.proofs.Words.{leaving_body, Settings, State, unconfirmed, next_made, make, move_to, pass, hand_up, note_request, resend, reply, ask}
 use Rattle.safe_machine.proofs.Words.{leave, tests_passed, carry_out, set_window, respond, confirm_units, Reason, Detail, kept_of, Move, HearsNothing, move}
-use Rattle.safe_machine.proofs.Words.{is_legal, opened, blank}
+use Rattle.safe_machine.proofs.Words.{is_legal, new_state, blank}
 use Rattle.safe_machine.proofs.one.Lists.{is_opening}
 use Rattle.safe_machine.proofs.one.Runs.{run_after-append, resend-settings, resend-connection, resend-confirmed, resend-window, leave-cases, unit-cases}
 use Rattle.safe_machine.proofs.one.Runs.{early-cases, connected-live, turn-live, quiet-cases, when, legal}
@@ -66,7 +66,7 @@ pub bounded-low : (t : State) → t.settings.n_sendmax ≤ 32 → t.settings.pdu
 bounded-low t small limit few window in_window none made = grind arith
 
 -- An end when it is opened.
-pub bounded-opened : (settings : Settings) (first now : ℕ) → is_legal settings ≡ true → Bounded (opened settings first now)
+pub bounded-opened : (settings : Settings) (first now : ℕ) → is_legal settings ≡ true → Bounded (new_state settings first now)
 bounded-opened settings first now e =
     let l = legal settings e in
     let waits = blank settings first now Down in

@@ -15,11 +15,11 @@ use Rattle.safe_machine.specs.declared.arrival.Decision.TheVariants.{Nothing, Dr
 use Rattle.safe_machine.specs.Connections.{in_turn, is_live}
 use Rattle.safe_machine.specs.Deadlines.{beat_due, by_guard}
 use Rattle.safe_machine.specs.Decision.{decide, distance}
-use Rattle.safe_machine.specs.Made.{Made, carries, leaving_body, opening_body}
+use Rattle.safe_machine.specs.Made.{Made, is_carrier_kind, leaving_body, opening_body}
 use Rattle.safe_machine.specs.Settings.{Settings}
 use Rattle.safe_machine.specs.State.{State, unconfirmed}
 use Rattle.safe_machine.specs.Step.{history, leave}
-use Rattle.safe_machine.specs.Turns.{both_confirmed, counted, next_made as next_of, passed, requested, units_confirmed, unsaid, windowed}
+use Rattle.safe_machine.specs.Turns.{both_confirmed, count_pdu, next_made as next_of, move_past, mark_answered, units_confirmed, new_view, with_window}
 use Rattle.safe_machine.specs.View.{View, kept_of}
 
 -- What is kept changes, and nothing is made or taken.
@@ -32,7 +32,7 @@ next_made s = next_of (kept_of s)
 
 -- A PDU is made: a sending.
 abbrev pub make : Kind → List ℕ → ℕ → State → State
-make kind body now s = history (counted now (kept_of s)) (s.made ++ next_made s kind body now ∷ []) s.taken
+make kind body now s = history (count_pdu now (kept_of s)) (s.made ++ next_made s kind body now ∷ []) s.taken
 
 -- The state of the connection changes.
 abbrev pub move_to : ConnectionState → State → State
@@ -40,7 +40,7 @@ move_to connection = changes (λ v. record v { connection = connection })
 
 -- Everything up to the PDU at distance d is passed.
 abbrev pub pass : Pdu → ℕ → State → State
-pass p d = changes (passed p d)
+pass p d = changes (move_past p d)
 
 -- The unit is delivered.
 abbrev pub hand_up : Pdu → State → State
@@ -48,7 +48,7 @@ hand_up p s = history (record (kept_of s) { since = s.since + 1 }) s.made (s.tak
 
 -- A RetrReq was handled.
 abbrev pub note_request : ℕ → State → State
-note_request d = changes (requested d)
+note_request d = changes (mark_answered d)
 
 -- Units are sent again, as RetrData.
 abbrev pub resend : List (List ℕ) → ℕ → State → State
@@ -74,7 +74,7 @@ confirm_units p = changes (units_confirmed p)
 
 -- The peer's window is set.
 abbrev pub set_window : ℕ → State → State
-set_window window = changes (windowed window)
+set_window window = changes (with_window window)
 
 -- Everything up to this index is confirmed.
 abbrev pub confirm_to : ℕ → ℕ → State → State
@@ -86,7 +86,7 @@ beat now s = if nat_le s.settings.mwa s.since then make Heartbeat [] now s else 
 
 -- The unit is delivered, if there is one.
 abbrev pub take_unit : Pdu → ℕ → State → State
-take_unit p now s = if carries p.kind then beat now (hand_up p s) else s
+take_unit p now s = if is_carrier_kind p.kind then beat now (hand_up p s) else s
 
 -- The confirmed number and the confirmed time move on.
 abbrev pub tests_passed : Pdu → State → State
@@ -129,4 +129,4 @@ heartbeat now s = if beat_due now (kept_of s) then make Heartbeat [] now s else 
 
 -- An end when it is opened.
 abbrev pub blank : Settings → ℕ → ℕ → ConnectionState → State
-blank settings first now connection = history (unsaid settings first now connection) [] []
+blank settings first now connection = history (new_view settings first now connection) [] []

@@ -1,6 +1,6 @@
 -- What each decision says about the state and the PDU.
 use Rattle.safe_machine.proofs.Words.{◌≡◌, ℕ, List, [], ◌∷◌, Bool, true, false, Kind, RetrReq, ConnectionState, Start, Up}
-use Rattle.safe_machine.proofs.Words.{Requesting, RetrRun, carries, after_pdu, is_answer, in_turn, is_connected, ◌+◌, ◌*◌, ◌<◌, ◌≤◌}
+use Rattle.safe_machine.proofs.Words.{Requesting, RetrRun, is_carrier_kind, after_pdu, is_answer, in_turn, is_connected, ◌+◌, ◌*◌, ◌<◌, ◌≤◌}
 use Rattle.safe_machine.proofs.Words.{ConnReq, ConnResp, Closed, Down, Pdu, Decision, is_ours, cs_fits, cts_fits, distance, decide}
 use Rattle.safe_machine.proofs.Words.{Leaves, Rejects, Accepts, Connects, Takes, Asks, Resumes, AnswersNext, AnswersEarly}
 use Rattle.safe_machine.proofs.Words.{is_live, View, arith}
@@ -11,13 +11,13 @@ use Rattle.safe_machine.proofs.one.Lists.{room, needs_peer}
 
 -- A PDU that starts a connection leads up, and carries no unit.
 abbrev pub StartsBy : ConnectionState → Kind → ConnectionState → Type 0
-StartsBy connection kind to = connection ≡ Start → (to ≡ Up) × (carries kind ≡ false)
+StartsBy connection kind to = connection ≡ Start → (to ≡ Up) × (is_carrier_kind kind ≡ false)
 
 -- What a PDU that is not a RetrResp adds to the units carried.
-pub carries-unit : (kind : Kind) (body : List ℕ) → carries kind ≡ true → after_pdu kind body [] ≡ body ∷ []
+pub carries-unit : (kind : Kind) (body : List ℕ) → is_carrier_kind kind ≡ true → after_pdu kind body [] ≡ body ∷ []
 carries-unit kind body e = grind arith
 
-pub carries-none : (kind : Kind) (body : List ℕ) → carries kind ≡ false → after_pdu kind body [] ≡ []
+pub carries-none : (kind : Kind) (body : List ℕ) → is_carrier_kind kind ≡ false → after_pdu kind body [] ≡ []
 carries-none kind body e = grind arith
 
 pub in_turn-room : (connection : ConnectionState) → in_turn connection ≡ true → (room connection ≡ 0) × (is_connected connection ≡ true)

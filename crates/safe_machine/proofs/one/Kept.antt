@@ -4,12 +4,12 @@ use Rattle.safe_machine.proofs.Words.{Closed, Start, Up, Requesting, RetrRun, Re
 use Rattle.safe_machine.proofs.Words.{make, move_to, pass, hand_up, note_request, reply, leave, Decision, decide, cs_fits, distance, Nothing, Drops, Shuts}
 use Rattle.safe_machine.proofs.Words.{Leaves, Rejects, Accepts, Connects, Takes, Asks, Resumes, AnswersNext, AnswersEarly, set_window, confirm_to, tests_passed}
 use Rattle.safe_machine.proofs.Words.{carry_out, guard, confirm_units, Move, move, Guards, Hears, Ticks, Sends, LeavesNow, kept_of, length, sym, subst, ◌∙◌}
-use Rattle.safe_machine.proofs.Words.{ConnectionState, Down, joins, ◌∷◌, ◌++◌, RetrData, Made, Settings, next_made, resend, opened, moved, AreFrom, SettingsLaw}
+use Rattle.safe_machine.proofs.Words.{ConnectionState, Down, is_joining, ◌∷◌, ◌++◌, RetrData, Made, Settings, next_made, resend, new_state, make_moves, AreFrom, SettingsLaw}
 use Rattle.safe_machine.proofs.Words.{IdentifiedLaw, ap, append_assoc, if◌then◌else◌, nat_le, units, may_send, sent_by, MovesLaw, append-nil}
 use Rattle.safe_machine.proofs.Words.{ConnReq, respond, RequestsLaw, ◌⊎◌, inl, inr, StrangersLaw, WaitsLaw, GoesOn, HearsNothing, ConnectionsLaw, ◌≤◌, ◌<◌, ◌^◌}
 use Rattle.safe_machine.proofs.Words.{zero, suc, arith, drop, le-leb, leb-true, and_parts, UNIT_MIN, UNIT_MAX, Eight, HasNumbers, length-text, after_pdu}
 use Rattle.safe_machine.proofs.Words.{run_after, blank, is_legal, HasText, HaveTexts, IsUnitSized, AreSoundMoves, IsSoundMove, TextsLaw, HearsOwn, first_sent}
-use Rattle.safe_machine.proofs.Words.{handed_by, handed, IsTakenBy}
+use Rattle.safe_machine.proofs.Words.{handed_by, units_of_move, IsTakenBy}
 use Rattle.safe_machine.proofs.one.Deciding.{Fits, decide-fits}
 use Rattle.safe_machine.proofs.one.Turning.{arrive-is, opened-cases, send-is, tick-is}
 use Rattle.safe_machine.proofs.one.Runs.{heartbeat-cases, leave-cases}
@@ -137,7 +137,7 @@ kept-lists P same makes =
     }
 
 -- A list of moves.
-pub kept-moved : (P : State → Type 0) → Kept Anything Anything P → (ms : List Move) (s : State) → P s → P (moved ms s)
+pub kept-moved : (P : State → Type 0) → Kept Anything Anything P → (ms : List Move) (s : State) → P s → P (make_moves ms s)
 kept-moved P k [] s h = h
 kept-moved P k (m ∷ ms) s h = kept-moved P k ms (move m s) (kept-move Anything Anything P k m s (anything m) h)
 
@@ -159,8 +159,8 @@ identified_law_holds settings first now ms =
     kept-lists P (λ s t e f h. (e ∙ h.0, subst (AreFrom settings) (sym f) h.1))
     (λ kind body now s h.
     (h.0, from-push settings s.made (next_made s kind body now) h.1 (ap (λ (c : Settings). c.peer) h.0, ap (λ (c : Settings). c.own) h.0))) in
-    let begun : P (opened settings first now) = opened-cases P settings first now (λ _. (refl, ((refl, refl), tt))) (λ _. (refl, tt)) in
-    (kept-moved P kept ms (opened settings first now) begun).1
+    let begun : P (new_state settings first now) = opened-cases P settings first now (λ _. (refl, ((refl, refl), tt))) (λ _. (refl, tt)) in
+    (kept-moved P kept ms (new_state settings first now) begun).1
 
 -- A stranger's PDU changes nothing.
 pub strangers_law_holds : StrangersLaw
@@ -252,7 +252,7 @@ move-sent m s = unsent m s tt
 handed-one : (d : Decision) (p : Pdu) → (handed_by d p ≡ []) ⊎ (handed_by d p ≡ p.body ∷ [])
 handed-one d p = grind arith
 
-one-taken : (m : Move) (s : State) → IsTakenBy m (handed m (kept_of s))
+one-taken : (m : Move) (s : State) → IsTakenBy m (units_of_move m (kept_of s))
 one-taken m s = grind (arith, by_guard-cases, handed-one)
 
 pub moves_law_holds : MovesLaw
@@ -264,13 +264,13 @@ moves_law_holds m s =
       more_made = g.0;
       made = g.1;
       sent = move-sent m s;
-      more_taken = handed m (kept_of s);
+      more_taken = units_of_move m (kept_of s);
       taken = taken-move m s;
       one_taken = one-taken m s;
       closed = closed-move m s;
     }
 
-pub joins-down : (a b : ConnectionState) → joins a b ≡ true → (a ≡ Down) × (b ≡ Start)
+pub joins-down : (a b : ConnectionState) → is_joining a b ≡ true → (a ≡ Down) × (b ≡ Start)
 joins-down a b h = grind arith
 
 -- A connection starts only by a ConnReq.
@@ -285,7 +285,7 @@ none-by p now _ s before f = refl
 pub waits_law_holds : WaitsLaw
 waits_law_holds m s before = taken-move m s ∙ ap (λ us. s.taken ++ us) (none-handed m s before) ∙ append-nil s.taken
   where
-    none-handed : (m : Move) (s : State) → (s.connection ≡ Down) ⊎ (s.connection ≡ Start) → handed m (kept_of s) ≡ []
+    none-handed : (m : Move) (s : State) → (s.connection ≡ Down) ⊎ (s.connection ≡ Start) → units_of_move m (kept_of s) ≡ []
     none-handed (Hears p now) s before =
         by_guard-cases (λ (us : List (List ℕ)). us ≡ []) now (kept_of s) (λ reason detail. []) (handed_by (decide (kept_of s) p now) p) (λ reason detail. refl)
         (λ _. none-by p now (decide (kept_of s) p now) s before (decide-fits (kept_of s) p now))
@@ -391,11 +391,11 @@ kept-texts = grind (arith, texts-make, plain-small, unit-body, texts-reply)
 allowed : (m : Move) → IsSoundMove m → AllowsMove HasNumbers IsUnitSized m
 allowed m h = grind arith
 
-texts-moved : (ms : List Move) (s : State) → AreSoundMoves ms → Texts s → Texts (moved ms s)
+texts-moved : (ms : List Move) (s : State) → AreSoundMoves ms → Texts s → Texts (make_moves ms s)
 texts-moved [] s a h = h
 texts-moved (m ∷ ms) s a h = texts-moved ms (move m s) a.1 (kept-move HasNumbers IsUnitSized Texts kept-texts m s (allowed m a.0) h)
 
-pub texts-opened : (settings : Settings) (first now : ℕ) → is_legal settings ≡ true → Texts (opened settings first now)
+pub texts-opened : (settings : Settings) (first now : ℕ) → is_legal settings ≡ true → Texts (new_state settings first now)
 texts-opened settings first now lawful =
     let own = own-legal settings lawful in
     let begun : State = blank settings first now Start in
@@ -405,4 +405,4 @@ texts-opened settings first now lawful =
     (λ _. record { own = own; sn = omega arith; ts = omega arith; texts = tt })
 
 pub texts_law_holds : TextsLaw
-texts_law_holds settings first now ms lawful sound = (texts-moved ms (opened settings first now) sound (texts-opened settings first now lawful)).texts
+texts_law_holds settings first now ms lawful sound = (texts-moved ms (new_state settings first now) sound (texts-opened settings first now lawful)).texts

@@ -3,12 +3,12 @@ use Rattle.safe_machine.proofs.Words.{◌⊎◌, suc, zero, ◌≡◌, ℕ, ◌+
 use Rattle.safe_machine.proofs.Words.{arith, append_assoc, drop-drop, take-append-drop, length-drop, Kind, RetrResp, Data, RetrData, Made, units, first_sent}
 use Rattle.safe_machine.proofs.Words.{after_pdu, run_after, run_of, is_request, is_answer, wrap, true, false, if◌then◌else◌, nat_le, nat_lt, and_parts}
 use Rattle.safe_machine.proofs.Words.{false≢true, ltb-true, DiscReq, Heartbeat, Pdu, Closed, Reason, Timeout, ProtocolError, Detail, Unspecified, Limit}
-use Rattle.safe_machine.proofs.Words.{AnswersEarly, is_live, is_connected, in_turn, carries, last_time, State, make, move_to, hand_up, ask}
+use Rattle.safe_machine.proofs.Words.{AnswersEarly, is_live, is_connected, in_turn, is_carrier_kind, last_time, State, make, move_to, hand_up, ask}
 use Rattle.safe_machine.proofs.Words.{unconfirmed, View, kept_of, by_guard, heartbeat, take_unit, carry_out, answered_ahead, ◌≢◌, ConnectionState}
 use Rattle.safe_machine.proofs.Words.{Down, ◌^◌, leb-true, Settings, is_legal, resend, next_made, reply, pass, note_request, tests_passed}
 use Rattle.safe_machine.proofs.Words.{confirm_units, Decision, distance, Leaves, Takes, AnswersNext, append-nil, Bool}
-use Rattle.safe_machine.proofs.Words.{length-append, drop-append-le, length-take, lt-ltb, Numbered, above, renumbered, octets_of, after_at, carried_at, ring_of}
-use Rattle.safe_machine.proofs.Words.{map-append, length-map, filter-append, cs_step, beside, carried, handed_by, window_of}
+use Rattle.safe_machine.proofs.Words.{length-append, drop-append-le, length-take, lt-ltb, Numbered, above, renumber_units, octets_of, after_at, carried_at, ring_of}
+use Rattle.safe_machine.proofs.Words.{map-append, length-map, filter-append, cs_step, beside, carried_unit, handed_by, window_of}
 use Rattle.safe_machine.proofs.Words.{opening_body, rules}
 use Rattle.safe_machine.specs.Numbers.{sn_of, ahead}
 use Rattle.safe_machine.proofs.Words.{ConnReq, ConnResp, Requesting}
@@ -225,8 +225,8 @@ pub heartbeat-cases : (P : State → Type 0) (now : ℕ) (s : State) → (is_con
 heartbeat-cases P now s beats quiet = grind arith
 
 -- A unit, with a heartbeat if it is the mwa-th.
-pub unit-cases : (P : State → Type 0) (p : Pdu) (now : ℕ) (s : State) → (carries p.kind ≡ true → P (make Heartbeat [] now (hand_up p s)))
-    → (carries p.kind ≡ true → s.since + 1 < s.settings.mwa → P (hand_up p s)) → (carries p.kind ≡ false → P s) → P (take_unit p now s)
+pub unit-cases : (P : State → Type 0) (p : Pdu) (now : ℕ) (s : State) → (is_carrier_kind p.kind ≡ true → P (make Heartbeat [] now (hand_up p s)))
+    → (is_carrier_kind p.kind ≡ true → s.since + 1 < s.settings.mwa → P (hand_up p s)) → (is_carrier_kind p.kind ≡ false → P s) → P (take_unit p now s)
 unit-cases P p now s beats up none = grind arith
 
 -- An answer to a request that is not the next PDU, with the end's own request if it takes units in order.
@@ -328,7 +328,7 @@ reply-taken now s = resend-taken (unconfirmed s) now (make RetrResp [] now s)
 pub none-taken : (s : State) → s.taken ≡ s.taken ++ []
 none-taken s = sym (append-nil s.taken)
 
-unit-taken : (p : Pdu) (now : ℕ) (s : State) → (take_unit p now s).taken ≡ s.taken ++ carried p
+unit-taken : (p : Pdu) (now : ℕ) (s : State) → (take_unit p now s).taken ≡ s.taken ++ carried_unit p
 unit-taken p now s = search rules
 
 pub decided-taken : (p : Pdu) (now : ℕ) (d : Decision) (s : State) → (carry_out p now d s).taken ≡ s.taken ++ handed_by d p
@@ -417,7 +417,7 @@ ring-confirm a b ms h l =
     ∙ (ap (λ (n : ℕ). carried_at n [] back) index ∙ ap (carried_at (b + 1) []) rest)))
 
 -- Units sent again have consecutive indices.
-pub ring-resend : (us : List (List ℕ)) (now : ℕ) (s : State) → s.confirmed < length s.made → ring_of (resend us now s) ≡ ring_of s ++ renumbered (length s.made)
+pub ring-resend : (us : List (List ℕ)) (now : ℕ) (s : State) → s.confirmed < length s.made → ring_of (resend us now s) ≡ ring_of s ++ renumber_units (length s.made)
     us
 ring-resend [] now s h = sym (append-nil (ring_of s))
 ring-resend (u ∷ us) now s h =
@@ -431,9 +431,9 @@ ring-resend (u ∷ us) now s h =
     ∙ (carried_at-append (s.confirmed + 1) [] (drop (s.confirmed + 1) s.made) (m ∷ [])
     ∙ ap (λ (n : ℕ). ring_of s ++ record { number = n; octets = u } ∷ []) index) in
     ring-resend us now t (omega arith)
-    ∙ (ap (λ cs. cs ++ renumbered (length t.made) us) one
-    ∙ (append_assoc (ring_of s) (record { number = length s.made; octets = u } ∷ []) (renumbered (length t.made) us)
-    ∙ ap (λ (n : ℕ). ring_of s ++ record { number = length s.made; octets = u } ∷ renumbered n us) more))
+    ∙ (ap (λ cs. cs ++ renumber_units (length t.made) us) one
+    ∙ (append_assoc (ring_of s) (record { number = length s.made; octets = u } ∷ []) (renumber_units (length t.made) us)
+    ∙ ap (λ (n : ℕ). ring_of s ++ record { number = length s.made; octets = u } ∷ renumber_units n us) more))
 
 -- What a move does to the ring of a history, and to what is kept of it.
 last_time-push : (ms : List Made) (m : Made) (time : ℕ) → last_time (ms ++ m ∷ []) time ≡ m.time

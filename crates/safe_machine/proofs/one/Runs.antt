@@ -7,7 +7,7 @@ use Rattle.safe_machine.proofs.Words.{is_live, is_connected, in_turn, leaving_bo
 use Rattle.safe_machine.proofs.Words.{unconfirmed, kept_of, guard, heartbeat, send, carry_out, ◌≢◌}
 use Rattle.safe_machine.proofs.Words.{respond}
 use Rattle.safe_machine.proofs.Words.{by_sender, Nothing, is_closed}
-use Rattle.safe_machine.proofs.Words.{Move, move, handed, Guards}
+use Rattle.safe_machine.proofs.Words.{Move, move, units_of_move, Guards}
 use Rattle.safe_machine.proofs.Words.{Hears, Ticks, Sends, LeavesNow, HearsNothing, is_stranger, arrive}
 use Rattle.safe_machine.proofs.Words.{left_by, may_send}
 pub use Rattle.safe_machine.proofs.one.Lists.{CountsUp, Every, InTime, Legal, RequestAt, above-append, above-one, after_answer, after_pdu-front}
@@ -103,5 +103,5 @@ closed-move m s e =
     quiet-cases (λ t. t ≡ s) m s tt refl (λ reason detail. closed-leave reason detail (when m) s e)
     (λ connected _. absurd (false≢true (sym (ap is_connected e) ∙ connected))) (λ unit turn _. absurd (false≢true (sym (ap in_turn e) ∙ turn)))
 
-pub taken-move : (m : Move) (s : State) → (move m s).taken ≡ s.taken ++ handed m (kept_of s)
+pub taken-move : (m : Move) (s : State) → (move m s).taken ≡ s.taken ++ units_of_move m (kept_of s)
 taken-move m s = grind arith

@@ -3,7 +3,7 @@ use Rattle.safe_machine.proofs.Words.{◌≡◌, ◌≢◌, inl, inr, ℕ, ◌+�
 use Rattle.safe_machine.proofs.Words.{DiscReq, Heartbeat, Data, Pdu, ConnectionState, Closed, Down, Start, Up, Reason, Detail, Made, leaving_body, State}
 use Rattle.safe_machine.proofs.Words.{next_made, make, leave, guard, respond, arrive, tick, send, GenuineAt, GuardHolds, NextArrival, AllThere, is_live}
 use Rattle.safe_machine.proofs.Words.{in_turn, ◌⊎◌, ◌∷◌, ◌++◌, Served, take, false≢true, cond_both, Il, Fe, ConnReq, opening_body, units, run_of, Settings}
-use Rattle.safe_machine.proofs.Words.{is_legal, blank, opened, World, Event, start, run, event_end, event_time, at_end, changed, happens, GenuineEvent, Genuine}
+use Rattle.safe_machine.proofs.Words.{is_legal, blank, new_state, World, Event, start, run, event_end, event_time, at_end, change_world, apply_event, GenuineEvent, Genuine}
 use Rattle.safe_machine.proofs.Words.{Timely, as_role, open_il, open_fe, Open, Send, Close, Guard, Tick, Arrive, AsksNothing, KeepsOrder, InOrderEvent, InOrder}
 use Rattle.safe_machine.proofs.Words.{heard_by_il, heard_by_fe, all_heard_by_il, all_heard_by_fe, OrderLaw, if◌then◌else◌, Kind, is_goodbye, decide, carry_out}
 use Rattle.safe_machine.proofs.Words.{kept_of, is_close, has_close, StaysLaw, Hears, Move, Sends, HearsNothing, LeavesNow, move, Guards, Ticks, Decision}
@@ -166,7 +166,7 @@ apart-deaf n k now p il fe fe_before dead_il h genuine a on =
 -- The PDU that arrives at the field element in order is the ConnReq, which is dead, or the field element is closed.
 pub apart-arrive : (n k now : ℕ) (p : Pdu) (il fe : State) (fe_before : List Served) (dead_il : ℕ) → Apart n k il fe fe_before dead_il → fe_before ≢ []
     → GenuineAt fe p (drop dead_il il.made) → NextArrival fe p now k il.made → Apart n (k + 1) il (arrive p now fe) fe_before dead_il
-apart-arrive n k now p il fe fe_before dead_il h opened genuine a =
+apart-arrive n k now p il fe fe_before dead_il h new_state genuine a =
     elim (closed_or fe.connection) [
       | inl closed ↦
           subst (λ (t : State). Apart n (k + 1) il t fe_before dead_il) (sym (closed-move (Hears p now) fe closed))
@@ -178,7 +178,7 @@ apart-arrive n k now p il fe fe_before dead_il h opened genuine a =
             still = h.still;
             made = h.made;
             heard = λ on. absurd (on closed);
-            unheard = λ e. absurd (opened e);
+            unheard = λ e. absurd (new_state e);
             opened = h.opened;
             dead = h.dead;
           })
@@ -209,9 +209,9 @@ fe-stands n k k' w ci cf now t two one h = grind arith
 
 -- Openings.
 ends-opened : (settings : Settings) (first now : ℕ) (fe : State) → fe.connection ≡ Down → Untouched fe
-    → Ends true 0 0 (opened (as_role true settings) first now) fe
+    → Ends true 0 0 (new_state (as_role true settings) first now) fe
 ends-opened settings first now fe down u =
-    let il = opened (as_role true settings) first now in
+    let il = new_state (as_role true settings) first now in
     let m = next_made (blank (as_role true settings) first now Start) ConnReq (opening_body settings.n_sendmax) now in
     let own : End true 0 il fe =
     record {
@@ -233,9 +233,9 @@ ends-opened settings first now fe down u =
     start≢up e = cc
 
 two-opened : (n k : ℕ) (settings : Settings) (first now cf : ℕ) (fe : State) → is_legal settings ≡ true → fe.connection ≡ Down → Untouched fe
-    → fe.confirmed_at ≤ cf → n ≡ 0 → k ≡ 0 → Two true n k now cf (opened (as_role true settings) first now) fe
+    → fe.confirmed_at ≤ cf → n ≡ 0 → k ≡ 0 → Two true n k now cf (new_state (as_role true settings) first now) fe
 two-opened n k settings first now cf fe legal down u past none_il none_fe =
-    let il = opened (as_role true settings) first now in
+    let il = new_state (as_role true settings) first now in
     let halves = met-opened settings first now fe down u in
     let at_none : Two true 0 0 now cf il fe =
     record {
@@ -309,7 +309,7 @@ fe-quiet_stands n k w ci cf m quiet later t =
 -- Every event keeps it.
 pub stands-event : (n k : ℕ) (w : World) (e : Event) (ci cf : ℕ) → TInv w ci cf → GenuineEvent w e → at_end (event_end e) ci cf ≤ event_time e
     → InOrderEvent n k w e → StandsAt n k w ci cf →
-    StandsAt (heard_by_il e n) (heard_by_fe e k) (changed w e) (at_end (event_end e) (event_time e) ci) (at_end (event_end e) cf (event_time e))
+    StandsAt (heard_by_il e n) (heard_by_fe e k) (change_world w e) (at_end (event_end e) (event_time e) ci) (at_end (event_end e) cf (event_time e))
 stands-event n k w (Open Il settings first now) ci cf t g later o h =
     cond_both (is_legal settings) (open_il settings first now w) w (λ v. StandsAt n k v now cf)
     (λ legal. stands-open_il n k settings first now w ci cf t legal o h)
@@ -387,7 +387,7 @@ order-run : (events : List Event) (n k : ℕ) (w : World) → TInv w w.clock_il 
     → StandsAt n k w w.clock_il w.clock_fe → KeepsOrder (all_heard_by_il events n) (all_heard_by_fe events k) (run events w)
 order-run [] n k w t g later o h = stands-keeps n k w w.clock_il w.clock_fe t h
 order-run (e ∷ es) n k w t g later o h =
-    order-run es (heard_by_il e n) (heard_by_fe e k) (happens w e) (t-event w e w.clock_il w.clock_fe t g.0 later.0).0 g.1 later.1 o.1
+    order-run es (heard_by_il e n) (heard_by_fe e k) (apply_event w e) (t-event w e w.clock_il w.clock_fe t g.0 later.0).0 g.1 later.1 o.1
     (stands-event n k w e w.clock_il w.clock_fe t g.0 later.0 o.0 h)
 
 pub stands-start : StandsAt 0 0 start 0 0
@@ -431,7 +431,7 @@ open-guard now s holds h = subst IsOpen (sym holds) h
 open-tick : (now : ℕ) (s : State) → GuardHolds s now → IsOpen s → IsOpen (tick now s)
 open-tick now s holds h = grind (arith, heartbeat-cases, open-make)
 
-open-opened : (client : Bool) (settings : Settings) (first now : ℕ) → IsOpen (opened (as_role client settings) first now)
+open-opened : (client : Bool) (settings : Settings) (first now : ℕ) → IsOpen (new_state (as_role client settings) first now)
 open-opened client settings first now = grind arith
 
 -- The next PDU of an open peer arrives at an open end.
@@ -460,7 +460,7 @@ open-arrive_fe n k now p w ci cf t later g o (joint two il_opened fe_opened) h =
 open-arrive_fe n k now p w ci cf t later g o (apart a) h = absurd (apart-deaf n k now p w.il w.fe w.fe_before w.dead_il a g o.1 (h.fe o.0).0)
 
 open-event : (n k : ℕ) (w : World) (e : Event) (ci cf : ℕ) → TInv w ci cf → GenuineEvent w e → at_end (event_end e) ci cf ≤ event_time e → InOrderEvent n k w e
-    → is_close e ≡ false → StandsAt n k w ci cf → OpenBoth w → OpenBoth (changed w e)
+    → is_close e ≡ false → StandsAt n k w ci cf → OpenBoth w → OpenBoth (change_world w e)
 open-event n k w (Open Il settings first now) ci cf t g later o none s h =
     cond_both (is_legal settings) (open_il settings first now w) w OpenBoth (λ _. record { il = λ _. open-opened true settings first now; fe = h.fe }) (λ _. h)
 open-event n k w (Open Fe settings first now) ci cf t g later o none s h =
@@ -485,8 +485,8 @@ open-run : (events : List Event) (n k : ℕ) (w : World) → TInv w w.clock_il w
 open-run [] n k w t g later o none s h = h
 open-run (e ∷ es) n k w t g later o none s h =
     let parts = no-close (is_close e) (has_close es) none in
-    let after : OpenBoth (changed w e) = open-event n k w e w.clock_il w.clock_fe t g.0 later.0 o.0 parts.0 s h in
-    open-run es (heard_by_il e n) (heard_by_fe e k) (happens w e) (t-event w e w.clock_il w.clock_fe t g.0 later.0).0 g.1 later.1 o.1 parts.1
+    let after : OpenBoth (change_world w e) = open-event n k w e w.clock_il w.clock_fe t g.0 later.0 o.0 parts.0 s h in
+    open-run es (heard_by_il e n) (heard_by_fe e k) (apply_event w e) (t-event w e w.clock_il w.clock_fe t g.0 later.0).0 g.1 later.1 o.1 parts.1
     (stands-event n k w e w.clock_il w.clock_fe t g.0 later.0 o.0 s) (record { il = after.il; fe = after.fe })
 
 -- The law.

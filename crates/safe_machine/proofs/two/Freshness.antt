@@ -1,10 +1,10 @@
 -- Every event keeps the times; facts on the incarnations and on one more event.
 use Rattle.safe_machine.proofs.Words.{◌≡◌, ◌≢◌, ◌⊎◌, inl, inr, ℕ, suc, zero, ◌+◌, ◌-◌, ◌<◌, ◌≤◌, List, [], ◌∷◌, ◌++◌, length, drop, true, refl, sym, ap, subst}
 use Rattle.safe_machine.proofs.Words.{◌∙◌, arith, cond_both, Il, Fe, ConnReq, ConnectionState, Closed, Down, Start, Pdu, Made, opening_body, Settings, is_legal}
-use Rattle.safe_machine.proofs.Words.{State, unconfirmed, leave, opened, blank, next_made, Decision, decide, Takes, respond, arrive, carry_out, World, Event}
-use Rattle.safe_machine.proofs.Words.{start, changed, run, event_end, event_time, at_end, Timely, happens, GenuineAt, GenuineEvent, Genuine, as_role, open_il}
+use Rattle.safe_machine.proofs.Words.{State, unconfirmed, leave, new_state, blank, next_made, Decision, decide, Takes, respond, arrive, carry_out, World, Event}
+use Rattle.safe_machine.proofs.Words.{start, change_world, run, event_end, event_time, at_end, Timely, apply_event, GenuineAt, GenuineEvent, Genuine, as_role, open_il}
 use Rattle.safe_machine.proofs.Words.{open_fe, with_il, with_fe, Open, Send, Close, Guard, Tick, Arrive, Fresh, FreshEvent, AllFresh, FreshLaw, FreshAtLastLaw}
-use Rattle.safe_machine.proofs.Words.{is_live, kept_of, take, Bool, false, Option, Some, None, if◌then◌else◌, nat_tests, units, Served, unopened, Among, joins}
+use Rattle.safe_machine.proofs.Words.{is_live, kept_of, take, Bool, false, Option, Some, None, if◌then◌else◌, nat_tests, units, Served, unopened_state, Among, is_joining}
 use Rattle.safe_machine.proofs.Words.{Move, move, Guards, Hears, Ticks, Sends, next_bound, JoinsFall, IsJoined, is_number, taken_from_il, UnitLaw, LossLaw}
 use Rattle.safe_machine.proofs.Words.{JoinedLaw, ◌==◌, LeavesNow, cond, by_test, TimelyEvent, InOrder, InOrderEvent, heard_by_il, heard_by_fe, all_heard_by_il}
 use Rattle.safe_machine.proofs.Words.{all_heard_by_fe, is_close, has_close, OneMoreLaw, append-nil, HearsNothing}
@@ -188,9 +188,9 @@ only_index zero m b rb e = (cc, refl)
 only_index (suc k) m b rb e = no_index k [] b rb refl e
 
 pub opened-times : (settings : Settings) (first now cf : ℕ) (fe : State) → Untouched fe → fe.confirmed_at ≤ cf
-    → Both now cf (opened (as_role true settings) first now) fe
+    → Both now cf (new_state (as_role true settings) first now) fe
 opened-times settings first now cf fe k past =
-    let il = opened (as_role true settings) first now in
+    let il = new_state (as_role true settings) first now in
     record {
       receives = record {
         rises = λ i j a b ra rb l ea eb. rise i j a b ra rb ea eb;
@@ -219,15 +219,15 @@ opened-times settings first now cf fe k past =
     first_made : Settings → ℕ → ℕ → Made
     first_made settings first now = next_made (blank (as_role true settings) first now Start) ConnReq (opening_body settings.n_sendmax) now
 
-    rise : (i j : ℕ) (a b : Made) (ra rb : List Made) → drop i (opened (as_role true settings) first now).made ≡ a ∷ ra
-        → drop j (opened (as_role true settings) first now).made ≡ b ∷ rb → a.time ≤ b.time
+    rise : (i j : ℕ) (a b : Made) (ra rb : List Made) → drop i (new_state (as_role true settings) first now).made ≡ a ∷ ra
+        → drop j (new_state (as_role true settings) first now).made ≡ b ∷ rb → a.time ≤ b.time
     rise i j a b ra rb ea eb =
         let x = only_index i (first_made settings first now) a ra ea in
         let y = only_index j (first_made settings first now) b rb eb in
         omega (arith, ap (λ (m : Made). m.time) x.0, ap (λ (m : Made). m.time) y.0)
 
-    rise_behind : (i j : ℕ) (a b : Made) (ra rb : List Made) → drop i (opened (as_role true settings) first now).made ≡ a ∷ ra
-        → drop j (opened (as_role true settings) first now).made ≡ b ∷ rb → a.behind ≤ b.behind
+    rise_behind : (i j : ℕ) (a b : Made) (ra rb : List Made) → drop i (new_state (as_role true settings) first now).made ≡ a ∷ ra
+        → drop j (new_state (as_role true settings) first now).made ≡ b ∷ rb → a.behind ≤ b.behind
     rise_behind i j a b ra rb ea eb =
         let x = only_index i (first_made settings first now) a ra ea in
         let y = only_index j (first_made settings first now) b rb eb in
@@ -238,7 +238,7 @@ fe-past w ci cf h down = grind arith
 
 -- Every event keeps the times, and everything it takes is fresh.
 t-changed : (w : World) (e : Event) (ci cf : ℕ) → TInv w ci cf → GenuineEvent w e → at_end (event_end e) ci cf ≤ event_time e →
-    TInv (changed w e) (at_end (event_end e) (event_time e) ci) (at_end (event_end e) cf (event_time e)) × FreshEvent w e
+    TInv (change_world w e) (at_end (event_end e) (event_time e) ci) (at_end (event_end e) cf (event_time e)) × FreshEvent w e
 t-changed w (Open Il settings first now) ci cf h g later = (
   cond_both (is_legal settings) (open_il settings first now w) w (λ v. TInv v now cf)
       (λ legal. record {
@@ -281,7 +281,7 @@ t-changed w (Arrive Fe p now) ci cf h g later = fe-arrive_times w ci cf now p la
 
 -- The invariant does not depend on the recorded times.
 pub t-event : (w : World) (e : Event) (ci cf : ℕ) → TInv w ci cf → GenuineEvent w e → at_end (event_end e) ci cf ≤ event_time e →
-    TInv (happens w e) (at_end (event_end e) (event_time e) ci) (at_end (event_end e) cf (event_time e)) × FreshEvent w e
+    TInv (apply_event w e) (at_end (event_end e) (event_time e) ci) (at_end (event_end e) cf (event_time e)) × FreshEvent w e
 t-event w e ci cf h g later =
     let r = t-changed w e ci cf h g later in
     (record { inv = r.0.inv; short_il = r.0.short_il; short_fe = r.0.short_fe }, r.1)
@@ -293,7 +293,7 @@ t-run : (events : List Event) (w : World) → TInv w w.clock_il w.clock_fe → G
 t-run [] w h g k = tt
 t-run (e ∷ es) w h g k =
     let r = t-event w e w.clock_il w.clock_fe h g.0 k.0 in
-    (r.1, t-run es (happens w e) r.0 g.1 k.1)
+    (r.1, t-run es (apply_event w e) r.0 g.1 k.1)
 
 -- The law.
 pub fresh_law_holds : FreshLaw
@@ -302,7 +302,7 @@ fresh_law_holds events genuine timely = t-run events start t-start genuine timel
 -- What is fresh along a list is fresh at its last event.
 fresh-last : (events : List Event) (e : Event) (w : World) → AllFresh (events ++ e ∷ []) w → FreshEvent (run events w) e
 fresh-last [] e w h = h.0
-fresh-last (a ∷ es) e w h = fresh-last es e (happens w a) h.1
+fresh-last (a ∷ es) e w h = fresh-last es e (apply_event w a) h.1
 
 pub fresh_at_last_law_holds : FreshAtLastLaw
 fresh_at_last_law_holds events e genuine timely = fresh-last events e start (fresh_law_holds (events ++ e ∷ []) genuine timely)
@@ -352,11 +352,11 @@ falls-take bound (suc n) (f ∷ fs) h = (h.0, falls-take (next_bound bound f.joi
 
 -- The end before the first opening is the last of the lists.
 abbrev pub LastIl : State → List State → Type 0
-LastIl s [] = s ≡ unopened
+LastIl s [] = s ≡ unopened_state
 LastIl s (t ∷ ts) = LastIl t ts
 
 abbrev pub LastFe : Served → List Served → Type 0
-LastFe f [] = (f.machine ≡ unopened) × (f.joined ≡ None)
+LastFe f [] = (f.machine ≡ unopened_state) × (f.joined ≡ None)
 LastFe f (g ∷ gs) = LastFe g gs
 
 is-joined : (number : ℕ) (f : Served) (fs : List Served) → LastFe f fs → IsJoined number (f ∷ fs) → IsJoined number (take (length fs) (f ∷ fs))
@@ -430,7 +430,7 @@ abbrev came : Move → World → Type 0
 came (Hears p now) w = GenuineAt w.fe p (drop w.dead_il w.il.made)
 came _ w = Unit {0}
 
-starts-late : (m : Move) (w : World) → Shaped w → came m w → joins w.fe.connection (move m w.fe).connection ≡ true → 1 ≤ length w.il_before
+starts-late : (m : Move) (w : World) → Shaped w → came m w → is_joining w.fe.connection (move m w.fe).connection ≡ true → 1 ≤ length w.il_before
 starts-late m w s g e = grind (arith, joins-down, was-opened)
 
 fe-moved : (m : Move) (w : World) → Shaped w → came m w → Shaped (with_fe (move m w.fe) w)
@@ -440,7 +440,7 @@ fe-moved m w s g =
       il = s.il;
       fe = last w.fe_before s.fe;
       late = (
-        cond_both (joins w.fe.connection t.connection) (Some (length w.il_before)) w.joined Late (λ e. starts-late m w s g e) (λ _. s.late.0),
+        cond_both (is_joining w.fe.connection t.connection) (Some (length w.il_before)) w.joined Late (λ e. starts-late m w s g e) (λ _. s.late.0),
         s.late.1,
       );
     }
@@ -449,14 +449,14 @@ fe-moved m w s g =
     last [] e =
         let closed : w.fe.connection ≡ Closed = ap (λ x. x.connection) e.0 in (
           (moves_law_holds m w.fe).closed closed ∙ e.0,
-          ap (λ c. if joins c (move m w.fe).connection then Some (length w.il_before) else w.joined) closed ∙ e.1,
+          ap (λ c. if is_joining c (move m w.fe).connection then Some (length w.il_before) else w.joined) closed ∙ e.1,
         )
     last (f ∷ fs) h = h
 
 il-step : (m : Move) (w : World) → Shaped w → Shaped (with_il (move m w.il) w)
 il-step m w s = record { il = il-moved m w.il w.il_before s.il; fe = s.fe; late = s.late }
 
-shaped-changed : (w : World) (e : Event) → Shaped w → GenuineEvent w e → Shaped (changed w e)
+shaped-changed : (w : World) (e : Event) → Shaped w → GenuineEvent w e → Shaped (change_world w e)
 shaped-changed w (Open Il settings first now) s g =
     cond_both (is_legal settings) (open_il settings first now w) w Shaped (λ _. record { il = s.il; fe = s.fe; late = s.late }) (λ _. s)
 shaped-changed w (Open Fe settings first now) s g =
@@ -472,12 +472,12 @@ shaped-changed w (Tick Fe now) s g = fe-moved (Ticks now) w s tt
 shaped-changed w (Arrive Il p now) s g = il-step (Hears p now) w s
 shaped-changed w (Arrive Fe p now) s g = fe-moved (Hears p now) w s g
 
-shaped-event : (w : World) (e : Event) → Shaped w → GenuineEvent w e → Shaped (happens w e)
+shaped-event : (w : World) (e : Event) → Shaped w → GenuineEvent w e → Shaped (apply_event w e)
 shaped-event w e s g = let h = shaped-changed w e s g in record { il = h.il; fe = h.fe; late = h.late }
 
 shaped-run : (events : List Event) (w : World) → Shaped w → Genuine events w → Shaped (run events w)
 shaped-run [] w s g = s
-shaped-run (e ∷ es) w s g = shaped-run es (happens w e) (shaped-event w e s g.0) g.1
+shaped-run (e ∷ es) w s g = shaped-run es (apply_event w e) (shaped-event w e s g.0) g.1
 
 shaped-start : Shaped start
 shaped-start = record { il = refl; fe = (refl, refl); late = (tt, tt) }
@@ -491,7 +491,7 @@ loss_law_holds events genuine = shaped-losses (run events start) (inv-run events
 
 genuine-last : (events : List Event) (e : Event) (w : World) → Genuine (events ++ e ∷ []) w → GenuineEvent (run events w) e
 genuine-last [] e w h = h.0
-genuine-last (a ∷ es) e w h = genuine-last es e (happens w a) h.1
+genuine-last (a ∷ es) e w h = genuine-last es e (apply_event w a) h.1
 
 among-drop : (n : ℕ) (p : Pdu) (ms : List Made) → Among p (drop n ms) → Among p ms
 among-drop zero p ms h = h
@@ -505,22 +505,22 @@ pub joined_law_holds : JoinedLaw
 joined_law_holds events e genuine = joins-event (run events start) e (genuine-last events e start genuine)
 
 -- One more event, at the end of a list.
-leads-more : (es : List Event) (e : Event) (w : World) → run (es ++ e ∷ []) w ≡ happens (run es w) e
+leads-more : (es : List Event) (e : Event) (w : World) → run (es ++ e ∷ []) w ≡ apply_event (run es w) e
 leads-more [] e w = refl
-leads-more (d ∷ es) e w = leads-more es e (happens w d)
+leads-more (d ∷ es) e w = leads-more es e (apply_event w d)
 
 genuine-more : (es : List Event) (e : Event) (w : World) → Genuine es w → GenuineEvent (run es w) e → Genuine (es ++ e ∷ []) w
 genuine-more [] e w h g = (g, tt)
-genuine-more (d ∷ es) e w h g = (h.0, genuine-more es e (happens w d) h.1 g)
+genuine-more (d ∷ es) e w h g = (h.0, genuine-more es e (apply_event w d) h.1 g)
 
 timely-more : (es : List Event) (e : Event) (w : World) → Timely es w → TimelyEvent (run es w) e → Timely (es ++ e ∷ []) w
 timely-more [] e w h t = (t, tt)
-timely-more (d ∷ es) e w h t = (h.0, timely-more es e (happens w d) h.1 t)
+timely-more (d ∷ es) e w h t = (h.0, timely-more es e (apply_event w d) h.1 t)
 
 in_order-more : (es : List Event) (e : Event) (il fe : ℕ) (w : World) → InOrder il fe es w
     → InOrderEvent (all_heard_by_il es il) (all_heard_by_fe es fe) (run es w) e → InOrder il fe (es ++ e ∷ []) w
 in_order-more [] e il fe w h k = (k, tt)
-in_order-more (d ∷ es) e il fe w h k = (h.0, in_order-more es e (heard_by_il d il) (heard_by_fe d fe) (happens w d) h.1 k)
+in_order-more (d ∷ es) e il fe w h k = (h.0, in_order-more es e (heard_by_il d il) (heard_by_fe d fe) (apply_event w d) h.1 k)
 
 il-heard-more : (es : List Event) (e : Event) (n : ℕ) → all_heard_by_il (es ++ e ∷ []) n ≡ heard_by_il e (all_heard_by_il es n)
 il-heard-more [] e n = refl

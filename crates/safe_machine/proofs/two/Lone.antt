@@ -1,6 +1,6 @@
 -- Every arrival at one of two machines, and the steps in which an end takes nothing.
 use Rattle.safe_machine.proofs.Words.{◌≡◌, ℕ, ◌+◌, ◌-◌, ◌<◌, ◌≤◌, List, [], ◌∷◌, ◌++◌, length, drop, true, false, refl, sym, ap, ◌∙◌, arith, append-nil}
-use Rattle.safe_machine.proofs.Words.{RetrReq, ConnectionState, RetrRun, Made, after_pdu, carries, is_request, is_answer, State, make, move_to, pass, hand_up}
+use Rattle.safe_machine.proofs.Words.{RetrReq, ConnectionState, RetrRun, Made, after_pdu, is_carrier_kind, is_request, is_answer, State, make, move_to, pass, hand_up}
 use Rattle.safe_machine.proofs.Words.{note_request, reply, ask, unconfirmed, cs_fits, distance, cs_step, Takes, Resumes, AnswersNext, AnswersEarly}
 use Rattle.safe_machine.proofs.Words.{tests_passed, carry_out, confirm_units, in_turn, is_connected, kept_of, cond_both, suc, zero, Bool, subst, false≢true}
 use Rattle.safe_machine.proofs.Words.{ConnReq, ConnResp, DiscReq, Closed, Down, Start, Up, Pdu, window_of, units, opening_body, leaving_body, next_made}
@@ -54,9 +54,9 @@ arrival-take now to m rest x y a closed connected plain needs fits some =
     (omega arith) some in
     let solo = solo-at to (x.expected + 0 + 1) x a.pair.0 started in
     let sends = arrival-confirm 0 m rest x y a needs fits in
-    let unit : carries p.kind ≡ true → Pair (hand_up p z) y =
+    let unit : is_carrier_kind p.kind ≡ true → Pair (hand_up p z) y =
     λ c. (solo, sends, half-take (p.body ∷ []) (x.taken ++ p.body ∷ []) to m rest x y a.peer a.pair.2 closed a.at plain (carries-unit p.kind p.body c) refl) in
-    let none : carries p.kind ≡ false → Pair z y =
+    let none : is_carrier_kind p.kind ≡ false → Pair z y =
     λ c. (solo, sends, half-take [] x.taken to m rest x y a.peer a.pair.2 closed a.at plain (carries-none p.kind p.body c) (sym (append-nil x.taken))) in
     unit-cases (λ s. Pair s y) p now z (λ c. pair-beat now [] (hand_up p z) y connected (unit c)) (λ c _. unit c) none
 

@@ -1,8 +1,8 @@
 -- Every event keeps the law.
 use Rattle.safe_machine.proofs.Words.{◌≡◌, ◌≢◌, ◌⊎◌, inl, inr, ℕ, zero, suc, ◌+◌, List, [], ◌∷◌, ◌++◌, length, drop, Option, Some, None, Bool, true, false}
 use Rattle.safe_machine.proofs.Words.{refl, sym, ap, subst, ◌∙◌, arith, if◌then◌else◌, false≢true, cond_both, Il, Fe, ConnectionState, Closed, Down, Pdu, Made}
-use Rattle.safe_machine.proofs.Words.{units, run_of, is_request, Settings, is_legal, State, opened, Decision, decide, guard, respond, arrive, carry_out, World}
-use Rattle.safe_machine.proofs.Words.{Served, Event, unopened, start, happens, run, Among, GenuineAt, GenuineEvent, Genuine, joins, as_role, open_il, open_fe}
+use Rattle.safe_machine.proofs.Words.{units, run_of, is_request, Settings, is_legal, State, new_state, Decision, decide, guard, respond, arrive, carry_out, World}
+use Rattle.safe_machine.proofs.Words.{Served, Event, unopened_state, start, apply_event, run, Among, GenuineAt, GenuineEvent, Genuine, is_joining, as_role, open_il, open_fe}
 use Rattle.safe_machine.proofs.Words.{with_il, with_fe, Open, Send, Close, Guard, Tick, Arrive, next_bound, JoinsFall, taken_from_il, is_live, kept_of, Hears}
 use Rattle.safe_machine.proofs.Words.{Move, Sends, HearsNothing, LeavesNow, move, Guards, Ticks}
 use Rattle.safe_machine.proofs.two.Status.{AllTakeBeginnings, OnlyJoinedTake, LawOf, LosesNothingOf, linked-latest, takes-other, takes-pushed, takes-il_lone}
@@ -155,16 +155,16 @@ module _ {T P T' P' : Type 0} where
           il-fe_later w (arrive p now w.il) h s r.0 r.1 (past q)
 
 -- Steps of the field element in which it takes nothing.
-joins-same : (c d : ConnectionState) → (d ≡ c) ⊎ (d ≡ Closed) → joins c d ≡ false
+joins-same : (c d : ConnectionState) → (d ≡ c) ⊎ (d ≡ Closed) → is_joining c d ≡ false
 joins-same c d h = grind arith
 
-joins-on : (c d : ConnectionState) → c ≢ Down → joins c d ≡ false
+joins-on : (c d : ConnectionState) → c ≢ Down → is_joining c d ≡ false
 joins-on c d h = grind arith
 
 abbrev joined_after : World → State → Option ℕ
-joined_after w t = if joins w.fe.connection t.connection then Some (length w.il_before) else w.joined
+joined_after w t = if is_joining w.fe.connection t.connection then Some (length w.il_before) else w.joined
 
-kept : (w : World) (t : State) → joins w.fe.connection t.connection ≡ false → joined_after w t ≡ w.joined
+kept : (w : World) (t : State) → is_joining w.fe.connection t.connection ≡ false → joined_after w t ≡ w.joined
 kept w t e = ap (λ (b : Bool). if b then Some (length w.il_before) else w.joined) e
 
 idle-lone : (s t : State) (p : Option ℕ) → Lone s t → Idle s p → Idle t p
@@ -183,8 +183,8 @@ on-lone s t l on = λ e. elim l.connection [ inl same ↦ on (sym same ∙ e) | 
 -- What a field element in Down does.
 abbrev AfterDown : ℕ → State → State → Type 0
 AfterDown index s t =
-    JoinedTo index t (if joins s.connection t.connection then Some index else None)
-    × Idle t (if joins s.connection t.connection then Some index else None)
+    JoinedTo index t (if is_joining s.connection t.connection then Some index else None)
+    × Idle t (if is_joining s.connection t.connection then Some index else None)
 
 down-carry : (index : ℕ) (p : Pdu) (now : ℕ) (s : State) → s.connection ≡ Down → Untouched s → (e : Decision) → Fits (kept_of s) p now e
     → AfterDown index s (carry_out p now e s)
@@ -250,9 +250,9 @@ module _ {T P T' P' : Type 0} where
           (subst (λ (s : State). AfterDown (length w.il_before) w.fe (respond p now s)) (sym same) c) in
           let joined : JoinedTo (length w.il_before) (arrive p now w.fe) (joined_after w (arrive p now w.fe)) =
           subst (λ (q : Option ℕ). JoinedTo (length w.il_before) (arrive p now w.fe)
-          (if joins w.fe.connection (arrive p now w.fe).connection then Some (length w.il_before) else q)) (sym k.1) after.0 in
+          (if is_joining w.fe.connection (arrive p now w.fe).connection then Some (length w.il_before) else q)) (sym k.1) after.0 in
           let idle : Idle (arrive p now w.fe) (joined_after w (arrive p now w.fe)) =
-          subst (λ (q : Option ℕ). Idle (arrive p now w.fe) (if joins w.fe.connection (arrive p now w.fe).connection then Some (length w.il_before) else q))
+          subst (λ (q : Option ℕ). Idle (arrive p now w.fe) (if is_joining w.fe.connection (arrive p now w.fe).connection then Some (length w.il_before) else q))
           (sym k.1) after.1 in
           fe-met w (arrive p now w.fe) (joined_after w (arrive p now w.fe)) h m r.0 r.1 idle joined
           (λ number e. absurd (none_some number w.joined k.1 e)) times
@@ -275,7 +275,7 @@ module _ {T P T' P' : Type 0} where
       → GenuineAt w.fe p (drop w.dead_il w.il.made) → Inv T' P' (with_fe (arrive p now w.fe) w)
   fe-arrive w p now times past h genuine = go h.status
     where
-      same : joins w.fe.connection (arrive p now w.fe).connection ≡ false → InvAt T' P' w (arrive p now w.fe) w.joined
+      same : is_joining w.fe.connection (arrive p now w.fe).connection ≡ false → InvAt T' P' w (arrive p now w.fe) w.joined
           → Inv T' P' (with_fe (arrive p now w.fe) w)
       same e = subst (InvAt T' P' w (arrive p now w.fe)) (sym (kept w (arrive p now w.fe) e))
 
@@ -288,10 +288,10 @@ module _ {T P T' P' : Type 0} where
           let r = still-arrive now w.dead_il p w.fe w.il.made s.connection h.bounded_fe s.dead genuine in
           same (joins-same w.fe.connection (arrive p now w.fe).connection r.0.connection) (fe-fe_later w (arrive p now w.fe) h s r.2 r.3 r.0 r.1 (past r.4 q))
 
-pub solo-il : (s : Settings) (first now : ℕ) → is_legal s ≡ true → Solo (opened (as_role true s) first now)
+pub solo-il : (s : Settings) (first now : ℕ) → is_legal s ≡ true → Solo (new_state (as_role true s) first now)
 solo-il s first now e = grind arith
 
-pub mute-il : (s : Settings) (first now : ℕ) → Mute (opened (as_role true s) first now)
+pub mute-il : (s : Settings) (first now : ℕ) → Mute (new_state (as_role true s) first now)
 mute-il s first now = record { client = refl; connection = inl refl; taken = refl; quiet = (refl, tt) }
 
 pub solo-untouched : (s : State) → s.connection ≡ Down → Untouched s → Solo s
@@ -299,9 +299,9 @@ solo-untouched s down k = grind arith
 
 -- The interlocking is opened while the field element is in Down.
 pub met-opened : (settings : Settings) (first now : ℕ) (fe : State) → fe.connection ≡ Down → Untouched fe →
-    let il = opened (as_role true settings) first now in Half il fe × Half fe il
+    let il = new_state (as_role true settings) first now in Half il fe × Half fe il
 met-opened settings first now fe down k =
-    let il = opened (as_role true settings) first now in
+    let il = new_state (as_role true settings) first now in
     let no_answers : answers (drop fe.expected il.made) ≡ 0 = ap (λ (n : ℕ). answers (drop n il.made)) k.expected in
     let no_requests_fe : requests (drop 1 fe.made) ≡ 0 = ap (λ ms. requests (drop 1 ms)) k.made in
     let no_requests_il : requests (drop (fe.answered + 1) il.made) ≡ 0 = only_opening (fe.answered + 1) settings first now in
@@ -328,7 +328,7 @@ met-opened settings first now fe down k =
       },
     )
   where
-    only_opening : (n : ℕ) (settings : Settings) (first now : ℕ) → requests (drop n (opened (as_role true settings) first now).made) ≡ 0
+    only_opening : (n : ℕ) (settings : Settings) (first now : ℕ) → requests (drop n (new_state (as_role true settings) first now).made) ≡ 0
     only_opening zero settings first now = refl
     only_opening (suc n) settings first now = count-drop_nil is_request n
 
@@ -336,7 +336,7 @@ module _ {T P T' P' : Type 0} where
   pub inv-open_il : (settings : Settings) (first now : ℕ) (w : World) → Inv T P w → is_legal settings ≡ true → (w.fe.connection ≡ Down → T')
       → Inv T' P' (open_il settings first now w)
   inv-open_il settings first now w h legal times =
-      let il = opened (as_role true settings) first now in
+      let il = new_state (as_role true settings) first now in
       let ils = w.il ∷ w.il_before in
       let entry : Served = record { machine = w.fe; joined = w.joined } in
       let pushed : AllTakeBeginnings (il ∷ ils) (entry ∷ w.fe_before) =
@@ -389,7 +389,7 @@ module _ {T P T' P' : Type 0} where
 
   pub inv-open_fe : (settings : Settings) (first now : ℕ) (w : World) → Inv T P w → is_legal settings ≡ true → P' → Inv T' P' (open_fe settings first now w)
   inv-open_fe settings first now w h legal past =
-      let fe = opened (as_role false settings) first now in
+      let fe = new_state (as_role false settings) first now in
       let ils = w.il ∷ w.il_before in
       let entry : Served = record { machine = w.fe; joined = w.joined } in
       let fresh_entry : Served = record { machine = fe; joined = None } in
@@ -433,9 +433,9 @@ inv-start =
       loses_nothing = record { from_il = omega arith; from_fe = omega arith };
     }
   where
-    bounded_unopened : Bounded unopened
+    bounded_unopened : Bounded unopened_state
     bounded_unopened =
-        bounded-low unopened (omega arith) (omega arith) (omega arith) (omega arith) (omega arith) (λ _. omega arith) (λ live. absurd (false≢true live))
+        bounded-low unopened_state (omega arith) (omega arith) (omega arith) (omega arith) (omega arith) (λ _. omega arith) (λ live. absurd (false≢true live))
 
 -- The law by itself, which every event keeps.
 abbrev pub Lawful : World → Type 0
@@ -447,7 +447,7 @@ quiet-il w m quiet h = il-quiet w m quiet (λ _ t. t) (λ p. p) h
 quiet-fe : (w : World) (m : Move) → HearsNothing m → Lawful w → Lawful (with_fe (move m w.fe) w)
 quiet-fe w m quiet h = fe-quiet w m quiet (λ _ t. t) (λ p. p) h
 
-inv-event : (w : World) (e : Event) → Lawful w → GenuineEvent w e → Lawful (happens w e)
+inv-event : (w : World) (e : Event) → Lawful w → GenuineEvent w e → Lawful (apply_event w e)
 inv-event w (Open Il settings first now) h g =
     cond_both (is_legal settings) (open_il settings first now w) w Lawful (λ legal. inv-open_il settings first now w h legal (λ _. tt)) (λ _. h)
 inv-event w (Open Fe settings first now) h g =
@@ -465,4 +465,4 @@ inv-event w (Arrive Fe p now) h g = fe-arrive w p now (λ _ t. t) (λ _ q. q) h 
 
 pub inv-run : (events : List Event) (w : World) → Lawful w → Genuine events w → Lawful (run events w)
 inv-run [] w h g = h
-inv-run (e ∷ es) w h g = inv-run es (happens w e) (inv-event w e h g.0) g.1
+inv-run (e ∷ es) w h g = inv-run es (apply_event w e) (inv-event w e h g.0) g.1

@@ -34,21 +34,21 @@ abbrev pub octets_of : List Numbered → List (List ℕ)
 octets_of units = map (λ (u : Numbered). u.octets) units
 
 -- Units under consecutive numbers.
-abbrev pub renumbered : ℕ → List (List ℕ) → List Numbered
-renumbered first [] = []
-renumbered first (octets ∷ units) = record { number = first; octets = octets } ∷ renumbered (first + 1) units
+abbrev pub renumber_units : ℕ → List (List ℕ) → List Numbered
+renumber_units first [] = []
+renumber_units first (octets ∷ units) = record { number = first; octets = octets } ∷ renumber_units (first + 1) units
 
 -- A unit as it is stored, after its number.
 abbrev pub Stored : Type 0
 Stored = ℕ × ArrayVec ℕ
 
 -- A stored unit as a value.
-abbrev pub shown : Stored → Numbered
-shown u = record { number = u.0; octets = u.1.items }
+abbrev pub unit_value : Stored → Numbered
+unit_value u = record { number = u.0; octets = u.1.items }
 
 -- A list of stored units as values.
-abbrev pub all_shown : List Stored → List Numbered
-all_shown units = map shown units
+abbrev pub unit_values : List Stored → List Numbered
+unit_values units = map unit_value units
 
 -- What a place after the end is read as.
 abbrev pub no_unit : Stored
@@ -67,4 +67,4 @@ units_from places place (suc count) =
 -- A result, without its place in memory.
 abbrev pub seen_of : Option (Bor Stored) → Option Numbered
 seen_of None = None
-seen_of (Some u) = Some (shown u.now)
+seen_of (Some u) = Some (unit_value u.now)

@@ -2,7 +2,7 @@
 
 ghost use Rattle.std.specs.Prelude.{◌≡◌, ◌+◌, ◌<◌, ◌≤◌, ◌^◌, ◌↔◌, ◌++◌, [], ◌∷◌, length, slice_get, All, IsOk, OnOk, OnErr, IfOk, IfErr, vec_len};
 ghost use Rattle.octets.specs.declared.limits.TheConstants.{UNIT_MAX};
-ghost use Rattle.safe_machine.specs.retrans.Units.{IsRing, Rises, above, all_shown, octets_of, renumbered, seen_of, units_from};
+ghost use Rattle.safe_machine.specs.retrans.Units.{IsRing, Rises, above, unit_values, octets_of, renumber_units, seen_of, units_from};
 
 use super::{NumberedUnit, Unit};
 use octets::limits::UNIT_MAX;
@@ -26,13 +26,13 @@ pub struct Unconfirmed<A: Allocator = Global> {
 
 impl<A: Allocator> Model for Unconfirmed<A> {
     ghost use Rattle.std.specs.Prelude.{vec_len};
-    ghost use Rattle.safe_machine.specs.retrans.Units.{IsRing, Kept, Rises, all_shown, units_from};
+    ghost use Rattle.safe_machine.specs.retrans.Units.{IsRing, Kept, Rises, unit_values, units_from};
 
     ghost Value = { Kept };
 
-    ghost view = { λ u. record { room = vec_len u.places; units = all_shown (units_from u.places.items u.first u.count) } };
+    ghost view = { λ u. record { room = vec_len u.places; units = unit_values (units_from u.places.items u.first u.count) } };
 
-    ghost invariant = { λ u. IsRing (vec_len u.places) u.first u.count × Rises (all_shown (units_from u.places.items u.first u.count)) };
+    ghost invariant = { λ u. IsRing (vec_len u.places) u.first u.count × Rises (unit_values (units_from u.places.items u.first u.count)) };
 }
 
 impl<A: Allocator> Unconfirmed<A> {
@@ -148,8 +148,8 @@ impl<A: Allocator> Unconfirmed<A> {
     /// be below 2^64.
     pub fn renumber(&mut self, first: u64)
         requires { first + length self.old.units ≤ 2 ^ 64 }
-        // `renumber` gives consecutive numbers from `first` on, and keeps the units and their order (`renumbered`).
-        ensures { self.new ≡ record { room = self.old.room; units = renumbered first (octets_of self.old.units) } }
+        // `renumber` gives consecutive numbers from `first` on, and keeps the units and their order (`renumber_units`).
+        ensures { self.new ≡ record { room = self.old.room; units = renumber_units first (octets_of self.old.units) } }
     {
         renumber_in(&mut self.places, self.first, self.count, first);
     }
@@ -163,12 +163,12 @@ fn behind_confirmed(
     number: u64,
 ) -> (usize, usize)
     requires ring { IsRing (length places.now) first count }
-    requires rises { Rises (all_shown (units_from places.now first count)) }
+    requires rises { Rises (unit_values (units_from places.now first count)) }
     // The returned place and count fit the ring.
     ensures ring { IsRing (length places.now) result.0 result.1 }
     // The remaining units are exactly those with greater numbers (`above`).
-    ensures left { all_shown (units_from places.now result.0 result.1)
-        ≡ above number (all_shown (units_from places.now first count)) }
+    ensures left { unit_values (units_from places.now result.0 result.1)
+        ≡ above number (unit_values (units_from places.now first count)) }
 {
     let mut first = first;
     let mut count = count;
@@ -205,9 +205,9 @@ fn renumber_in<A: Allocator>(
     requires numbers { number + count ≤ 2 ^ 64 }
     requires ring { IsRing (vec_len places.old) first count }
     // The units of the ring have consecutive numbers from `number` on, and the same bytes in the same order
-    // (`renumbered`).
-    ensures numbers { all_shown (units_from places.new.items first count)
-        ≡ renumbered number (octets_of (all_shown (units_from places.old.items first count))) }
+    // (`renumber_units`).
+    ensures numbers { unit_values (units_from places.new.items first count)
+        ≡ renumber_units number (octets_of (unit_values (units_from places.old.items first count))) }
     // The number of places in the vector stays the same.
     ensures room { vec_len places.new ≡ vec_len places.old }
 {
@@ -219,9 +219,9 @@ fn renumber_all(places: &mut [NumberedUnit], first: usize, count: usize, number:
     requires numbers { number + count ≤ 2 ^ 64 }
     requires ring { IsRing (length places.old) first count }
     // In the slice, the units from `first` on have consecutive numbers from `number` on, and keep their bytes and
-    // their order (`renumbered`).
-    ensures numbers { all_shown (units_from places.new first count)
-        ≡ renumbered number (octets_of (all_shown (units_from places.old first count))) }
+    // their order (`renumber_units`).
+    ensures numbers { unit_values (units_from places.new first count)
+        ≡ renumber_units number (octets_of (unit_values (units_from places.old first count))) }
     // The number of places in the slice stays the same.
     ensures room { length places.new ≡ length places.old }
 {

@@ -1,9 +1,9 @@
 -- What is said of each part that goes up in a call is said of each place there.
 use Rattle.stack_engine.proofs.Words.{[], ap, AtCall, AtInput, AtParts, Call, EndState, false, Input, is_shut, List, Part}
-use Rattle.stack_engine.proofs.Words.{part, parts, passed_by, refl, slice_get, Some, subst, suc, sym, take, time_of, with_input, zero, ℕ, ◌∙◌, ◌∷◌, ◌≡◌}
+use Rattle.stack_engine.proofs.Words.{part, parts, parts_passed, refl, slice_get, Some, subst, suc, sym, take, time_of, with_input, zero, ℕ, ◌∙◌, ◌∷◌, ◌≡◌}
 use Rattle.stack_engine.proofs.Words.{Close, Deliver, InitDone, Put, Tick, Datagram, RedTick}
 use Rattle.std.proofs.lemmas.Option.{none-some, same_Some}
-use Rattle.stack_engine.specs.CallsByPlace.{GoesUp, guarded, input_of}
+use Rattle.stack_engine.specs.CallsByPlace.{GoesUp, guard_end, input_of}
 use Rattle.stack_engine.proofs.alike.Closing.{closed-shut, shut-closed}
 
 parts-each : (P : EndState → List ℕ → Type 0) (now : ℕ) (ps : List Part) (x : EndState) → AtParts P now ps x
@@ -22,25 +22,25 @@ abbrev EachUp : (EndState → List ℕ → Type 0) → Call → EndState → Typ
 EachUp P c x = (k : ℕ) (p : Part) (y : EndState) → GoesUp c x k p y → P y p.1
 
 input-each : (P : EndState → List ℕ → Type 0) (c : Call) (x : EndState) (i : Input) → input_of c ≡ Some i
-    → (is_shut x ≡ false → AtInput P (time_of c) i (guarded c x)) → EachUp P c x
+    → (is_shut x ≡ false → AtInput P (time_of c) i (guard_end c x)) → EachUp P c x
 input-each P c x i e h k p y u =
     let same : u.input ≡ i = same_Some u.input i (sym u.brings ∙ e) in
     let at =
-    parts-each P (time_of c) (passed_by i (guarded c x).red) (with_input i (guarded c x))
-    (h (closed-shut x.machine.connection u.lives) (closed-shut (guarded c x).machine.connection u.goes_on)) k p
-    (ap (λ j. slice_get (passed_by j (guarded c x).red) k) (sym same) ∙ u.part) in
+    parts-each P (time_of c) (parts_passed i (guard_end c x).red) (with_input i (guard_end c x))
+    (h (closed-shut x.machine.connection u.lives) (closed-shut (guard_end c x).machine.connection u.goes_on)) k p
+    (ap (λ j. slice_get (parts_passed j (guard_end c x).red) k) (sym same) ∙ u.part) in
     subst (λ z. P z p.1)
-    (ap (λ j. parts (time_of c) (take k (passed_by j (guarded c x).red)) (with_input j (guarded c x))) (sym same) ∙ u.meanwhile) at
+    (ap (λ j. parts (time_of c) (take k (parts_passed j (guard_end c x).red)) (with_input j (guard_end c x))) (sym same) ∙ u.meanwhile) at
 
 each-input : (P : EndState → List ℕ → Type 0) (c : Call) (x : EndState) (i : Input) → input_of c ≡ Some i → EachUp P c x
-    → is_shut x ≡ false → AtInput P (time_of c) i (guarded c x)
+    → is_shut x ≡ false → AtInput P (time_of c) i (guard_end c x)
 each-input P c x i e h lives goes =
-    each-parts P (time_of c) (passed_by i (guarded c x).red) (with_input i (guarded c x))
+    each-parts P (time_of c) (parts_passed i (guard_end c x).red) (with_input i (guard_end c x))
     (λ k p is.
-    h k p (parts (time_of c) (take k (passed_by i (guarded c x).red)) (with_input i (guarded c x)))
+    h k p (parts (time_of c) (take k (parts_passed i (guard_end c x).red)) (with_input i (guard_end c x)))
     (record {
       lives = shut-closed x.machine.connection lives;
-      goes_on = shut-closed (guarded c x).machine.connection goes;
+      goes_on = shut-closed (guard_end c x).machine.connection goes;
       input = i;
       brings = e;
       part = is;

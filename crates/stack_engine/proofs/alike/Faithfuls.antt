@@ -1,6 +1,6 @@
 -- Both tellings of Faithful are one.
 use Rattle.stack_engine.proofs.Words.{[], AllByRecursion, AllFaithful, ap, Call, Calls, Carries, CarriesAll, CodeRule, Datagram, drop}
-use Rattle.stack_engine.proofs.Words.{EndState, Event, Faithful, FaithfulCall, FaithfulEvent, Fe, GuardHolds, GuardsHold, happens, Il, Input, IsNear, IsNoClose, JoinedEnd, latest, List}
+use Rattle.stack_engine.proofs.Words.{EndState, Event, Faithful, FaithfulCall, FaithfulEvent, Fe, GuardHolds, GuardsHold, apply_event, Il, Input, IsNear, IsNoClose, JoinedEnd, latest, List}
 use Rattle.stack_engine.proofs.Words.{None, OfBoth, Open, Option, Part, present, RedTick, refl, refusal, rule_of, run, SameRule, Side}
 use Rattle.stack_engine.proofs.Words.{slice_get, Some, start, subst, suc, sym, take, time_of, World, zero, ends_of, EndSettings, ℕ, ◌↔◌, ◌∙◌, ◌∷◌, ◌≡◌, ◌≢◌}
 use Rattle.stack_engine.proofs.Words.{Close, Deliver, InitDone, Put, Tick}
@@ -133,12 +133,12 @@ pub each-event : (es : List Event) (w : World) → AllFaithful es w → (n : ℕ
     → refusal e (run (take n es) w) ≡ None → FaithfulEvent e (run (take n es) w)
 each-event [] w h n e at ok = absurd (none-some e at)
 each-event (d ∷ es) w h zero e at ok = subst (λ d. refusal d w ≡ None → FaithfulEvent d w) (same_Some d e at) h.0 ok
-each-event (d ∷ es) w h (suc n) e at ok = each-event es (happens w d) h.1 n e at ok
+each-event (d ∷ es) w h (suc n) e at ok = each-event es (apply_event w d) h.1 n e at ok
 
 event-each : (es : List Event) (w : World)
     → ((n : ℕ) (e : Event) → slice_get es n ≡ Some e → refusal e (run (take n es) w) ≡ None → FaithfulEvent e (run (take n es) w)) → AllFaithful es w
 event-each [] w h = tt
-event-each (d ∷ es) w h = (h zero d refl, event-each es (happens w d) (λ n e at ok. h (suc n) e at ok))
+event-each (d ∷ es) w h = (h zero d refl, event-each es (apply_event w d) (λ n e at ok. h (suc n) e at ok))
 
 at : (es : List Event) → AllFaithful es start → (n : ℕ) (side : Side) (c : Call) (x : EndState) → IsCallAt es start n side c x
     → FaithfulAt side c (run (take n es) start) x

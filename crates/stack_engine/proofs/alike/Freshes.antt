@@ -1,5 +1,5 @@
 -- Both tellings of freshness are one.
-use Rattle.stack_engine.proofs.Words.{◌↔◌, [], AllFresh, ap, arith, AtOpened, Call, Calls, drop, EndState, Event, Fe, Fresh, FreshCall, FreshEvent, Freshness, happens, Il, List}
+use Rattle.stack_engine.proofs.Words.{◌↔◌, [], AllFresh, ap, arith, AtOpened, Call, Calls, drop, EndState, Event, Fe, Fresh, FreshCall, FreshEvent, Freshness, apply_event, Il, List}
 use Rattle.stack_engine.proofs.Words.{Made, made_of, None, Ok, Open, Option, part, Part, Pdu, present, refl, refusal, rule_of, safe_seen, Side, Some, start}
 use Rattle.stack_engine.proofs.Words.{subst, suc, sym, taken_at, TakesFresh, time_of, World, zero, ℕ, ◌-◌, ◌∙◌, ◌∷◌, ◌≡◌, ◌≢◌}
 use Rattle.std.proofs.lemmas.Option.{none-some, same_Some}
@@ -89,7 +89,7 @@ by-place (e ∷ es) w h zero k side c p x y at u =
     let is = same_Some e (Calls side c) at.event in
     event-fresh side c w (subst (λ d. refusal d w ≡ None → FreshEvent d w) is h.0 at.accepted) x at.at k p y u
 by-place (e ∷ es) w h (suc n) k side c p x y at u =
-    by-place es (happens w e) h.1 n k side c p x y (record { event = at.event; accepted = at.accepted; at = at.at }) u
+    by-place es (apply_event w e) h.1 n k side c p x y (record { event = at.event; accepted = at.accepted; at = at.at }) u
 
 by-recursion : (es : List Event) (w : World) → FreshByPlace es w → AllFresh es w
 by-recursion [] w h = tt
@@ -99,7 +99,7 @@ by-recursion (e ∷ es) w h = (
       (λ side c x is at k p y u.
       h zero k side c p x y
       (record { event = ap Some is; accepted = subst (λ d. refusal d w ≡ None) is accepted; at = at }) u),
-  by-recursion es (happens w e)
+  by-recursion es (apply_event w e)
       (λ n k side c p x y at u. h (suc n) k side c p x y (record { event = at.event; accepted = at.accepted; at = at.at }) u),
 )
 

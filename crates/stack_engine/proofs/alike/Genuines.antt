@@ -1,6 +1,6 @@
 -- Both tellings of Genuine are one.
 use Rattle.stack_engine.proofs.Words.{[], AllByRecursion, ap, arith, arrivals_of, AtArrivals, AtOpened, Bool, by_test, bytes_eq, bytes_eq-Decides, Call, Calls}
-use Rattle.stack_engine.proofs.Words.{code_octets, cond, Datagram, drop, EndState, eqb-true, Event, false, Fe, Genuine, GenuineCall, GenuineEvent, happens, has_made, Il}
+use Rattle.stack_engine.proofs.Words.{code_octets, cond, Datagram, drop, EndState, eqb-true, Event, false, Fe, Genuine, GenuineCall, GenuineEvent, apply_event, has_made, Il}
 use Rattle.stack_engine.proofs.Words.{is_live, IsGenuine, List, Made, nat_tests, None, Open, Option, Part, present, refl, refusal, rule_of, run, Side, slice_get, Some}
 use Rattle.stack_engine.proofs.Words.{subst, suc, sym, take, true, upper_of, World, zero, ℕ, ◌&&◌, ◌+◌, ◌-◌, ◌==◌, ◌↔◌, ◌∙◌, ◌∷◌, ◌≡◌}
 use Rattle.stack_engine.proofs.Words.{CodeRule, Close, Deliver, InitDone, Put, Tick}
@@ -172,7 +172,7 @@ each-at [] w h n side c x at = absurd (none-some (Calls side c) at.event)
 each-at (e ∷ es) w h zero side c x at =
     event-at side c w (subst (λ d. refusal d w ≡ None → GenuineEvent d w) (same_Some e (Calls side c) at.event) h.0 at.accepted) x at.at
 each-at (e ∷ es) w h (suc n) side c x at =
-    each-at es (happens w e) h.1 n side c x (record { event = at.event; accepted = at.accepted; at = at.at })
+    each-at es (apply_event w e) h.1 n side c x (record { event = at.event; accepted = at.accepted; at = at.at })
 
 at-each : (es : List Event) (w : World)
     → ((n : ℕ) (side : Side) (c : Call) (x : EndState) → IsCallAt es w n side c x → GenuineAt side c (run (take n es) w) x) → Genuine es w
@@ -181,7 +181,7 @@ at-each (e ∷ es) w h = (
   λ accepted.
       at-event e w
       (λ side c x is at. h zero side c x (record { event = ap Some is; accepted = subst (λ d. refusal d w ≡ None) is accepted; at = at })),
-  at-each es (happens w e) (λ n side c x at. h (suc n) side c x (record { event = at.event; accepted = at.accepted; at = at.at })),
+  at-each es (apply_event w e) (λ n side c x at. h (suc n) side c x (record { event = at.event; accepted = at.accepted; at = at.at })),
 )
 
 pub genuine-twice : (es : List Event) (w : World) → Genuine es w ↔ GenuineByPlace es w

@@ -7,7 +7,7 @@ use Rattle.std.specs.List.{flat_map}
 use Rattle.safe_pdu.specs.declared.Kind.{Kind}
 use Rattle.safe_pdu.specs.declared.Kind.TheVariants.{RetrResp, Data, RetrData}
 use Rattle.safe_machine.specs.Made.{after_pdu, run_after, run_of}
-use Rattle.stack_engine.specs.OpenUnits.{begins_again, has_unit, held, is_open, item_read, items_among, messages_read, open_from, open_units}
+use Rattle.stack_engine.specs.OpenUnits.{begins_again, has_unit, held_items, is_open, item_read, items_among, messages_read, open_from, open_units}
 
 -- a run is kept if no retransmission begins in what follows
 abbrev answers : List Made → Bool
@@ -93,7 +93,7 @@ among-append [] ys = refl
 among-append (x ∷ xs) ys = ap (λ rest. item_read (tele_seen x) ++ rest) (among-append xs ys)
     ∙ sym (append_assoc (item_read (tele_seen x)) (items_among xs) (items_among ys))
 
-pub held-is : (x : EndState) → held x ≡ items_unconfirmed x ++ items_waiting x
+pub held-is : (x : EndState) → held_items x ≡ items_unconfirmed x ++ items_waiting x
 held-is x =
     among-append (flat_map (λ u. messages_read (unit_seen u)) (open_units x)) x.session.waiting
     ∙ ap (λ us. items_among (flat_map (λ u. messages_read (unit_seen u)) us) ++ items_among x.session.waiting) (open-unconfirmed x)

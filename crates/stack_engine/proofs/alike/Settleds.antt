@@ -7,10 +7,10 @@ use Rattle.stack_engine.proofs.Words.{taken_from_il, true, unconfirmed, WasTaken
 use Rattle.std.proofs.lemmas.Option.{none-some, same_Some}
 use Rattle.stack_engine.specs.Pairs.{ends_of, run, start}
 use Rattle.stack_engine.specs.Settled.{Certain, CertainAt, CertainFe, CertainLaw, Settled, ConfirmedTaken, ConfirmedTakenLaw, SettledLaw, taken_by}
-use Rattle.stack_end.specs.Certain.{counted}
+use Rattle.stack_end.specs.Certain.{cap_count}
 use Rattle.stack_engine.specs.ByPlace.{AgreeUpTo, IsOpened}
 use Rattle.stack_engine.specs.HeadlineByPlace.{HeadlineByPlace, HeadlineByPlaceLaw}
-use Rattle.stack_engine.specs.OpenUnits.{held}
+use Rattle.stack_engine.specs.OpenUnits.{held_items}
 use Rattle.stack_engine.specs.SettledByPlace.{SettledByPlace, ConfirmedByPlace, AreJoined, ConfirmedByPlaceLaw, IsAccountedFor, IsDone, PartnerTook}
 use Rattle.stack_engine.specs.SettledByPlace.{CertainByPlace, CertainByPlaceLaw, SettledByPlaceLaw, WasTakenAt}
 use Rattle.stack_engine.proofs.alike.Closing.{closed-shut, shut-closed}
@@ -22,13 +22,13 @@ use Rattle.stack_engine.proofs.alike.Held.{held-is, open-unconfirmed}
 -- of one end
 accounted : (x : EndState) (taken : List Item) → WasTaken x taken → IsAccountedFor x taken
 accounted x taken w =
-    let p = front-parted (put_at x) taken (held x) w.0 w.1 (w.2 ∙ append_assoc w.0 (items_unconfirmed x) (items_waiting x) ∙ ap (λ rest. w.0 ++ rest) (sym (held-is x))) in
+    let p = front-parted (put_at x) taken (held_items x) w.0 w.1 (w.2 ∙ append_assoc w.0 (items_unconfirmed x) (items_waiting x) ∙ ap (λ rest. w.0 ++ rest) (sym (held-is x))) in
     record { sure = length w.0; counted = p.counted; was_taken = p.first; is_held = p.behind }
 
 was-taken : (x : EndState) (taken : List Item) → IsAccountedFor x taken → WasTaken x taken
 was-taken x taken a =
     let b =
-    parted-begins (put_at x) taken (held x) a.sure
+    parted-begins (put_at x) taken (held_items x) a.sure
     (record { counted = a.counted; first = a.was_taken; behind = a.is_held }) in
     (b.0, b.1, b.2 ∙ ap (λ rest. b.0 ++ rest) (held-is x) ∙ sym (append_assoc b.0 (items_unconfirmed x) (items_waiting x)))
 
@@ -99,25 +99,25 @@ places-prefix p t h c few w =
           get-taken (c - h) p n inside ∙ (w n near).same);
     })
 
-counted-few : (n : ℕ) → counted n ≤ n
+counted-few : (n : ℕ) → cap_count n ≤ n
 counted-few n = omega arith
 
-held-length : (x : EndState) → length (items_waiting x) + length (items_unconfirmed x) ≡ length (held x)
+held-length : (x : EndState) → length (items_waiting x) + length (items_unconfirmed x) ≡ length (held_items x)
 held-length x =
     let e = ap length (held-is x) ∙ length-append (items_unconfirmed x) (items_waiting x) in
     omega (arith, e)
 
 certain-places : (x : EndState) (t : List Item) → CertainAt x t
-    → (n : ℕ) → n + length (held x) < counted (length (put_at x)) → WasTakenAt n (put_at x) t
+    → (n : ℕ) → n + length (held_items x) < cap_count (length (put_at x)) → WasTakenAt n (put_at x) t
 certain-places x t c =
-    prefix-places (put_at x) t (length (held x)) (counted (length (put_at x))) (counted-few (length (put_at x)))
-    (subst (λ h. IsBeginning (take (counted (length (put_at x)) - h) (put_at x)) t) (held-length x) c)
+    prefix-places (put_at x) t (length (held_items x)) (cap_count (length (put_at x))) (counted-few (length (put_at x)))
+    (subst (λ h. IsBeginning (take (cap_count (length (put_at x)) - h) (put_at x)) t) (held-length x) c)
 
-places-certain : (x : EndState) (t : List Item) → ((n : ℕ) → n + length (held x) < counted (length (put_at x)) → WasTakenAt n (put_at x) t)
+places-certain : (x : EndState) (t : List Item) → ((n : ℕ) → n + length (held_items x) < cap_count (length (put_at x)) → WasTakenAt n (put_at x) t)
     → CertainAt x t
 places-certain x t w =
-    subst (λ h. IsBeginning (take (counted (length (put_at x)) - h) (put_at x)) t) (sym (held-length x))
-    (places-prefix (put_at x) t (length (held x)) (counted (length (put_at x))) (counted-few (length (put_at x))) w)
+    subst (λ h. IsBeginning (take (cap_count (length (put_at x)) - h) (put_at x)) t) (sym (held-length x))
+    (places-prefix (put_at x) t (length (held_items x)) (cap_count (length (put_at x))) (counted-few (length (put_at x))) w)
 
 -- What the partner of an interlocking took: the field element joined to its number is one.
 number-is : (n m : ℕ) (joined : Option ℕ) → joined ≡ Some m → m ≡ n → is_number n joined ≡ true
@@ -299,7 +299,7 @@ abbrev Agrees : EndState → List Item → Type 0
 Agrees x t = IsDone x → AgreeUpTo (length (put_at x)) (put_at x) t
 
 abbrev Places : EndState → List Item → Type 0
-Places x t = (n : ℕ) → n + length (held x) < counted (length (put_at x)) → WasTakenAt n (put_at x) t
+Places x t = (n : ℕ) → n + length (held_items x) < cap_count (length (put_at x)) → WasTakenAt n (put_at x) t
 
 il-taken : (w : World) (r : Option EndState) → AtOpened (λ g. WasTaken g (taken_from_il (length w.ils) w.fes)) r ↔ AtIl Accounts w r
 il-taken w None = ((λ h. tt), (λ h. tt))

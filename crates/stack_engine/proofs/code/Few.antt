@@ -1,21 +1,21 @@
 -- How few PDUs and telegrams one event makes, over every list of events.
 use Rattle.safe_machine.proofs.one.Turning.{send-is}
 use Rattle.stack_engine.proofs.Words.{[], after, after_read, after_release, after_run, AllByRecursion, answered, ap, append-nil, are_fit, AreOctets, AreTyped}
-use Rattle.stack_engine.proofs.Words.{arith, arrival, arrive_octets, Arrives, AtOpened, Bool, by_cond, Call, call, call_fe, call_il, Calls, changed, Close}
-use Rattle.stack_engine.proofs.Words.{ClosedByUser, code_octets, CodeLength, CodeRule, comes_up, Completes, cond, connection_of, Data, Datagram, deferred}
+use Rattle.stack_engine.proofs.Words.{arith, arrival, arrive_octets, Arrives, AtOpened, Bool, by_cond, Call, call, call_fe, call_il, Calls, change_world, Close}
+use Rattle.stack_engine.proofs.Words.{ClosedByUser, code_octets, CodeLength, CodeRule, comes_up, Completes, cond, connection_of, Data, Datagram, defer}
 use Rattle.stack_engine.proofs.Words.{Deliver, Detail, Dialogue, did, drop, drop-append_seam, Eight, ends_of, EndSettings, EndState, Err, Event, false, Fe}
-use Rattle.stack_engine.proofs.Words.{FewFirstLaw, FewLaw, FewMade, FewMore, FewMoreLaw, follow, goes_on, GoesUp, guard, Guards, handed_up, happens, HaveTexts}
+use Rattle.stack_engine.proofs.Words.{FewFirstLaw, FewLaw, FewMade, FewMore, FewMoreLaw, follow, goes_on, GoesUp, guard, Guards, handed_up, apply_event, HaveTexts}
 use Rattle.stack_engine.proofs.Words.{heard, heard_as, Hears, Il, InitDone, inl, Input, inr, is_due, is_nil, is_shut, IsRead, IsSmallItem, IsSmallPdu}
-use Rattle.stack_engine.proofs.Words.{IsTakenBy, IsTyped, Item, JoinedEnd, judge_messages, judge_read, judge_units, judge_unpacked, Judged, judged, latest}
-use Rattle.stack_engine.proofs.Words.{least_waiting, leave, Leaves, leaves, Leaving, length, length-append, length-drop, List, Made, make, may_send, meets}
+use Rattle.stack_engine.proofs.Words.{IsTakenBy, IsTyped, Item, JoinedEnd, judge_messages, judge_read, judge_units, judge_unpacked, Judged, judge_telegram, latest}
+use Rattle.stack_engine.proofs.Words.{least_waiting, leave, Leaves, leaves, Leaving, length, length-append, length-drop, List, Made, make, may_send, process_event}
 use Rattle.stack_engine.proofs.Words.{MESSAGE_MAX, MESSAGE_MIN, most_pdus, Move, move, moved, MovesLaw, nat_tests, new_end, next_made, None, Ok, Open, Option}
-use Rattle.stack_engine.proofs.Words.{packed, packed_up_to, PackFault, Part, part, parts, passed_by, PAYLOAD_MAX, pieces_seen, present, Put, put_in, Puts}
-use Rattle.stack_engine.proofs.Words.{QueueLaw, read_named, Reason, Receiver, receives, RedFault, RedTick, refl, refusal, released, Result, rises, rule_of, run}
-use Rattle.stack_engine.proofs.Words.{run_from, seen_by, Sends, sends, SessionEvent, settle, Side, Sixteen, Some, start, State, Stepped, subst, suc, sym, take}
+use Rattle.stack_engine.proofs.Words.{packed, packed_up_to, PackFault, Part, part, parts, parts_passed, PAYLOAD_MAX, pieces_seen, present, Put, put_in, Puts}
+use Rattle.stack_engine.proofs.Words.{QueueLaw, read_named, Reason, Receiver, receives, RedFault, RedTick, refl, refusal, parts_due, Result, rises, rule_of, run}
+use Rattle.stack_engine.proofs.Words.{run_from, seen_by, Sends, sends, SessionEvent, settle, Side, Sixteen, Some, start, State, ReceiverStep, subst, suc, sym, take}
 use Rattle.stack_engine.proofs.Words.{taken_as, taken_by, Takes, Tele, tele_seen, TeleFault, Tick, tick, Ticks, time_of, true, unconfirmed, unit_seen}
 use Rattle.stack_engine.proofs.Words.{unit_text, unless_leaving, Unspecified, Verdict, with_input, with_machine, with_session, World, Zero, zero, ℕ, ◌*◌, ◌++◌}
 use Rattle.stack_engine.proofs.Words.{◌+◌, ◌∙◌, ◌∷◌, ◌≡◌, ◌≤◌}
-use Rattle.red_layer.specs.Redundancy.{heard as red_heard}
+use Rattle.red_layer.specs.Redundancy.{step_decoded as red_heard}
 use Rattle.stack_engine.proofs.one.Heeding.{legal-role, machined-texts, OctetPart, OctetsUp, read-heard, red-keeps, Whole, whole-keeps}
 use Rattle.stack_engine.proofs.one.Speaking.{all-append, call-keeps, goes-of, IsTypedCall, IsTypedInput, keep-part, keep-settle, Keeps, Laws, leaves-same}
 use Rattle.stack_engine.proofs.one.Speaking.{legal-of, limits-of}
@@ -34,13 +34,13 @@ pub record Passing (arrived : ℕ) (r : Receiver) (passed : List Part) (left : R
   pub few : length r.waiting ≤ r.q → length left.waiting ≤ left.q
 
 -- a step with this result
-abbrev Counts : Receiver → Stepped → Type 0
+abbrev Counts : Receiver → ReceiverStep → Type 0
 Counts r s = Passing 1 r s.passed s.left
 
 passing-none : (r : Receiver) → Passing 1 r [] r
 passing-none r = record { q = refl; count = omega arith; few = λ h. h }
 
-passing-release : (now : ℕ) (r : Receiver) → Passing 0 r (released now r) (after_release now r)
+passing-release : (now : ℕ) (r : Receiver) → Passing 0 r (parts_due now r) (after_release now r)
 passing-release now r = go (is_due now r)
   where
     go : (b : Bool) → Passing 0 r (cond b (run_from (least_waiting r.waiting) r.waiting) []) (cond b (follow now (least_waiting r.waiting) r) r)
@@ -53,7 +53,7 @@ put_in-length : (n : ℕ) (x : List ℕ) (es : List Part) → length (put_in n x
 put_in-length n x [] = refl
 put_in-length n x (e ∷ es) = grind (arith, put_in-length n x es)
 
-passing-deferred : (now : ℕ) (p : Part) (r : Receiver) → Counts r (deferred now p r)
+passing-deferred : (now : ℕ) (p : Part) (r : Receiver) → Counts r (defer now p r)
 passing-deferred now p r = grind (arith, nat_tests, passing-none, put_in-length)
 
 passing-arrival : (now : ℕ) (p : Part) (r : Receiver) → Counts r (arrival now p r)
@@ -63,7 +63,7 @@ passing-heard : (now : ℕ) (said : Result Part RedFault) (r : Receiver) → Cou
 passing-heard now (Ok p) r = passing-arrival now p r
 passing-heard now (Err fault) r = passing-none r
 
-pub passing : (i : Input) (r : Receiver) → Passing 1 r (passed_by i r) (after i r)
+pub passing : (i : Input) (r : Receiver) → Passing 1 r (parts_passed i r) (after i r)
 passing (Datagram octets now) r = grind (arith, nat_tests, length-append, passing-heard, passing-release)
 passing (RedTick now) r = grind (arith, nat_tests, passing-release)
 
@@ -97,7 +97,7 @@ takes-as t d e Takes small same = grind (arith, nat_tests, all-append, length-ap
 takes-as t d e _ small same = takes-more 0 1 d e (omega arith) (takes-same d e (same ∙ append-nil d.history.taken))
 
 takes-read : (m : List ℕ) (d : Dialogue) (r : Result Tele TeleFault) → tele_seen m ≡ r → Takes_ 1 d (judge_read r d).left
-takes-read m d (Ok t) e = takes-as t d (meets (Arrives t) d) (judged d.history.state t) (small-tele m t e) refl
+takes-read m d (Ok t) e = takes-as t d (process_event (Arrives t) d) (judge_telegram d.history.state t) (small-tele m t e) refl
 takes-read m d (Err fault) e = takes-more 0 1 d d (omega arith) (takes-same d d refl)
 
 -- the others of a unit
@@ -162,7 +162,7 @@ handed-few moves m x =
     by-kind (Leaves reason detail now) more h = omega (arith, ap (λ (us : List (List ℕ)). length us) h)
 
 takes-rises : (b : Bool) (d : Dialogue) → Takes_ 0 d (rises b d)
-takes-rises true d = takes-same d (meets GoesUp d) (append-nil d.history.taken)
+takes-rises true d = takes-same d (process_event GoesUp d) (append-nil d.history.taken)
 takes-rises false d = takes-same d d refl
 
 -- At most this many PDUs and telegrams more, from one state of an end to the next.
@@ -321,7 +321,7 @@ module _ (laws : Laws) (side : Side) (now : ℕ) where
   grows-goes_on i x t h =
       by_cond (Grows 365 27 x) (is_shut x) x (sends now (receives now i x)) (λ _. grows-more 0 365 0 27 x x (omega arith) (omega arith) (grows-same x)) (λ _.
       let y = with_input i x in
-      let ps = passed_by i x.red in
+      let ps = parts_passed i x.red in
       let p = passing i x.red in
       let q = few-places side x.settings h.whole.spoken.fit in
       let nine : length ps ≤ 9 = omega (arith, p.count, h.few, h.q) in
@@ -348,10 +348,10 @@ module _ (laws : Laws) (side : Side) (now : ℕ) where
       (grows-then 36 365 0 27 x (moved m x) (goes_on now i (moved m x)) (grows-moved m x read h) (grows-goes_on i (moved m x) t after))
 
   -- an event of the session that is no arrival
-  grows-meets : (e : SessionEvent) (x : EndState) → taken_by e x.session.history.state ≡ [] → Sized side (with_session (meets e x.session) x)
-      → Grows 401 27 x (sends now (with_session (meets e x.session) x))
+  grows-meets : (e : SessionEvent) (x : EndState) → taken_by e x.session.history.state ≡ [] → Sized side (with_session (process_event e x.session) x)
+      → Grows 401 27 x (sends now (with_session (process_event e x.session) x))
   grows-meets e x none after =
-      let y = with_session (meets e x.session) x in
+      let y = with_session (process_event e x.session) x in
       let zero : Grows 0 0 x y = record {
         made = omega arith;
         takes = takes-same x.session y.session (ap (λ (is : List Item). x.session.history.taken ++ is) none ∙ append-nil x.session.history.taken);
@@ -413,18 +413,18 @@ module _ (laws : Laws) where
   sized-fe c ils [] t h = tt
   sized-fe c ils (f ∷ before) t h = sized-call laws Fe c f.end (typed-call Fe c t) h
 
-  sized-event : (e : Event) (w : World) → IsTyped e → refusal e w ≡ None → AllSized w → AllSized (changed e w)
+  sized-event : (e : Event) (w : World) → IsTyped e → refusal e w ≡ None → AllSized w → AllSized (change_world e w)
   sized-event (Open Il s first now) w t e h = (sized-new Il s first now (opens Il s now (present Il w) e).fit, h.1)
   sized-event (Open Fe s first now) w t e h = (h.0, sized-new Fe s first now (opens Fe s now (present Fe w) e).fit)
   sized-event (Calls Il c) w t e h = (sized-il c w.ils t h.0, h.1)
   sized-event (Calls Fe c) w t e h = (h.0, sized-fe c w.ils w.fes t h.1)
 
-  pub sized-happens : (e : Event) (w : World) → IsTyped e → AllSized w → AllSized (happens w e)
-  sized-happens e w t h = unless AllSized (refusal e w) w (changed e w) h (λ none. sized-event e w t none h)
+  pub sized-happens : (e : Event) (w : World) → IsTyped e → AllSized w → AllSized (apply_event w e)
+  sized-happens e w t h = unless AllSized (refusal e w) w (change_world e w) h (λ none. sized-event e w t none h)
 
   pub sized-run : (es : List Event) (w : World) → AreTyped es → AllSized w → AllSized (run es w)
   sized-run [] w t h = h
-  sized-run (e ∷ es) w t h = sized-run es (happens w e) t.1 (sized-happens e w t.0 h)
+  sized-run (e ∷ es) w t h = sized-run es (apply_event w e) t.1 (sized-happens e w t.0 h)
 
   -- the PDUs of an end have texts, which are not long
   short-code : (rule : CodeRule) → code_octets rule.length ≤ 16

@@ -1,10 +1,10 @@
 -- What the functions of the crate rely on: what is kept of a pair represents it, event by event.
-use Rattle.stack_engine.proofs.Words.{[], accepted, add-one, AllByRecursion, ap, append-nil, append_assoc, ApplyFault, AreTyped, AreWithin, arith, AtArrivals}
+use Rattle.stack_engine.proofs.Words.{[], part_received, add-one, AllByRecursion, ap, append-nil, append_assoc, ApplyFault, AreTyped, AreWithin, arith, AtArrivals}
 use Rattle.stack_engine.proofs.Words.{AtOpened, BeforeStand, Bool, BothStand, breaks_at, breaks_by, breaks_with, BreaksLaw, Call, call, call_of, call_refusal}
 use Rattle.stack_engine.proofs.Words.{Calls, channels_of, code_octets, CodeCall, CodeEvent, datagrams_of, Deed, deed_event, Deliver, drop, drop-append-le}
 use Rattle.stack_engine.proofs.Words.{drop-append_seam, EndConfig, ends_at, ends_of, EndSettings, EndStands, EndState, EndTurns, EndTurnsAlone, EndValue, Entry}
 use Rattle.stack_engine.proofs.Words.{entry_of, Err, Event, event_of, events_in, events_of, false, false≢true, Fe, fe_entry, FewAt, FewFirst, FewMore}
-use Rattle.stack_engine.proofs.Words.{FewMoreLaw, FoldsTo, get_or, Grew, happens, has_made, has_part, HasRoom, if◌then◌else◌, Il, il_entry, inc_refusal}
+use Rattle.stack_engine.proofs.Words.{FewMoreLaw, FoldsTo, get_or, Grew, apply_event, has_made, has_part, HasRoom, if◌then◌else◌, Il, il_entry, inc_refusal}
 use Rattle.stack_engine.proofs.Words.{Incarnation, incarnations_of, IncStands, IncTurns, Inside, inside, is_live, is_memory, is_none, is_shut, IsGenuine}
 use Rattle.stack_engine.proofs.Words.{IsOfSession, IsPlaced, IsSmallItem, IsSmallPdu, IsTyped, Item, joined_entry, joined_of, JoinedEnd, joins_in, joins_of}
 use Rattle.stack_engine.proofs.Words.{joins_with, Keeping, Kept, latest, latest_maker, length, length-append, length-drop, length-map, length-reverse}
@@ -14,21 +14,21 @@ use Rattle.stack_engine.proofs.Words.{present_list, PresentStands, puts_in, Ran,
 use Rattle.stack_engine.proofs.Words.{Result, reverse, reverse-append, reverse-reverse, rule_of, run, Sending, sendings, SendsOne, sent_at_opening}
 use Rattle.stack_engine.proofs.Words.{session_refusal, settings_of, Shelf, Side, side_of, Sides, SidesDo, SidesStand, SideStands, slice_get, slice_get-map}
 use Rattle.stack_engine.proofs.Words.{slice_range, Some, start, subst, suc, sure_items, sure_room, sym, take, take-append-le, take-length, take-suc, TakesItem}
-use Rattle.stack_engine.proofs.Words.{texts_in, time_of, Told, told_of, true, Turn, turn, Turned, World, zero, zero-add, ℕ, ◌&&◌, ◌++◌, ◌+◌, ◌-◌, ◌<◌, ◌==◌}
+use Rattle.stack_engine.proofs.Words.{texts_in, time_of, ChannelHistory, told_of, true, Turn, turn, Turned, World, zero, zero-add, ℕ, ◌&&◌, ◌++◌, ◌+◌, ◌-◌, ◌<◌, ◌==◌}
 use Rattle.stack_engine.proofs.Words.{◌||◌, ◌↔◌, ◌∙◌, ◌∷◌, ◌≡◌, ◌≢◌, ◌≤◌}
 use Rattle.channels.specs.Told.{Sends}
 use Rattle.red_layer.specs.Redundancy.{decoded}
-use Rattle.stack_engine.specs.Pairs.{accepted as accepted_of}
+use Rattle.stack_engine.specs.Pairs.{accepted_events as accepted_of}
 use Rattle.stack_engine.specs.Reports.{Entry as ReportEntry}
 use Rattle.stack_engine.specs.TextPlaces.{AreWithin as AreInside}
 use Rattle.stack_engine.proofs.one.Speaking.{all-append, all-parts, call-put, put_in_by}
 use Rattle.stack_engine.specs.declared.ApplyFault.TheVariants as code
 use Rattle.stack_engine.specs.declared.event.Call.TheVariants as call
-use Rattle.stack_engine.specs.declared.event.Doing.TheVariants as doing
+use Rattle.stack_engine.specs.declared.event.Action.TheVariants as doing
 use Rattle.stack_engine.specs.declared.history.Deed.TheVariants as deed
 
 by-seen : (x : EndState) (peer : Option EndState) (dead : ℕ) (r : Result Part RedFault) → ((not (is_shut x) && breaks_by x peer dead r) ≡ false)
-    ↔ AllByRecursion (λ (p : Part). IsGenuine peer dead x p.1) (accepted r)
+    ↔ AllByRecursion (λ (p : Part). IsGenuine peer dead x p.1) (part_received r)
 by-seen x peer dead r = grind (arith, nat_tests)
 
 at : (x peer : Option EndState) (dead channel : ℕ) (octets : List ℕ) (now : ℕ) → (breaks_at x peer dead octets ≡ false)
@@ -106,7 +106,7 @@ no-step b h = grind (arith, nat_tests)
 other-channel : (n : ℕ) → (n == 1) ≡ false → (1 == n) ≡ false
 other-channel n h = grind (arith, nat_tests)
 
-gains-one : (x : Sending) (xs : List Sending) (t j : Told) (a b : List Sending) (went : Bool) (c : Bool) → (x.0 == 1) ≡ c → Sends went t x j → t.sent ≡ Some a
+gains-one : (x : Sending) (xs : List Sending) (t j : ChannelHistory) (a b : List Sending) (went : Bool) (c : Bool) → (x.0 == 1) ≡ c → Sends went t x j → t.sent ≡ Some a
     → AllByRecursion IsFirst b → IsShort x → length (if c then x ∷ firsts xs else firsts xs) ≤ t.room 1
     → ((before : List Sending) → j.sent ≡ Some before → length (firsts xs) ≤ j.room 1 → b ≡ before ++ firsts xs)
     → b ≡ a ++ (if c then x ∷ firsts xs else firsts xs)
@@ -123,7 +123,7 @@ gains-one x xs t j a b true false is s before first short room ih =
 gains-one x xs t j a b false false is s before first short room ih = grind (arith, nat_tests, s.left 1, s.sent, ih, append-nil)
 
 -- If the list afterwards holds only sends on channel 1, and there is room for these, it gained exactly them.
-gains : (xs : List Sending) (t u : Told) (a b : List Sending) → FoldsTo SendsOne t xs u → t.sent ≡ Some a → u.sent ≡ Some b → AllByRecursion IsFirst b
+gains : (xs : List Sending) (t u : ChannelHistory) (a b : List Sending) → FoldsTo SendsOne t xs u → t.sent ≡ Some a → u.sent ≡ Some b → AllByRecursion IsFirst b
     → AllByRecursion IsShort xs → length (firsts xs) ≤ t.room 1 → b ≡ a ++ firsts xs
 gains [] t u a b h before after first short room = grind (arith, append-nil)
 gains (x ∷ xs) t u a b (j, one, rest) before after first short room =
@@ -231,7 +231,7 @@ put-in c x h = grind (arith, nat_tests, map-none)
 
 pub turned-stands : {A : Type 0} (c : Call) (i j : Incarnation A) (x : EndState) → HasRoom i → IncTurns c i j → inc_refusal c i ≡ None
     → Turned (turn c (inside i.end)) x (call c x) → IncStands i x → FewMore x (call c x) → IncStands j (call c x)
-turned-stands c i j x room t accepted turned h few =
+turned-stands c i j x room t part_received turned h few =
     let y = call c x in
     let grew = turned.grew in
     let more = (turn c (inside i.end)).taken in
@@ -246,7 +246,7 @@ turned-stands c i j x room t accepted turned h few =
       put =
           t.put
           ∙ (ap (λ (is : List Item). is ++ puts_in c) h.put
-          ∙ (ap (λ (is : List Item). x.session.history.put ++ is) (put-in c x (sym (refusal-is c i x h) ∙ accepted)) ∙ sym (call-put c x)));
+          ∙ (ap (λ (is : List Item). x.session.history.put ++ is) (put-in c x (sym (refusal-is c i x h) ∙ part_received)) ∙ sym (call-put c x)));
       taken = takes-all more i.taken j.taken t.end.taken small (omega (arith, count, room.1)) ∙ (ap (λ (is : List Item). is ++ more) h.taken ∙ sym grew.taken);
     }
 
@@ -327,9 +327,9 @@ pub opening-added : (cs : List EndConfig) (c : EndConfig) (es : List (Entry × L
     → events_in (cs ++ c ∷ []) (es ++ (e, octets) ∷ []) ≡ events_in cs es ++ Open (side_of e.side) (settings_of c) first e.time ∷ []
 opening-added cs c es e octets first h is = grind (arith, map-append, events-kept, get-seam)
 
-pub run-push : (es : List Event) (e : Event) (w : World) → run (es ++ e ∷ []) w ≡ happens (run es w) e
+pub run-push : (es : List Event) (e : Event) (w : World) → run (es ++ e ∷ []) w ≡ apply_event (run es w) e
 run-push [] e w = refl
-run-push (d ∷ es) e w = run-push es e (happens w d)
+run-push (d ∷ es) e w = run-push es e (apply_event w d)
 
 few-at : FewMoreLaw → (es : List Event) → AreTyped es → (e : Event) → IsTyped e → FewAt e (run es start)
 few-at law es typed (Open side s first now) t = tt
@@ -345,16 +345,16 @@ typed-push es e h t = all-append IsTyped es (e ∷ []) h (t, tt)
 
 run-append : (es fs : List Event) (w : World) → run (es ++ fs) w ≡ run fs (run es w)
 run-append [] fs w = refl
-run-append (e ∷ es) fs w = run-append es fs (happens w e)
+run-append (e ∷ es) fs w = run-append es fs (apply_event w e)
 
 -- refused events change nothing
 run-accepted : (es : List Event) (w : World) → run (accepted_of es w) w ≡ run es w
 run-accepted [] w = refl
-run-accepted (e ∷ es) w = grind (arith, run-accepted es (happens w e))
+run-accepted (e ∷ es) w = grind (arith, run-accepted es (apply_event w e))
 
 accepted-append : (es fs : List Event) (w : World) → accepted_of (es ++ fs) w ≡ accepted_of es w ++ accepted_of fs (run es w)
 accepted-append [] fs w = refl
-accepted-append (e ∷ es) fs w = grind (arith, accepted-append es fs (happens w e))
+accepted-append (e ∷ es) fs w = grind (arith, accepted-append es fs (apply_event w e))
 
 -- if a history has come by events
 ran-world : (old es mid : List Event) → Ran old es mid → run mid start ≡ run es (run old start)

@@ -1,12 +1,12 @@
 -- Over every faithful list of crossed ends the machines receive each other's PDUs in order.
 use Rattle.stack_engine.proofs.Words.{[], after_along, AllByRecursion, AllFaithful, answered, ap, append-nil, append_assoc, AreFrom, AreTyped, arith, arrivals}
-use Rattle.stack_engine.proofs.Words.{arrivals_of, arrive_octets, AtCall, AtOpened, Bool, Call, call, call_fe, call_il, call_refusal, Calls, Carries, changed}
+use Rattle.stack_engine.proofs.Words.{arrivals_of, arrive_octets, AtCall, AtOpened, Bool, Call, call, call_fe, call_il, call_refusal, Calls, Carries, change_world}
 use Rattle.stack_engine.proofs.Words.{Close, ClosedByUser, Closes, CodeRule, Completes, cond, Crossed, Datagram, Deliver, drop, end_moved, ends_of, EndSettings}
 use Rattle.stack_engine.proofs.Words.{EndState, Event, EventsLaw, FaithfulCall, FaithfulEvent, false, Fe, Genuine, GenuineCall, GenuineEvent, goes_on, guard}
-use Rattle.stack_engine.proofs.Words.{GuardHolds, Guards, handed_up, happens, HaveTexts, heard_as, IdentifiedLaw, Il, InitDone, inl, Input, inr, is_shut}
+use Rattle.stack_engine.proofs.Words.{GuardHolds, Guards, handed_up, apply_event, HaveTexts, heard_as, IdentifiedLaw, Il, InitDone, inl, Input, inr, is_shut}
 use Rattle.stack_engine.proofs.Words.{IsGenuine, IsNear, IsTyped, JoinedEnd, judge_units, last_time, latest, leave, Leaves, leaves, Leaving, length, List, Made}
-use Rattle.stack_engine.proofs.Words.{made_of, meets, Move, move, MovesLaw, nat_tests, new_end, no_wait, NoDeadlineFalls, None, OfBoth, Open, OpenMachine}
-use Rattle.stack_engine.proofs.Words.{Option, packed, Part, passed_along, passed_by, Put, Puts, QNear, receives, red_opened, RedTick, refl, refusal, rule_of}
+use Rattle.stack_engine.proofs.Words.{made_of, process_event, Move, move, MovesLaw, nat_tests, new_end, no_wait, NoDeadlineFalls, None, OfBoth, Open, OpenMachine}
+use Rattle.stack_engine.proofs.Words.{Option, packed, Part, parts_passed_along, parts_passed, Put, Puts, QNear, receives, red_opened, RedTick, refl, refusal, rule_of}
 use Rattle.stack_engine.proofs.Words.{run, safe_seen, safe_text, SafeText, SameRule, seen_by, Sends, sends, Settings, settle, Side, Some, start, State, subst}
 use Rattle.stack_engine.proofs.Words.{suc, sym, Tick, tick, Ticks, time_of, true, Unspecified, upper_of, with_input, with_joined, with_machine, with_session}
 use Rattle.stack_engine.proofs.Words.{World, zero, ℕ, ⊎_elim, ◌++◌, ◌∙◌, ◌∷◌, ◌≡◌, ◌≢◌, ◌≤◌, ◌⊎◌}
@@ -53,7 +53,7 @@ grown-keeps law x now Q =
       guards = λ y h. grown-move law (Guards now) x y (with_machine (guard now y.machine) y) refl refl refl h;
       ticks = λ y h. grown-move law (Ticks now) x y (with_machine (tick now y.machine) y) refl refl refl h;
       closes = λ y h. grown-move law (Leaves ClosedByUser Unspecified now) x y (with_machine (leave ClosedByUser Unspecified now y.machine) y) refl refl refl h;
-      ends = λ y shut h. grown-same x y (with_session (meets Closes y.session) y) refl refl refl h;
+      ends = λ y shut h. grown-same x y (with_session (process_event Closes y.session) y) refl refl refl h;
       inputs = λ i y t h. record {
         set = h.set;
         more_made = h.more_made;
@@ -67,8 +67,8 @@ grown-keeps law x now Q =
           grown-leaves law now (judge_units (handed_up y s) y.session).leaving x (answered octets y s)
           (grown-move law (heard_as (seen_by y.machine octets) now) x y (answered octets y s) refl refl refl h);
       sends = λ y may some h. grown-move law (Sends _ now) x y (packed now y) refl refl refl h;
-      puts = λ kind payload y fits h. grown-same x y (with_session (meets (Puts kind payload (length y.session.waiting)) y.session) y) refl refl refl h;
-      dones = λ y h. grown-same x y (with_session (meets (Completes (length y.session.waiting)) y.session) y) refl refl refl h;
+      puts = λ kind payload y fits h. grown-same x y (with_session (process_event (Puts kind payload (length y.session.waiting)) y.session) y) refl refl refl h;
+      dones = λ y h. grown-same x y (with_session (process_event (Completes (length y.session.waiting)) y.session) y) refl refl refl h;
       times = λ y h. grown-same x y (record y { time = now }) refl refl refl h;
     }
 
@@ -81,7 +81,7 @@ grown-call law Q c x t q =
 on-inputs : (now : ℕ) (i : Input) (x : EndState) → is_shut x ≡ false → (goes_on now i x).inputs ≡ x.inputs ++ i ∷ []
 on-inputs now i x on =
     let y = receives now i x in
-    let ps = passed_by i x.red in
+    let ps = parts_passed i x.red in
     ap (λ (b : Bool). (cond b x (sends now y)).inputs) on
     ∙ (keep-packed now AnyPart (Steady y) (steady-goes now y) (length y.session.waiting) y (record { set = refl; inputs = refl })).inputs
     ∙ (keep-parts now AnyPart (Steady (with_input i x)) (steady-goes now (with_input i x)) ps (with_input i x) (any-parts now ps (with_input i x))
@@ -127,7 +127,7 @@ knows-grown x y (Some z) g h = known-grown x y z g h
 
 abbrev pub passed_count : Option EndState → ℕ
 passed_count None = 0
-passed_count (Some x) = length (passed_along x.inputs (red_opened x.settings.q x.settings.t_seq))
+passed_count (Some x) = length (parts_passed_along x.inputs (red_opened x.settings.q x.settings.t_seq))
 
 -- before its first opening nobody is joined
 abbrev pub NoFe : List JoinedEnd → Option ℕ → Type 0
@@ -193,8 +193,8 @@ nth-none r n octets h = grind (arith, nat_tests)
 numbers : (p : Laws) (r : CodeRule) (ms : List Made) (x y : EndState) (i : Input) → IsNear y → y.settings ≡ x.settings → y.inputs ≡ x.inputs ++ i ∷ []
     → AllByRecursion (Carry r ms) (arrivals x.inputs)
     → AllByRecursion (Carry r ms) (arrivals_of i)
-    → Numbered r ms (length (passed_along x.inputs (red_opened x.settings.q x.settings.t_seq)))
-    (passed_by i (after_along x.inputs (red_opened x.settings.q x.settings.t_seq)))
+    → Numbered r ms (length (parts_passed_along x.inputs (red_opened x.settings.q x.settings.t_seq)))
+    (parts_passed i (after_along x.inputs (red_opened x.settings.q x.settings.t_seq)))
     × AllByRecursion (Carry r ms) (arrivals (x.inputs ++ i ∷ []))
 numbers p r ms x y i near set ins carry brought =
     let all : AllByRecursion (Carry r ms) (arrivals (x.inputs ++ i ∷ [])) =
@@ -236,7 +236,7 @@ ord-any p side m k x peer dead F texts live r ms next each (Deliver channel octe
 
 -- what the end became, in the world of machines
 left-count : (p : Laws) (s : EndSettings) (ins : List Input) (y : EndState) → y.settings ≡ s → y.inputs ≡ ins
-    → length (passed_along ins (red_opened s.q s.t_seq)) ≡ passed_count (Some y)
+    → length (parts_passed_along ins (red_opened s.q s.t_seq)) ≡ passed_count (Some y)
 left-count p s ins y a b = rw (← a, ← b) refl
 
 known-left : (peer : Option EndState) (r : CodeRule) (ms : List Made) (x y : EndState) (ins : List Input) → ((q : Part) → Carry r ms q → Carries peer q)
@@ -294,7 +294,7 @@ ord-il p c x before fes di df typed timely f g near peers h w =
     let peer = latest (ends_of fes) in
     let q = at-call p df peer Il c x typed h.il_whole.0 g in
     let grown = grown-call p.moves (Comes peer df) c x typed q in
-    let who = peers m (not-empty (states before) M.unopened) (made-fe fes) in
+    let who = peers m (not-empty (states before) M.unopened_state) (made-fe fes) in
     let l = ord-any p Il m (passed_count peer) x peer df (FailsAt peer) (texts-latest p.texts Fe (ends_of fes) h.fe_whole) (ap (drop df) (sym (made-fe fes)))
     who.rule who.ms who.next who.each c typed f q near grown.set w.il_knows
     record {
@@ -502,19 +502,19 @@ module _ (p : Laws) (P : Option EndState → Option EndState → Type 0)
   back-call-fe c ils [] g peer dead t gen h = h
   back-call-fe c ils (f ∷ fs) g peer dead t gen h = grind (arith, nat_tests, grown-call, over-fe, gen.1)
 
-  back-changed : (e : Event) (w : World) → IsTyped e → GenuineEvent e w → FaithfulEvent e w → Stands (changed e w) → Stands w
+  back-changed : (e : Event) (w : World) → IsTyped e → GenuineEvent e w → FaithfulEvent e w → Stands (change_world e w) → Stands w
   back-changed (Open Il s first now) w t g f h = back-open-il (new_end Il s first now) w.ils (latest (ends_of w.fes)) f h
   back-changed (Open Fe s first now) w t g f h = back-open-fe (new_end Fe s first now) (latest w.ils) w.fes f h
   back-changed (Calls Il c) w t g f h = back-call-il c w.ils (latest (ends_of w.fes)) (latest (ends_of w.fes)) w.dead_fe (typed-call Il c t) g h
   back-changed (Calls Fe c) w t g f h = back-call-fe c w.ils w.fes (latest w.ils) (latest w.ils) w.dead_il (typed-call Fe c t) g h
 
-  back-event : (e : Event) (w : World) → IsTyped e → (refusal e w ≡ None → GenuineEvent e w) → (refusal e w ≡ None → FaithfulEvent e w) → Stands (happens w e)
+  back-event : (e : Event) (w : World) → IsTyped e → (refusal e w ≡ None → GenuineEvent e w) → (refusal e w ≡ None → FaithfulEvent e w) → Stands (apply_event w e)
       → Stands w
-  back-event e w t g f = unless (λ v. Stands v → Stands w) (refusal e w) w (changed e w) (λ h. h) (λ ok. back-changed e w t (g ok) (f ok))
+  back-event e w t g f = unless (λ v. Stands v → Stands w) (refusal e w) w (change_world e w) (λ h. h) (λ ok. back-changed e w t (g ok) (f ok))
 
   pub back-run : (es : List Event) (w : World) → AreTyped es → Genuine es w → AllFaithful es w → Stands (run es w) → Stands w
   back-run [] w t g f h = h
-  back-run (e ∷ es) w t g f h = back-event e w t.0 g.0 f.0 (back-run es (happens w e) t.1 g.1 f.1 h)
+  back-run (e ∷ es) w t g f h = back-event e w t.0 g.0 f.0 (back-run es (apply_event w e) t.1 g.1 f.1 h)
 
 ahead-run : (p : Laws) (es : List Event) (w : World) → AreTyped es → Genuine es w → AllFaithful es w → AheadOf (run es w).ils (run es w).fes
     → AheadOf w.ils w.fes
@@ -547,7 +547,7 @@ abbrev pub OrdAt : World → Type 0
 OrdAt w = OrdWorld w.ils w.fes w.dead_il w.dead_fe
 
 ord-changed : (p : Laws) (e : Event) (w : World) → IsTyped e → refusal e w ≡ None → GenuineEvent e w → FaithfulEvent e w
-    → AheadOf (changed e w).ils (changed e w).fes → AheadOf w.ils w.fes → PairedWorld w → OrdAt w → OrdAt (changed e w)
+    → AheadOf (change_world e w).ils (change_world e w).fes → AheadOf w.ils w.fes → PairedWorld w → OrdAt w → OrdAt (change_world e w)
 ord-changed p (Open Il s first now) w t ok g f a b k o = opened-il p.events s first now w.ils w.fes w.dead_il w.dead_fe f
     (opens Il s now (latest w.ils) ok) o
 ord-changed p (Open Fe s first now) w t ok g f a b k o = opened-fe p.events s first now w.ils w.fes w.dead_il w.dead_fe f
@@ -556,18 +556,18 @@ ord-changed p (Calls Il c) w t ok g f a b k o = ord-calls-il p c w.ils w.fes w.d
 ord-changed p (Calls Fe c) w t ok g f a b k o = ord-calls-fe p c w.ils w.fes w.dead_il w.dead_fe (typed-call Fe c t) ok g f a b k o
 
 ord-event : (p : Laws) (e : Event) (w : World) → IsTyped e → (refusal e w ≡ None → GenuineEvent e w) → (refusal e w ≡ None → FaithfulEvent e w)
-    → AheadOf (happens w e).ils (happens w e).fes → AheadOf w.ils w.fes → PairedWorld w → OrdAt w
-    → OrdAt (happens w e)
+    → AheadOf (apply_event w e).ils (apply_event w e).fes → AheadOf w.ils w.fes → PairedWorld w → OrdAt w
+    → OrdAt (apply_event w e)
 ord-event p e w t g f a b k o =
-    unless (λ v. AheadOf v.ils v.fes → OrdAt v) (refusal e w) w (changed e w) (λ _. o) (λ ok a. ord-changed p e w t ok (g ok) (f ok) a b k o) a
+    unless (λ v. AheadOf v.ils v.fes → OrdAt v) (refusal e w) w (change_world e w) (λ _. o) (λ ok a. ord-changed p e w t ok (g ok) (f ok) a b k o) a
 
 pub ord-run : (p : Laws) (es : List Event) (w : World) → AreTyped es → Genuine es w → AllFaithful es w → AheadOf (run es w).ils (run es w).fes
     → PairedWorld w → OrdAt w → OrdAt (run es w)
 ord-run p [] w t g f a k o = o
 ord-run p (e ∷ es) w t g f a k o =
-    let next = ahead-run p es (happens w e) t.1 g.1 f.1 a in
+    let next = ahead-run p es (apply_event w e) t.1 g.1 f.1 a in
     let here = ahead-run p (e ∷ es) w t g f a in
-    ord-run p es (happens w e) t.1 g.1 f.1 a (paired-event p e w t.0 g.0 k)
+    ord-run p es (apply_event w e) t.1 g.1 f.1 a (paired-event p e w t.0 g.0 k)
     (ord-event p e w t.0 g.0 f.0 next here k o)
 
 pub ord-start : OrdAt start

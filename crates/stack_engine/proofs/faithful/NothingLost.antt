@@ -1,10 +1,10 @@
 -- Nothing is lost over faithful lists: of ends with crossed identifiers, and of ends that accept no peer.
 use Rattle.stack_engine.proofs.Words.{[], all_heard_by_fe, all_heard_by_il, AllArrived, AllFaithful, Among, answered, ap, append-nil, are_fit, AreFrom}
 use Rattle.stack_engine.proofs.Words.{AreInStep, AreTyped, arith, arrivals, arrive_octets, AsksNothing, AtCall, AtInput, AtOpened, by_cond, by_test, Call, call}
-use Rattle.stack_engine.proofs.Words.{call_fe, call_il, call_refusal, Calls, changed, client_state, Clock, Close, Closed, CodeRule, comes_up, cond}
+use Rattle.stack_engine.proofs.Words.{call_fe, call_il, call_refusal, Calls, change_world, client_state, Clock, Close, Closed, CodeRule, comes_up, cond}
 use Rattle.stack_engine.proofs.Words.{connection_of, ConnectionState, Crossed, Datagram, Deliver, Dialogue, drop, ends_of, EndSettings, EndState, eq-eqb}
 use Rattle.stack_engine.proofs.Words.{eqb-true, Err, Event, FaithfulCall, FaithfulEvent, false, false≢true, Fe, first_missing, first_version, Fits, Genuine}
-use Rattle.stack_engine.proofs.Words.{GenuineCall, GenuineEvent, goes_on, GuardHolds, Guards, handed_up, happens, heard, heard_as, Hears, History}
+use Rattle.stack_engine.proofs.Words.{GenuineCall, GenuineEvent, goes_on, GuardHolds, Guards, handed_up, apply_event, heard, heard_as, Hears, History}
 use Rattle.stack_engine.proofs.Words.{IdentifiedLaw, Idle, IfAllArrived, IfOpen, Il, incarnation, InitDone, inl, Input, inr, is_closed, is_connected}
 use Rattle.stack_engine.proofs.Words.{is_early, is_nil, is_shut, is_stranger, IsBeginning, IsGenuine, IsNear, IsRunning, IsTyped, IsUp, items_of, items_waiting}
 use Rattle.stack_engine.proofs.Words.{Joined, JoinedEnd, judge_units, KeepsOrder, latest, leaves, length, List, ltb-false, Made, made_of, Match, MatchOption}
@@ -85,7 +85,7 @@ module _ (P : EndState → Type 0) (opened : (side : Side) (s : EndSettings) (fi
   each-fe c ils [] peer dead t g h = tt
   each-fe c ils (f ∷ fs) peer dead t g h = called peer dead c f.end t g h
 
-  each-changed : (e : Event) (w : World) → IsTyped e → refusal e w ≡ None → GenuineEvent e w → Each w → Each (changed e w)
+  each-changed : (e : Event) (w : World) → IsTyped e → refusal e w ≡ None → GenuineEvent e w → Each w → Each (change_world e w)
   each-changed (Open Il s first now) w t ok g h = (opened Il s first now (opens Il s now (latest w.ils) ok).fit, h.1)
   each-changed (Open Fe s first now) w t ok g h = (h.0, opened Fe s first now (opens Fe s now (latest (ends_of w.fes)) ok).fit)
   each-changed (Calls Il c) w t ok g h = (each-il c w.ils (latest (ends_of w.fes)) w.dead_fe (typed-call Il c t) g h.0, h.1)
@@ -94,7 +94,7 @@ module _ (P : EndState → Type 0) (opened : (side : Side) (s : EndSettings) (fi
   pub each-run : (es : List Event) (w : World) → AreTyped es → Genuine es w → Each w → Each (run es w)
   each-run [] w t g h = h
   each-run (e ∷ es) w t g h =
-      each-run es (happens w e) t.1 g.1 (unless Each (refusal e w) w (changed e w) h (λ ok. each-changed e w t.0 ok (g.0 ok) h))
+      each-run es (apply_event w e) t.1 g.1 (unless Each (refusal e w) w (change_world e w) h (λ ok. each-changed e w t.0 ok (g.0 ok) h))
 
 -- packing, over events
 abbrev pub PacksWorld : List EndState → List JoinedEnd → Type 0
@@ -305,7 +305,7 @@ all-there p (x ∷ []) (f ∷ []) di df o a q k b = λ from-fe from-il.
     let sy = h.fe_whole.0.spoken in
     let stays : o.closed ≡ false → (is_shut x ≡ false) × (is_shut y ≡ false) = λ none.
     let s = subst StaysOpen o.ordered.leads (p.stays o.ordered.events o.ordered.genuine o.ordered.timely o.ordered.in_order (o.ordered.closes ∙ none)) in
-    (is-open x.machine.connection (s.il (not-empty (states []) M.unopened)), is-open y.machine.connection (s.fe (not-empty (served []) unserved)))
+    (is-open x.machine.connection (s.il (not-empty (states []) M.unopened_state)), is-open y.machine.connection (s.fe (not-empty (served []) unserved)))
     in
     let units-there : o.closed ≡ false → UnitsThere x y = λ none. there p (x ∷ []) (f ∷ []) di df o a q k (from-fe (stays none).0)
     (from-il (stays none).1) (stays none).0 (stays none).1 in
@@ -567,7 +567,7 @@ calm-fe p c ils (x ∷ fs) di df t ok g f u h k =
     (at-call p di (latest ils) Fe c x.end t h.fe_whole.0 g.1) k
 
 calm-changed : (p : Laws) → (e : Event) (w : World) → IsTyped e → refusal e w ≡ None → GenuineEvent e w → FaithfulEvent e w → UnmetWorld w
-    → MappedWorld w → CalmWorld w → CalmWorld (changed e w)
+    → MappedWorld w → CalmWorld w → CalmWorld (change_world e w)
 calm-changed p (Open Il s first now) w t ok g f u h k = (new-calm Il s first now, k.1)
 calm-changed p (Open Fe s first now) w t ok g f u h k = (k.0, new-calm Fe s first now)
 calm-changed p (Calls Il c) w t ok g f u h k = (calm-il p c w.ils w.fes w.dead_il w.dead_fe (typed-call Il c t) ok g f u h k.0, k.1)
@@ -594,8 +594,8 @@ calm-run : (p : Laws) → (es : List Event) (w : World) → AreTyped es → Genu
 calm-run p [] w t g f u h k = k
 calm-run p (e ∷ es) w t g f u h k =
     let here : UnmetWorld w = unmet-run p (e ∷ es) w t g f u in
-    calm-run p es (happens w e) t.1 g.1 f.1 u (paired-event p e w t.0 g.0 h)
-    (unless CalmWorld (refusal e w) w (changed e w) k (λ ok. calm-changed p e w t.0 ok (g.0 ok) (f.0 ok) here h.mapped k))
+    calm-run p es (apply_event w e) t.1 g.1 f.1 u (paired-event p e w t.0 g.0 h)
+    (unless CalmWorld (refusal e w) w (change_world e w) k (λ ok. calm-changed p e w t.0 ok (g.0 ok) (f.0 ok) here h.mapped k))
 
 -- what it says
 quiet-of : (o : Option EndState) → AtOpened Calm o → AtOpened (λ x. AsksNothing x.machine.made) o

@@ -5,8 +5,8 @@ use Rattle.stack_engine.proofs.Words.{CodeRule, Completes, cond, connection_of, 
 use Rattle.stack_engine.proofs.Words.{EventsLaw, false, Fe, first_missing, first_parts, FirstMissingLaw, goes_on, Guard, guard, GuardHolds, Guards, handed_up}
 use Rattle.stack_engine.proofs.Words.{has_close, has_number, heard, heard_as, heard_by_fe, heard_by_il, Hears, Il, InitDone, inl, InOrder, InOrderEvent, Input}
 use Rattle.stack_engine.proofs.Words.{inr, is_close, is_nil, is_shut, is_stranger, judge_units, Leaves, leaves, Leaving, length, length-append, List, Made}
-use Rattle.stack_engine.proofs.Words.{made_of, Masking, may_send, meets, Move, move, nat_tests, NextArrival, no_wait, NoDeadlineFalls, None, Ok, OneMoreLaw}
-use Rattle.stack_engine.proofs.Words.{Option, packed, packed_up_to, Part, part, part_under, parts, passed_along, passed_by, Put, Puts, QNear, receives}
+use Rattle.stack_engine.proofs.Words.{made_of, Masking, may_send, process_event, Move, move, nat_tests, NextArrival, no_wait, NoDeadlineFalls, None, Ok, OneMoreLaw}
+use Rattle.stack_engine.proofs.Words.{Option, packed, packed_up_to, Part, part, part_under, parts, parts_passed_along, parts_passed, Put, Puts, QNear, receives}
 use Rattle.stack_engine.proofs.Words.{red_opened, RedTick, refl, rule_of, safe_seen, seen_by, Send, Sends, sends, Settings, settle, Side, Some, State, subst}
 use Rattle.stack_engine.proofs.Words.{suc, sym, take, Tick, tick, Ticks, true, unit_text, unwrap_or, upper_of, Wait, wait_after, with_input, with_machine}
 use Rattle.stack_engine.proofs.Words.{with_session, zero, ℕ, ⊎_elim, ◌&&◌, ◌++◌, ◌+◌, ◌<◌, ◌==◌, ◌^◌, ◌||◌, ◌∙◌, ◌∷◌, ◌≡◌, ◌≢◌, ◌≤◌, ◌⊎◌}
@@ -68,17 +68,17 @@ arrivals-push (j ∷ is) i = ap (λ ps. arrivals_of j ++ ps) (arrivals-push is i
 -- The parts that go up at one input more are numbered on.
 pub red-numbered : Masking → FirstMissingLaw → OneMoreLaw → (r : CodeRule) (ms : List Made) (q t_seq : ℕ) (is : List Input) (i : Input)
     → QNear q [] (is ++ i ∷ []) → NoDeadlineFalls t_seq no_wait (is ++ i ∷ [])
-    → AllByRecursion (Carry r ms) (arrivals (is ++ i ∷ [])) → Numbered r ms (length (passed_along is (red_opened q t_seq)))
-    (passed_by i (after_along is (red_opened q t_seq)))
+    → AllByRecursion (Carry r ms) (arrivals (is ++ i ∷ [])) → Numbered r ms (length (parts_passed_along is (red_opened q t_seq)))
+    (parts_passed i (after_along is (red_opened q t_seq)))
 red-numbered masking missing more r ms q t_seq is i near timely carry =
     let r0 = red_opened q t_seq in
     let all = arrivals (is ++ i ∷ []) in
-    let whole : Numbered r ms 0 (passed_along (is ++ i ∷ []) r0) =
+    let whole : Numbered r ms 0 (parts_passed_along (is ++ i ∷ []) r0) =
     subst (λ ps. Numbered r ms 0 ps) (sym (masking q t_seq (is ++ i ∷ []) near timely))
     (first-numbered r ms (first_missing all) all (missing all).0.all_below carry)
     in
-    subst (λ n. Numbered r ms n (passed_by i (after_along is r0))) (omega arith)
-    (numbered-behind r ms 0 (passed_along is r0) (passed_by i (after_along is r0)) (subst (λ ps. Numbered r ms 0 ps) (more is i r0).1 whole))
+    subst (λ n. Numbered r ms n (parts_passed i (after_along is r0))) (omega arith)
+    (numbered-behind r ms 0 (parts_passed_along is r0) (parts_passed i (after_along is r0)) (subst (λ ps. Numbered r ms 0 ps) (more is i r0).1 whole))
 
 -- prefixes of a list of inputs are near, too
 pub near-front : (q : ℕ) (before : List Part) (is js : List Input) → QNear q before (is ++ js) → QNear q before is
@@ -117,7 +117,7 @@ closed-more : (e : M.Event) (c : Bool) → cond c true (is_close e) ≡ closed_b
 closed-more e c = grind (arith, nat_tests)
 
 pub ordered : EventsLaw → (c : Bool) (il fe : ℕ) (m : M.World) (e : M.Event) → M.GenuineEvent m e → M.TimelyEvent m e → InOrderEvent il fe m e
-    → Ordered c il fe m → Ordered (closed_by e c) (heard_by_il e il) (heard_by_fe e fe) (M.happens m e)
+    → Ordered c il fe m → Ordered (closed_by e c) (heard_by_il e il) (heard_by_fe e fe) (M.apply_event m e)
 ordered law c il fe m e g t o h =
     let one = law h.events e in
     record {
@@ -131,7 +131,7 @@ ordered law c il fe m e g t o h =
       closes = one.closes ∙ closed-more e (has_close h.events) ∙ ap (closed_by e) h.closes;
       heard_il = one.il_heard 0 ∙ ap (heard_by_il e) h.heard_il;
       heard_fe = one.fe_heard 0 ∙ ap (heard_by_fe e) h.heard_fe;
-      leads = one.leads M.start ∙ ap (λ w. M.happens w e) h.leads;
+      leads = one.leads M.start ∙ ap (λ w. M.apply_event w e) h.leads;
     }
 
 -- by side
@@ -272,8 +272,8 @@ module _ (laws : Laws) (side : Side) (m : M.World) (k : ℕ) (s : EndSettings) (
 
   p-settle : (ins : List Input) (n : ℕ) (y : EndState) → P ins n y → P ins n (settle y)
   p-settle ins n y h =
-      by_cond (P ins n) (is_shut y) (with_session (meets Closes y.session) y) y
-      (λ shut. p-same ins n y (with_session (meets Closes y.session) y) (kw.ends y shut h.whole) refl refl refl refl refl h) (λ _. h)
+      by_cond (P ins n) (is_shut y) (with_session (process_event Closes y.session) y) y
+      (λ shut. p-same ins n y (with_session (process_event Closes y.session) y) (kw.ends y shut h.whole) refl refl refl refl refl h) (λ _. h)
 
   -- the end may disconnect after it has processed a part
   p-left : (ins : List Input) (n : ℕ) (why : Option Leaving) (y : EndState) (c : Bool) (j : Option ℕ) → (c ≡ true → Fails y ⊎ F)
@@ -379,7 +379,7 @@ module _ (laws : Laws) (side : Side) (m : M.World) (k : ℕ) (s : EndSettings) (
 
   -- how many parts went up by now
   abbrev pub passed : List Input → ℕ
-  passed ins = length (passed_along ins (red_opened s.q s.t_seq))
+  passed ins = length (parts_passed_along ins (red_opened s.q s.t_seq))
 
   -- the end after a call
   pub record Left (x : EndState) : Type 0 where
@@ -388,9 +388,9 @@ module _ (laws : Laws) (side : Side) (m : M.World) (k : ℕ) (s : EndSettings) (
     pub carry : AllByRecursion (Carry r ms) (arrivals ins)
 
   abbrev pub Numbers : List Input → Input → Type 0
-  Numbers ins i = Numbered r ms (passed ins) (passed_by i (after_along ins (red_opened s.q s.t_seq))) × AllByRecursion (Carry r ms) (arrivals (ins ++ i ∷ []))
+  Numbers ins i = Numbered r ms (passed ins) (parts_passed i (after_along ins (red_opened s.q s.t_seq))) × AllByRecursion (Carry r ms) (arrivals (ins ++ i ∷ []))
 
-  passed-push : (ins : List Input) (i : Input) → passed ins + length (passed_by i (after_along ins (red_opened s.q s.t_seq))) ≡ passed (ins ++ i ∷ [])
+  passed-push : (ins : List Input) (i : Input) → passed ins + length (parts_passed i (after_along ins (red_opened s.q s.t_seq))) ≡ passed (ins ++ i ∷ [])
   passed-push ins i = grind (arith, (laws.more ins i (red_opened s.q s.t_seq)).1, length-append)
 
   p-goes_on : (ins : List Input) (i : Input) (x : EndState) → IsTypedInput i → AtInput (Faithfully peer dead now) now i x
@@ -400,8 +400,8 @@ module _ (laws : Laws) (side : Side) (m : M.World) (k : ℕ) (s : EndSettings) (
       (λ _ _. record { ins = ins; there = h; carry = carry })
       (λ on _.
       let y : EndState = receives now i x in
-      let ps = passed_by i x.red in
-      let same : ps ≡ passed_by i (after_along ins (red_opened s.q s.t_seq)) = ap (passed_by i) h.red in
+      let ps = parts_passed i x.red in
+      let same : ps ≡ parts_passed i (after_along ins (red_opened s.q s.t_seq)) = ap (parts_passed i) h.red in
       let heard-all : P (ins ++ i ∷ []) (passed ins + length ps) y =
       p-parts (ins ++ i ∷ []) (passed ins) ps (with_input i x) (q on) (subst (λ l. Numbered r ms (passed ins) l) (sym same) (num on).0)
       (p-input ins (passed ins) i x t h)
@@ -433,7 +433,7 @@ module _ (laws : Laws) (side : Side) (m : M.World) (k : ℕ) (s : EndSettings) (
   pub ord-put : (kind : ℕ) (payload : List ℕ) (ins : List Input) (x : EndState) → kind < 256 ^ 2 → AllByRecursion (Carry r ms) (arrivals ins)
       → P ins (passed ins) x → Left (call (Put kind payload now) x)
   ord-put kind payload ins x fits carry h =
-      let y : EndState = with_session (meets (Puts kind payload (length x.session.waiting)) x.session) x in
+      let y : EndState = with_session (process_event (Puts kind payload (length x.session.waiting)) x.session) x in
       p-timed (sends now y)
       (record {
         ins = ins;
@@ -444,7 +444,7 @@ module _ (laws : Laws) (side : Side) (m : M.World) (k : ℕ) (s : EndSettings) (
 
   pub ord-done : (ins : List Input) (x : EndState) → AllByRecursion (Carry r ms) (arrivals ins) → P ins (passed ins) x → Left (call (InitDone now) x)
   ord-done ins x carry h =
-      let y : EndState = with_session (meets (Completes (length x.session.waiting)) x.session) x in
+      let y : EndState = with_session (process_event (Completes (length x.session.waiting)) x.session) x in
       p-timed (sends now y)
       (record {
         ins = ins;

@@ -4,14 +4,14 @@ use Rattle.stack_engine.proofs.Words.{arrivals_of, arrive_octets, Arrives, Begun
 use Rattle.stack_engine.proofs.Words.{connection_of, ConnectionState, Datagram, Dialogue, Down, end_of, ends_by, EndSettings, EndState, Err, false, false≢true}
 use Rattle.stack_engine.proofs.Words.{Fe, GoesOn, Guards, handed_by, handed_up, HasKind, HaveTexts, heard, heard_as, Hears, History, Idle, if_ended, Il, inl}
 use Rattle.stack_engine.proofs.Words.{Input, inr, is_closed, is_connected, is_ended, is_initialising, is_legal, is_nil, is_shut, IsAmong, IsRead, IsSoundMove}
-use Rattle.stack_engine.proofs.Words.{IsTakenBy, items_of, judge_messages, judge_read, judge_units, judge_unpacked, Judged, judged, Leaves, leaves, Leaving}
-use Rattle.stack_engine.proofs.Words.{length, List, may_put, meets, messages_in, Move, move, MovesLaw, nat_tests, None, Ok, opened, Option, OverLaw, packed}
-use Rattle.stack_engine.proofs.Words.{PackFault, Part, PartsLaw, passed_by, Pdu, Phase, phase_after, phase_in, Puts, ReadLaw, Receiver, RedTick, refl, Result}
+use Rattle.stack_engine.proofs.Words.{IsTakenBy, items_of, judge_messages, judge_read, judge_units, judge_unpacked, Judged, judge_telegram, Leaves, leaves, Leaving}
+use Rattle.stack_engine.proofs.Words.{length, List, may_put, process_event, messages_in, Move, move, MovesLaw, nat_tests, None, Ok, new_state, Option, OverLaw, packed}
+use Rattle.stack_engine.proofs.Words.{PackFault, Part, PartsLaw, parts_passed, Pdu, Phase, phase_after, phase_in, Puts, ReadLaw, Receiver, RedTick, refl, Result}
 use Rattle.stack_engine.proofs.Words.{rises, Role, SafeFault, seen_by, Sends, sent_by, session_in, session_of, SessionDetail, SessionState, SettingsLaw, Side}
 use Rattle.stack_engine.proofs.Words.{Some, Start, State, subst, sym, take, taken_at, taken_by, Tele, tele_seen, TeleFault, telegrams_in, TextsLaw, Ticks, true}
 use Rattle.stack_engine.proofs.Words.{unit_seen, unit_text, unless_leaving, Unspecified, with_machine, with_session, ℕ, ◌++◌, ◌∙◌, ◌∷◌, ◌≡◌, ◌≢◌, ◌⊎◌}
 use Rattle.pdi_session.specs.SessionStep.{Event}
-use Rattle.safe_machine.specs.Moves.{moved}
+use Rattle.safe_machine.specs.Moves.{make_moves}
 use Rattle.stack_engine.proofs.one.Speaking.{all-append, all-parts, came, closed-is, handed-none, hands-up, Hearing, hearing-units, IsTypedInput, Keeps}
 use Rattle.stack_engine.proofs.one.Speaking.{kept-units, Laws, legal-of, packs-some, rises-same, Spoken, spoken-hears, spoken-meets, spoken-packed}
 use Rattle.stack_engine.proofs.one.Speaking.{spoken-still, Still, still-by, Talk, talk-units, unit-sized, waits-sized, was-open}
@@ -27,10 +27,10 @@ pub record Machined (side : Side) (x : EndState) : Type 0 where
   pub began : ℕ
   pub moves : List Move
   pub read : AreRead moves
-  pub machine : x.machine ≡ moved moves (opened (connection_of side x.settings) first began)
+  pub machine : x.machine ≡ make_moves moves (new_state (connection_of side x.settings) first began)
   pub waits : AllByRecursion OctetPart x.red.waiting
 
-moved-push : (ms : List Move) (m : Move) (s : State) → moved (ms ++ m ∷ []) s ≡ move m (moved ms s)
+moved-push : (ms : List Move) (m : Move) (s : State) → make_moves (ms ++ m ∷ []) s ≡ move m (make_moves ms s)
 moved-push [] m s = refl
 moved-push (n ∷ ms) m s = moved-push ms m (move n s)
 
@@ -52,7 +52,7 @@ sound-read (m ∷ ms) h = (sound-one m h.0, sound-read ms h.1)
 pub machined-move : SettingsLaw → (side : Side) (m : Move) (x y : EndState) → IsRead m → y.settings ≡ x.settings → y.red ≡ x.red → y.machine ≡ move m x.machine
     → Machined side x → Machined side y
 machined-move law side m x y read a b c h =
-    let begun = opened (connection_of side x.settings) h.first h.began in
+    let begun = new_state (connection_of side x.settings) h.first h.began in
     record {
       same = ap (λ (s : State). s.settings) c ∙ (law m x.machine ∙ (h.same ∙ ap (connection_of side) (sym a)));
       first = h.first;
@@ -62,7 +62,7 @@ machined-move law side m x y read a b c h =
       machine = c
           ∙ (ap (move m) h.machine
           ∙ (sym (moved-push h.moves m begun)
-          ∙ ap (λ (q : EndSettings). moved (h.moves ++ m ∷ []) (opened (connection_of side q) h.first h.began)) (sym a)));
+          ∙ ap (λ (q : EndSettings). make_moves (h.moves ++ m ∷ []) (new_state (connection_of side q) h.first h.began)) (sym a)));
       waits = subst (λ (r : Receiver). AllByRecursion OctetPart r.waiting) (sym b) h.waits;
     }
 
@@ -109,11 +109,11 @@ arrivals-octets law (Datagram octets now) h = law octets now h
 arrivals-octets law (RedTick now) h = tt
 
 pub red-keeps : Laws → (i : Input) (r : Receiver) → IsTypedInput i → AllByRecursion OctetPart r.waiting
-    → AllByRecursion OctetPart (passed_by i r) × AllByRecursion OctetPart (after i r).waiting
+    → AllByRecursion OctetPart (parts_passed i r) × AllByRecursion OctetPart (after i r).waiting
 red-keeps law i r t h = grind (arith, nat_tests, all-append, among-all, arrivals-octets, law.origin, law.parts)
 
 -- after a telegram that does not end it, a session goes on
-arrives-on : OverLaw → (s : SessionState) (t : Tele) → is_ended s.phase ≡ false → end_of (judged s t) ≡ None → is_ended (phase_after (Arrives t) s) ≡ false
+arrives-on : OverLaw → (s : SessionState) (t : Tele) → is_ended s.phase ≡ false → end_of (judge_telegram s t) ≡ None → is_ended (phase_after (Arrives t) s) ≡ false
 arrives-on law s t on none = grind (arith, law (Arrives t) s on)
 
 -- what was ended stays so
@@ -136,8 +136,8 @@ pub record Heeding (good : Type 0) (d : Dialogue) (j : Judged) : Type 0 where
   pub goes : is_ended (phase_in d) ≡ false → good → j.left.history.ended_in ≡ None → j.leaving ≡ None
   pub back : j.left.history.ended_in ≡ None → d.history.ended_in ≡ None
 
-heeding-by : (d : Dialogue) (t : Tele) (o : Option SessionDetail) → end_of (judged (session_in d) t) ≡ o → is_ended (phase_in d) ≡ false
-    → (meets (Arrives t) d).history.ended_in ≡ None → if_ended o ≡ None
+heeding-by : (d : Dialogue) (t : Tele) (o : Option SessionDetail) → end_of (judge_telegram (session_in d) t) ≡ o → is_ended (phase_in d) ≡ false
+    → (process_event (Arrives t) d).history.ended_in ≡ None → if_ended o ≡ None
 heeding-by d t o h k l = grind (arith, nat_tests)
 
 pub none-ended : (o : Option SessionDetail) → if_ended o ≡ None → o ≡ None
@@ -191,12 +191,12 @@ heeds-still x s t h = grind (arith, nat_tests, h.judged, h.on, h.taken, t.back, 
 -- an event of the session that brings it no telegram and takes none
 heeds-meets : (e : Event) (x : EndState) → handed_by e ≡ [] → taken_by e (session_in x.session) ≡ [] → ends_by e (session_in x.session) ≡ false
     → (is_shut x ≡ false → is_ended (phase_in x.session) ≡ false → is_ended (phase_after e (session_in x.session)) ≡ false) → Heeds x
-    → Heeds (with_session (meets e x.session) x)
+    → Heeds (with_session (process_event e x.session) x)
 heeds-meets e x quiet none no-end on h =
     let same : x.session.history.judged ++ handed_by e ≡ x.session.history.judged = ap (λ ts. x.session.history.judged ++ ts) quiet
     ∙ append-nil x.session.history.judged in
     let took : taken_at x ++ taken_by e (session_in x.session) ≡ taken_at x = ap (λ is. taken_at x ++ is) none ∙ append-nil (taken_at x) in
-    let ended : (meets e x.session).history.ended_in ≡ x.session.history.ended_in = ap (λ b. cond b (Some (phase_in x.session)) x.session.history.ended_in)
+    let ended : (process_event e x.session).history.ended_in ≡ x.session.history.ended_in = ap (λ b. cond b (Some (phase_in x.session)) x.session.history.ended_in)
     no-end in
     record {
       on = λ open-still. on open-still (h.on open-still);
@@ -293,11 +293,11 @@ whole-still laws side m x read none nothing h =
 whole-meets : Laws → (side : Side) (e : Event) (x : EndState) → HasKind e → handed_by e ≡ [] → taken_by e (session_in x.session) ≡ []
     → ends_by e (session_in x.session) ≡ false
     → (is_shut x ≡ false → is_ended (phase_in x.session) ≡ false → is_ended (phase_after e (session_in x.session)) ≡ false) → Whole side x
-    → Whole side (with_session (meets e x.session) x)
+    → Whole side (with_session (process_event e x.session) x)
 whole-meets laws side e x kind quiet none no-end on h =
     record {
       spoken = spoken-meets laws side e x kind quiet h.spoken;
-      machined = machined-same side x (with_session (meets e x.session) x) refl refl refl h.machined;
+      machined = machined-same side x (with_session (process_event e x.session) x) refl refl refl h.machined;
       heeds = heeds-meets e x quiet none no-end on h.heeds;
     }
 
@@ -462,10 +462,10 @@ idle-put role = grind (arith, nat_tests)
 pub idle-done : (role : Role) → is_initialising role Idle ≡ false
 idle-done role = grind (arith, nat_tests)
 
-begins-puts : (kind : ℕ) (payload : List ℕ) (waits : ℕ) (c : ConnectionState) (d : Dialogue) → BeginsAs c d → BeginsAs c (meets (Puts kind payload waits) d)
+begins-puts : (kind : ℕ) (payload : List ℕ) (waits : ℕ) (c : ConnectionState) (d : Dialogue) → BeginsAs c d → BeginsAs c (process_event (Puts kind payload waits) d)
 begins-puts kind payload waits c d h = grind (arith, nat_tests, append-nil, idle-put, h.begun, h.early, h.ended)
 
-begins-done : (waits : ℕ) (c : ConnectionState) (d : Dialogue) → BeginsAs c d → BeginsAs c (meets (Completes waits) d)
+begins-done : (waits : ℕ) (c : ConnectionState) (d : Dialogue) → BeginsAs c d → BeginsAs c (process_event (Completes waits) d)
 begins-done waits c d h = grind (arith, nat_tests, append-nil, idle-done, h.begun, h.early, h.ended)
 
 pub begins-keeps : Laws → (now : ℕ) (Q : EndState → List ℕ → Type 0) → Keeps now Q Begins
@@ -474,7 +474,7 @@ begins-keeps p now Q =
       guards = λ x h. begins-stays x.machine.connection (move (Guards now) x.machine).connection x.session (p.connections.1 (Guards now) x.machine tt) h;
       ticks = λ x h. begins-stays x.machine.connection (move (Ticks now) x.machine).connection x.session (p.connections.1 (Ticks now) x.machine tt) h;
       closes = λ x h. begins-stays x.machine.connection Closed x.session (inr refl) h;
-      ends = λ x shut h. begins-closed x.machine.connection (meets Closes x.session) (closed-is x.machine.connection shut) h.ended;
+      ends = λ x shut h. begins-closed x.machine.connection (process_event Closes x.session) (closed-is x.machine.connection shut) h.ended;
       inputs = λ i x t h. h;
       hears = λ octets x q h.
           let m = heard_as (seen_by x.machine octets) now in

@@ -1,15 +1,15 @@
 -- What one end keeps, call by call, of what it says: the messages that wait, the units that were sent, and the telegrams in them.
 use Rattle.stack_engine.proofs.Words.{[], added_by, Addressing, All-from_recursion, AllByRecursion, answered, ap, append-nil, append_assoc, are_fit, AreOctets}
-use Rattle.stack_engine.proofs.Words.{AreSettings, arith, arrive_octets, Arrives, AskedLaw, AtCall, AtInput, AtParts, begun, BegunLaw, Bool, by_cond, by_test}
+use Rattle.stack_engine.proofs.Words.{AreSettings, arith, arrive_octets, Arrives, AskedLaw, AtCall, AtInput, AtParts, new_history, BegunLaw, Bool, by_cond, by_test}
 use Rattle.stack_engine.proofs.Words.{Call, call, Close, Closed, ClosedByUser, Closes, code_octets, CodeLength, CodeRule, comes_up, Completes, cond}
 use Rattle.stack_engine.proofs.Words.{ConnectionsLaw, ConnectionState, Datagram, Deliver, Dialogue, did, drop, drop-append_seam, end_moved, EndSettings}
 use Rattle.stack_engine.proofs.Words.{EndState, Err, EventsLaw, false, FewLaw, FirstMissingLaw, found_messages, found_telegram, FreshAtLastLaw, goes_on, GoesUp}
-use Rattle.stack_engine.proofs.Words.{grown, grown_along, guard, Guards, handed_by, handed_up, HasKind, HasMessage, heard, heard_as, IdentifiedLaw, in_limits}
+use Rattle.stack_engine.proofs.Words.{add_event, add_events, guard, Guards, handed_by, handed_up, HasKind, HasMessage, heard, heard_as, IdentifiedLaw, in_limits}
 use Rattle.stack_engine.proofs.Words.{in_turn, InitDone, inl, Input, inr, InStepLaw, is_closed, is_legal, is_nil, is_shut, IsBeginning, IsMessage, IsTakenBy}
 use Rattle.stack_engine.proofs.Words.{IsUnitSized, Item, judge_messages, judge_read, judge_units, judge_unpacked, Judged, judged_as, judged_none, leave, Leaves}
 use Rattle.stack_engine.proofs.Words.{leaves, Leaving, length, length-append, length-drop, length-take, List, little_bytes, Masking, MatchingLaw, may_send}
-use Rattle.stack_engine.proofs.Words.{meets, MessageLaw, messages_in, Move, move, moved, MovesLaw, nat_lt, nat_tests, None, Ok, Option, OrderLaw, OriginLaw}
-use Rattle.stack_engine.proofs.Words.{OverLaw, OwnEarlyLaw, packed, packed_up_to, PackFault, Part, part, parts, PartsLaw, passed_by, Pdu, PduReadLaw, PhaseLaw}
+use Rattle.stack_engine.proofs.Words.{process_event, MessageLaw, messages_in, Move, move, moved, MovesLaw, nat_lt, nat_tests, None, Ok, Option, OrderLaw, OriginLaw}
+use Rattle.stack_engine.proofs.Words.{OverLaw, OwnEarlyLaw, packed, packed_up_to, PackFault, Part, part, parts, PartsLaw, parts_passed, Pdu, PduReadLaw, PhaseLaw}
 use Rattle.stack_engine.proofs.Words.{piece, Put, put_by, Puts, ReachedLaw, ReadAlikeLaw, ReadAskedLaw, receives, RedTick, refl, Result, rises, Role, safe_seen}
 use Rattle.stack_engine.proofs.Words.{SafeFault, SafeText, seen_by, send, Sends, sends, sent_by, session_of, SettingsLaw, settle, Side, Some, State, StaysLaw}
 use Rattle.stack_engine.proofs.Words.{StrangersLaw, subst, suc, sym, take, take-append-drop, TakenLaw, TakesFrontLaw, Tele, tele_seen, tele_text, TeleFault}
@@ -85,18 +85,18 @@ pub record Keeps (now : ℕ) (Q : EndState → List ℕ → Type 0) (P : EndStat
   pub guards : (x : EndState) → P x → P (with_machine (guard now x.machine) x)
   pub ticks : (x : EndState) → P x → P (with_machine (tick now x.machine) x)
   pub closes : (x : EndState) → P x → P (with_machine (leave ClosedByUser Unspecified now x.machine) x)
-  pub ends : (x : EndState) → is_shut x ≡ true → P x → P (with_session (meets Closes x.session) x)
+  pub ends : (x : EndState) → is_shut x ≡ true → P x → P (with_session (process_event Closes x.session) x)
   pub inputs : (i : Input) (x : EndState) → IsTypedInput i → P x → P (with_input i x)
   pub hears : (octets : List ℕ) (x : EndState) → Q x octets → P x → P (heard now octets x)
   pub sends : (x : EndState) → may_send x.machine ≡ true → is_nil x.session.waiting ≡ false → P x → P (packed now x)
   pub puts : (kind : ℕ) (payload : List ℕ) (x : EndState) → kind < 256 ^ 2 → P x
-      → P (with_session (meets (Puts kind payload (length x.session.waiting)) x.session) x)
-  pub dones : (x : EndState) → P x → P (with_session (meets (Completes (length x.session.waiting)) x.session) x)
+      → P (with_session (process_event (Puts kind payload (length x.session.waiting)) x.session) x)
+  pub dones : (x : EndState) → P x → P (with_session (process_event (Completes (length x.session.waiting)) x.session) x)
   pub times : (x : EndState) → P x → P (record x { time = now })
 
 -- of these, what follows the first move of a call
 pub record Goes (now : ℕ) (Q : EndState → List ℕ → Type 0) (P : EndState → Type 0) : Type 0 where
-  pub ends : (x : EndState) → is_shut x ≡ true → P x → P (with_session (meets Closes x.session) x)
+  pub ends : (x : EndState) → is_shut x ≡ true → P x → P (with_session (process_event Closes x.session) x)
   pub hears : (octets : List ℕ) (x : EndState) → Q x octets → P x → P (heard now octets x)
   pub sends : (x : EndState) → may_send x.machine ≡ true → is_nil x.session.waiting ≡ false → P x → P (packed now x)
 
@@ -105,7 +105,7 @@ goes-of now Q P k = record { ends = k.ends; hears = k.hears; sends = k.sends }
 
 module _ (now : ℕ) (Q : EndState → List ℕ → Type 0) (P : EndState → Type 0) (k : Goes now Q P) where
   pub keep-settle : (x : EndState) → P x → P (settle x)
-  keep-settle x h = by_cond P (is_shut x) (with_session (meets Closes x.session) x) x (λ shut. k.ends x shut h) (λ _. h)
+  keep-settle x h = by_cond P (is_shut x) (with_session (process_event Closes x.session) x) x (λ shut. k.ends x shut h) (λ _. h)
 
   pub keep-part : (octets : List ℕ) (x : EndState) → Q x octets → P x → P (part now octets x)
   keep-part octets x q h = keep-settle (heard now octets x) (k.hears octets x q h)
@@ -124,7 +124,7 @@ module _ (now : ℕ) (Q : EndState → List ℕ → Type 0) (P : EndState → Ty
   keep-goes_on i x q came h =
       by_cond P (is_shut x) x (sends now (receives now i x)) (λ _. h) (λ open-still.
       let y : EndState = receives now i x in
-      keep-packed (length y.session.waiting) y (keep-parts (passed_by i x.red) (with_input i x) (q open-still) came))
+      keep-packed (length y.session.waiting) y (keep-parts (parts_passed i x.red) (with_input i x) (q open-still) came))
 
 -- if nothing is required of a part
 abbrev pub AnyPart : EndState → List ℕ → Type 0
@@ -140,10 +140,10 @@ pub call-keeps : (c : Call) (Q : EndState → List ℕ → Type 0) (P : EndState
 call-keeps (Close now) Q P x k t q h =
     k.times (did (Close now) x) (keep-settle now Q P (goes-of now Q P k) (with_machine (leave ClosedByUser Unspecified now x.machine) x) (k.closes x h))
 call-keeps (Put kind payload now) Q P x k t q h =
-    let y : EndState = with_session (meets (Puts kind payload (length x.session.waiting)) x.session) x in
+    let y : EndState = with_session (process_event (Puts kind payload (length x.session.waiting)) x.session) x in
     k.times (sends now y) (keep-packed now Q P (goes-of now Q P k) (length y.session.waiting) y (k.puts kind payload x t h))
 call-keeps (InitDone now) Q P x k t q h =
-    let y : EndState = with_session (meets (Completes (length x.session.waiting)) x.session) x in
+    let y : EndState = with_session (process_event (Completes (length x.session.waiting)) x.session) x in
     k.times (sends now y) (keep-packed now Q P (goes-of now Q P k) (length y.session.waiting) y (k.dones x h))
 call-keeps (Tick now) Q P x k t q h =
     k.times (did (Tick now) x)
@@ -210,18 +210,18 @@ texts-append (t ∷ ts) us = ap (λ ms. tele_text t ∷ ms) (texts-append ts us)
 pub record Talk (addressing : Addressing) (role : Role) (gone : List (List ℕ)) (d : Dialogue) : Type 0 where
   pub events : List Event
   pub kinds : AllByRecursion HasKind events
-  pub history : d.history ≡ grown_along events (begun addressing role)
+  pub history : d.history ≡ add_events events (new_history addressing role)
   pub settings : AreSettings d.history.state.addressing d.history.state.role
   pub messages : AllByRecursion HasMessage d.history.queue
   pub queue : texts d.history.queue ≡ gone ++ d.waiting
 
-pub talk-meets : Laws → (a : Addressing) (r : Role) (gone : List (List ℕ)) (e : Event) (d : Dialogue) → HasKind e → Talk a r gone d → Talk a r gone (meets e d)
+pub talk-meets : Laws → (a : Addressing) (r : Role) (gone : List (List ℕ)) (e : Event) (d : Dialogue) → HasKind e → Talk a r gone d → Talk a r gone (process_event e d)
 talk-meets laws a r gone e d kind h =
     let added = added_by e d.history.state in
     record {
       events = h.events ++ e ∷ [];
       kinds = all-append HasKind h.events (e ∷ []) h.kinds (kind, tt);
-      history = ap (grown e) h.history ∙ sym (laws.one_more.0 h.events e (begun a r));
+      history = ap (add_event e) h.history ∙ sym (laws.one_more.0 h.events e (new_history a r));
       settings = h.settings;
       messages = all-append HasMessage d.history.queue added h.messages (laws.message d.history.state e h.settings kind);
       queue = texts-append d.history.queue added ∙ ap (λ ms. ms ++ texts added) h.queue ∙ append_assoc gone d.waiting (texts added);
@@ -394,9 +394,9 @@ spoken-still side x s t h = grind (arith, nat_tests, h.begins, h.fit, h.talk, h.
 
 -- an event of the session that brings it no telegram
 pub spoken-meets : Laws → (side : Side) (e : Event) (x : EndState) → HasKind e → handed_by e ≡ [] → Spoken side x
-    → Spoken side (with_session (meets e x.session) x)
+    → Spoken side (with_session (process_event e x.session) x)
 spoken-meets laws side e x kind quiet h =
-    let same : (meets e x.session).history.judged ≡ x.session.history.judged = ap (λ ts. x.session.history.judged ++ ts) quiet
+    let same : (process_event e x.session).history.judged ≡ x.session.history.judged = ap (λ ts. x.session.history.judged ++ ts) quiet
     ∙ append-nil x.session.history.judged in
     record {
       fit = h.fit;
@@ -607,7 +607,7 @@ pub goes-packs : (now : ℕ) (i : Input) (x : EndState) → PacksSome (receives 
 goes-packs now i x some = by_cond Packs (is_shut x) x (sends now (receives now i x)) (λ shut. shut-packs x shut) (λ _. sends-packs now (receives now i x) some)
 
 settle-shut : (x : EndState) → is_shut x ≡ true → is_shut (settle x) ≡ true
-settle-shut x shut = by_cond (λ (y : EndState). is_shut y ≡ true) (is_shut x) (with_session (meets Closes x.session) x) x (λ _. shut) (λ _. shut)
+settle-shut x shut = by_cond (λ (y : EndState). is_shut y ≡ true) (is_shut x) (with_session (process_event Closes x.session) x) x (λ _. shut) (λ _. shut)
 
 receives-some : (now : ℕ) (i : Input) (m : Move) (x : EndState) → PacksSome x → PacksSome (receives now i (end_moved m x))
 receives-some now i m x some =
@@ -615,15 +615,15 @@ receives-some now i m x some =
     let moved-on : Steady x y =
     keep-settle now AnyPart (Steady x) (steady-goes now x) (with_machine (move m x.machine) x) (record { set = refl; inputs = refl }) in
     let heard-on : Steady (with_input i y) (receives now i y) =
-    keep-parts now AnyPart (Steady (with_input i y)) (steady-goes now (with_input i y)) (passed_by i y.red) (with_input i y)
-    (any-parts now (passed_by i y.red) (with_input i y)) (record { set = refl; inputs = refl })
+    keep-parts now AnyPart (Steady (with_input i y)) (steady-goes now (with_input i y)) (parts_passed i y.red) (with_input i y)
+    (any-parts now (parts_passed i y.red) (with_input i y)) (record { set = refl; inputs = refl })
     in
     subst (λ (s : EndSettings). 1 ≤ s.n_maxpacket) (sym (heard-on.set ∙ moved-on.set)) some
 
 pub call-packs : (c : Call) (x : EndState) → PacksSome x → Packs (call c x)
 call-packs (Close now) x some = shut-packs (call (Close now) x) (settle-shut (with_machine (leave ClosedByUser Unspecified now x.machine) x) refl)
-call-packs (Put kind payload now) x some = sends-packs now (with_session (meets (Puts kind payload (length x.session.waiting)) x.session) x) some
-call-packs (InitDone now) x some = sends-packs now (with_session (meets (Completes (length x.session.waiting)) x.session) x) some
+call-packs (Put kind payload now) x some = sends-packs now (with_session (process_event (Puts kind payload (length x.session.waiting)) x.session) x) some
+call-packs (InitDone now) x some = sends-packs now (with_session (process_event (Completes (length x.session.waiting)) x.session) x) some
 call-packs (Tick now) x some =
     by_cond Packs (is_shut x) x (goes_on now (RedTick now) (end_moved (Ticks now) x)) (λ shut. shut-packs x shut)
     (λ _. goes-packs now (RedTick now) (end_moved (Ticks now) x) (receives-some now (RedTick now) (Ticks now) x some))
@@ -667,7 +667,7 @@ same-moved now m x = keep-settle now AnyPart (Same x) (same-goes now x) (with_ma
 same-on : (now : ℕ) (i : Input) (m : Move) (x : EndState) → Same x (goes_on now i (moved m x))
 same-on now i m x =
     let y = moved m x in
-    keep-goes_on now AnyPart (Same x) (same-goes now x) i y (λ _. any-parts now (passed_by i y.red) (with_input i y)) (same-moved now m x) (same-moved now m x)
+    keep-goes_on now AnyPart (Same x) (same-goes now x) i y (λ _. any-parts now (parts_passed i y.red) (with_input i y)) (same-moved now m x) (same-moved now m x)
 
 -- what a call puts in
 abbrev pub put_in_by : Call → EndState → List Item
@@ -677,10 +677,10 @@ put_in_by c x = []
 pub call-put : (c : Call) (x : EndState) → (call c x).session.history.put ≡ x.session.history.put ++ put_in_by c x
 call-put (Close now) x = same-moved now (Leaves ClosedByUser Unspecified now) x ∙ sym (append-nil x.session.history.put)
 call-put (Put kind payload now) x =
-    let y = with_session (meets (Puts kind payload (length x.session.waiting)) x.session) x in
+    let y = with_session (process_event (Puts kind payload (length x.session.waiting)) x.session) x in
     keep-packed now AnyPart (Same y) (same-goes now y) (length y.session.waiting) y refl
 call-put (InitDone now) x =
-    let y = with_session (meets (Completes (length x.session.waiting)) x.session) x in
+    let y = with_session (process_event (Completes (length x.session.waiting)) x.session) x in
     keep-packed now AnyPart (Same y) (same-goes now y) (length y.session.waiting) y refl
 call-put (Tick now) x =
     by_cond (Same x) (is_shut x) x (goes_on now (RedTick now) (moved (Ticks now) x)) (λ _. refl) (λ _. same-on now (RedTick now) (Ticks now) x)

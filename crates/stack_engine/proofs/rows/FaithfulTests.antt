@@ -3,9 +3,9 @@ use Rattle.safe_machine.proofs.one.Turning.{guard-is}
 use Rattle.stack_engine.proofs.Words.{[], AllArrived, AllByRecursion, AllFaithful, AreAtMost, AreTyped, arith, arrivals, arrivals_of, Arrived, AtCall, AtOpened}
 use Rattle.stack_engine.proofs.Words.{AtParts, Bool, bytes_eq, bytes_eq-Decides, Call, Calls, Carries, cases_lt, Close, CodeRule, Datagram, Deliver, drop}
 use Rattle.stack_engine.proofs.Words.{EndState, Event, FaithfulCall, FaithfulEvent, false, Fe, first_missing, first_version, Genuine, GenuineCall, GenuineEvent}
-use Rattle.stack_engine.proofs.Words.{GuardHolds, Guards, happens, has_number, if◌then◌else◌, Il, inl, Input, inr, is_alive, is_asked_of, is_live, is_nil}
+use Rattle.stack_engine.proofs.Words.{GuardHolds, Guards, apply_event, has_number, if◌then◌else◌, Il, inl, Input, inr, is_alive, is_asked_of, is_live, is_nil}
 use Rattle.stack_engine.proofs.Words.{IsGenuine, IsInTime, IsNear, IsTyped, leave, length, Limit, List, list_any, Made, Match, moment_of, moved, nat_le, nat_lt}
-use Rattle.stack_engine.proofs.Words.{nat_tests, no_wait, NoDeadlineFalls, None, not, OfBoth, OfOpened, Open, Option, Part, part, passed_by, present}
+use Rattle.stack_engine.proofs.Words.{nat_tests, no_wait, NoDeadlineFalls, None, not, OfBoth, OfOpened, Open, Option, Part, part, parts_passed, present}
 use Rattle.stack_engine.proofs.Words.{ProtocolError, Put, QNear, RedTick, refl, refusal, rule_of, run, SameRule, Some, State, subst, suc, sym, taken_at, Tick}
 use Rattle.stack_engine.proofs.Words.{Ticks, Timeout, true, Unspecified, upper_of, Wait, wait_after, with_input, World, zero, ℕ, ◌&&◌, ◌++◌, ◌+◌, ◌<◌, ◌==◌}
 use Rattle.stack_engine.proofs.Words.{◌^◌, ◌||◌, ◌∙◌, ◌∷◌, ◌≡◌, ◌≢◌, ◌≤◌}
@@ -45,7 +45,7 @@ at_parts t now [] x = true
 at_parts t now (p ∷ ps) x = t x p.1 && at_parts t now ps (part now p.1 x)
 
 abbrev at_input : (EndState → List ℕ → Bool) → ℕ → Input → EndState → Bool
-at_input t now i x = at_parts t now (passed_by i x.red) (with_input i x)
+at_input t now i x = at_parts t now (parts_passed i x.red) (with_input i x)
 
 abbrev at_call : (EndState → List ℕ → Bool) → Call → EndState → Bool
 at_call t (Tick now) x = at_input t now (RedTick now) (moved (Ticks now) x)
@@ -174,13 +174,13 @@ faithful-event (Calls Fe c) w once h = at-opened _ _ (λ x k. (good-call (presen
 
 abbrev pub are_good : List Event → World → Bool
 are_good [] w = true
-are_good (e ∷ es) w = is_good e w && are_good es (happens w e)
+are_good (e ∷ es) w = is_good e w && are_good es (apply_event w e)
 
 pub all-genuine : (es : List Event) (w : World) → are_good es w ≡ true → Genuine es w
 all-genuine [] w h = tt
 all-genuine (e ∷ es) w h =
-    let parts = and-parts (is_good e w) (are_good es (happens w e)) h in
-    ((λ on. genuine-event e w parts.0), all-genuine es (happens w e) parts.1)
+    let parts = and-parts (is_good e w) (are_good es (apply_event w e)) h in
+    ((λ on. genuine-event e w parts.0), all-genuine es (apply_event w e) parts.1)
 
 -- a call that brings only parts that are live, or of which the premise does not speak
 abbrev genuine_call : Option EndState → ℕ → Call → EndState → Bool
@@ -212,13 +212,13 @@ brings-live _ w h = tt
 -- each event of a list is genuine, whatever else it brings
 abbrev pub are_genuine : List Event → World → Bool
 are_genuine [] w = true
-are_genuine (e ∷ es) w = brings_live e w && are_genuine es (happens w e)
+are_genuine (e ∷ es) w = brings_live e w && are_genuine es (apply_event w e)
 
 pub genuine-by : (es : List Event) (w : World) → are_genuine es w ≡ true → Genuine es w
 genuine-by [] w h = tt
 genuine-by (e ∷ es) w h =
-    let parts = and-parts (brings_live e w) (are_genuine es (happens w e)) h in
-    ((λ on. brings-live e w parts.0), genuine-by es (happens w e) parts.1)
+    let parts = and-parts (brings_live e w) (are_genuine es (apply_event w e)) h in
+    ((λ on. brings-live e w parts.0), genuine-by es (apply_event w e) parts.1)
 
 -- numbers are compared by computing
 at-most : (a b : ℕ) → nat_le a b ≡ true → a ≤ b
@@ -361,7 +361,7 @@ same-rule rule (Some il) (Some fe) h k = h ∙ sym k
 -- each event is genuine and faithful, and at the end all has arrived
 abbrev pub is_course : List Event → World → Bool
 is_course [] w = (if_opened is_near (present Il w) && if_opened is_near (present Fe w)) && is_whole (present Il w) (present Fe w)
-is_course (e ∷ es) w = (is_good e w && opens_once e w) && is_course es (happens w e)
+is_course (e ∷ es) w = (is_good e w && opens_once e w) && is_course es (apply_event w e)
 
 pub record Told (es : List Event) (w : World) : Type 0 where
   pub genuine : Genuine es w
@@ -385,9 +385,9 @@ course rule [] w il_rule fe_rule h =
       arrived = arrived rule (present Il w) (present Fe w) il_rule fe_rule one.1;
     }
 course rule (e ∷ es) w il_rule fe_rule h =
-    let one = and-parts (is_good e w && opens_once e w) (is_course es (happens w e)) h in
+    let one = and-parts (is_good e w && opens_once e w) (is_course es (apply_event w e)) h in
     let now = and-parts (is_good e w) (opens_once e w) one.0 in
-    let rest = course rule es (happens w e) il_rule fe_rule one.1 in
+    let rest = course rule es (apply_event w e) il_rule fe_rule one.1 in
     record {
       genuine = ((λ on. genuine-event e w now.0), rest.genuine);
       events = ((λ on. faithful-event e w now.1 now.0), rest.events);
@@ -415,4 +415,4 @@ all-typed es h = all-of is_typed IsTyped typed es h
 pub faithful-at : (before : List Event) (e : Event) (later : List Event) (w : World) → AllFaithful (before ++ e ∷ later) w → refusal e (run before w) ≡ None
     → FaithfulEvent e (run before w)
 faithful-at [] e later w h = h.0
-faithful-at (b ∷ before) e later w h = faithful-at before e later (happens w b) h.1
+faithful-at (b ∷ before) e later w h = faithful-at before e later (apply_event w b) h.1

@@ -1,7 +1,7 @@
 -- Datagrams of an interlocking that was never opened: the field element sets up a session with them and takes a command, and nobody made it.
 use Rattle.stack_engine.proofs.Words.{[], after_block, after_round, ahead, AllFresh, ap, AtOpened, AtParts, Bool, Calls, Datagram, decoded, Deliver, digest}
-use Rattle.stack_engine.proofs.Words.{EndState, Event, false, Fe, four_steps, FreshCall, FreshEvent, Guards, happens, Il, InitDone, is_nil, is_none, is_shut}
-use Rattle.stack_engine.proofs.Words.{length, List, Made, made_of, moved, None, not, Open, Option, Part, part, passed_by, pieces_seen, present, refl, refusal}
+use Rattle.stack_engine.proofs.Words.{EndState, Event, false, Fe, four_steps, FreshCall, FreshEvent, Guards, apply_event, Il, InitDone, is_nil, is_none, is_shut}
+use Rattle.stack_engine.proofs.Words.{length, List, Made, made_of, moved, None, not, Open, Option, Part, part, parts_passed, pieces_seen, present, refl, refusal}
 use Rattle.stack_engine.proofs.Words.{run, sn_of, Some, start, subst, taken_at, TakesFresh, tele_seen, true, unit_seen, with_input, World, ℕ, ◌&&◌, ◌++◌, ◌==◌}
 use Rattle.stack_engine.proofs.Words.{◌∷◌, ◌≡◌}
 use Rattle.stack_engine.proofs.one.Speaking.{and-parts, came}
@@ -19,7 +19,7 @@ abbrev takes_at : ℕ → List ℕ → Option EndState → Bool
 takes_at now octets None = false
 takes_at now octets (Some x) =
     let guarded = moved (Guards now) x in
-    not (is_shut x) && (not (is_shut guarded) && takes_first now (passed_by (Datagram octets now) guarded.red) (with_input (Datagram octets now) guarded))
+    not (is_shut x) && (not (is_shut guarded) && takes_first now (parts_passed (Datagram octets now) guarded.red) (with_input (Datagram octets now) guarded))
 
 -- and no interlocking made anything
 abbrev takes_unmade : Event → World → Bool
@@ -47,7 +47,7 @@ call-unmade now channel octets (Some x) h fresh =
     let guarded = moved (Guards now) x in
     let one = and-parts _ _ h in
     let two = and-parts _ _ one.1 in
-    first-unmade now (passed_by (Datagram octets now) guarded.red) (with_input (Datagram octets now) guarded) two.1
+    first-unmade now (parts_passed (Datagram octets now) guarded.red) (with_input (Datagram octets now) guarded) two.1
     (fresh (not-true (is_shut x) one.0) (not-true (is_shut guarded) two.0))
 
 event-unmade : (e : Event) (w : World) → takes_unmade e w ≡ true → (refusal e w ≡ None → FreshEvent e w) → ⊥
@@ -74,7 +74,7 @@ taken-last = refl
 
 fresh-at : (before : List Event) (e : Event) (w : World) → AllFresh (before ++ e ∷ []) w → refusal e (run before w) ≡ None → FreshEvent e (run before w)
 fresh-at [] e w h = h.0
-fresh-at (b ∷ before) e w h = fresh-at before e (happens w b) h.1
+fresh-at (b ∷ before) e w h = fresh-at before e (apply_event w b) h.1
 
 pub taken-from-nobody : (es : List Event) × (AllFresh es start → ⊥)
 taken-from-nobody = (forged ++ last ∷ [], λ h. event-unmade last (run forged start) taken-last (fresh-at forged last start h))

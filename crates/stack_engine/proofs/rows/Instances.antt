@@ -1,5 +1,5 @@
 -- Each clause of a promise refuses a world that all other clauses admit.
-use Rattle.stack_engine.proofs.Words.{ap, arith, carried, confirming, EndState, Fresh, FreshInstances, HeadlineInstances, inl, inr, Instances, IsBeginning}
+use Rattle.stack_engine.proofs.Words.{ap, arith, made_after, confirming_pdu, EndState, Fresh, FreshInstances, HeadlineInstances, inl, inr, Instances, IsBeginning}
 use Rattle.stack_engine.proofs.Words.{Item, lit<, lit≤, Made, made_one, one, Pdu, refl, SettledInstances, State, subst, sym, two}
 use Rattle.std.specs.Prelude.{[], Bool, drop, false, List, None, Option, Some, true, ℕ, ◌++◌, ◌+◌, ◌-◌, ◌<◌, ◌∷◌, ◌≡◌, ◌≤◌}
 use Rattle.stack_engine.proofs.one.Speaking.{nil-front}
@@ -149,7 +149,7 @@ fresh-instances s m p =
       holds =
           record {
             index = 0;
-            carrier = carried 1 (confirming p);
+            carrier = made_after 1 (confirming_pdu p);
             rest = [];
             at = refl;
             is = refl;
@@ -163,13 +163,13 @@ fresh-instances s m p =
           };
       made_by_nobody = λ h. none-found h.index h.carrier h.rest h.at;
       another_pdu = λ h. differ 9 8 refl
-          (ap (λ (q : Pdu). q.cts) (fresh-of-one (made_one 7 8 s m) (confirming p) 109 (carried 1 (record p { cs = 7; cts = 9 })) (basis_of 7 8 m) refl h).is);
-      upon_none = λ h. none-behind (fresh-of-one (made_one 7 8 s m) (confirming p) 109 (carried 0 (confirming p)) (basis_of 7 8 m) refl h).has_basis;
-      upon_unmade = λ h. let found = (fresh-of-one (made_one 7 8 s m) (confirming p) 109 (carried 2 (confirming p)) (basis_of 7 8 m) refl h).found in
+          (ap (λ (q : Pdu). q.cts) (fresh-of-one (made_one 7 8 s m) (confirming_pdu p) 109 (made_after 1 (record p { cs = 7; cts = 9 })) (basis_of 7 8 m) refl h).is);
+      upon_none = λ h. none-behind (fresh-of-one (made_one 7 8 s m) (confirming_pdu p) 109 (made_after 0 (confirming_pdu p)) (basis_of 7 8 m) refl h).has_basis;
+      upon_unmade = λ h. let found = (fresh-of-one (made_one 7 8 s m) (confirming_pdu p) 109 (made_after 2 (confirming_pdu p)) (basis_of 7 8 m) refl h).found in
           no-item (basis_of 7 8 m) found.0 (sym found.1);
-      other_number = λ h. differ 6 7 refl (fresh-of-one (made_one 6 8 s m) (confirming p) 109 (carried 1 (confirming p)) (basis_of 6 8 m) refl h).number;
-      other_stamp = λ h. differ 9 8 refl (fresh-of-one (made_one 7 9 s m) (confirming p) 109 (carried 1 (confirming p)) (basis_of 7 9 m) refl h).stamp;
-      late = λ h. too-late (fresh-of-one (made_one 7 8 s m) (confirming p) 110 (carried 1 (confirming p)) (basis_of 7 8 m) refl h).recent;
+      other_number = λ h. differ 6 7 refl (fresh-of-one (made_one 6 8 s m) (confirming_pdu p) 109 (made_after 1 (confirming_pdu p)) (basis_of 6 8 m) refl h).number;
+      other_stamp = λ h. differ 9 8 refl (fresh-of-one (made_one 7 9 s m) (confirming_pdu p) 109 (made_after 1 (confirming_pdu p)) (basis_of 7 9 m) refl h).stamp;
+      late = λ h. too-late (fresh-of-one (made_one 7 8 s m) (confirming_pdu p) 110 (made_after 1 (confirming_pdu p)) (basis_of 7 8 m) refl h).recent;
     }
 
 pub instances : Instances

@@ -1,6 +1,6 @@
 -- Each clause of "nothing lost" refuses a world that all other clauses admit.
-use Rattle.stack_engine.proofs.Words.{[], AllArrived, AllThere, arith, both, Course, early, EndState, Established, fe_with, il_with, Initialising, inl, inr}
-use Rattle.stack_engine.proofs.Words.{List, LossInstances, lost, Made, Match, NothingLost, one, plain, refl, Start, starting, tele_seen, Up, waits, ℕ, ◌<◌, ◌∷◌}
+use Rattle.stack_engine.proofs.Words.{[], AllArrived, AllThere, arith, world_of_two, Course, early, EndState, Established, fe_with, il_with, Initialising, inl, inr}
+use Rattle.stack_engine.proofs.Words.{List, LossInstances, lost_course, Made, Match, NothingLost, one, plain, refl, Start, starting, tele_seen, Up, waiting_course, ℕ, ◌<◌, ◌∷◌}
 use Rattle.stack_engine.proofs.Words.{◌≡◌, ◌≢◌, ◌≤◌, ◌⊎◌}
 use Rattle.stack_engine.proofs.rows.Drops.{no-item}
 use Rattle.stack_engine.proofs.rows.Instances.{true-is-false}
@@ -15,7 +15,7 @@ all-arrived c d x y k below = absurd (no-number k below)
 none-missing : (c d : Course) (x y : EndState) → AllArrived (fe_with d y) (il_with c x)
 none-missing c d x y k below = absurd (no-number k below)
 
-there : (c d : Course) (x : EndState) → NothingLost (both (il_with c x) (fe_with d x)) → AllThere (il_with c x) (fe_with d x)
+there : (c d : Course) (x : EndState) → NothingLost (world_of_two (il_with c x) (fe_with d x)) → AllThere (il_with c x) (fe_with d x)
 there c d x h = h.all_there (λ up. all-arrived c d x x) (λ up. none-missing c d x x)
 
 not-full : 1 ≤ 0 → ⊥
@@ -62,10 +62,10 @@ loss-instances x m =
           };
       il_asks = λ h. h.il_asks_nothing.0 refl;
       fe_asks = λ h. h.fe_asks_nothing.0 refl;
-      il_waits = ((λ h. not-full ((there waits plain x h).il_waits refl (no-message [] []))), idle, refl, refl, up, up, (λ m il fe. absurd (no-item [] [] il)));
-      fe_waits = ((λ h. not-full ((there plain waits x h).fe_waits refl (no-message [] []))), idle, refl, refl, up, up, (λ m il fe. absurd (no-item [] [] fe)));
-      commands = ((λ h. no-item one [] (there lost plain x h).commands), idle, idle, refl, up, up, steady);
-      status = ((λ h. no-item one [] (there plain lost x h).status), idle, idle, refl, up, up, steady);
+      il_waits = ((λ h. not-full ((there waiting_course plain x h).il_waits refl (no-message [] []))), idle, refl, refl, up, up, (λ m il fe. absurd (no-item [] [] il)));
+      fe_waits = ((λ h. not-full ((there plain waiting_course x h).fe_waits refl (no-message [] []))), idle, refl, refl, up, up, (λ m il fe. absurd (no-item [] [] fe)));
+      commands = ((λ h. no-item one [] (there lost_course plain x h).commands), idle, idle, refl, up, up, steady);
+      status = ((λ h. no-item one [] (there plain lost_course x h).status), idle, idle, refl, up, up, steady);
       il_starts = ((λ h. not-up ((there starting plain x h).il_up (match-plain starting plain x))), idle, idle, refl, refl, up, steady);
       fe_starts = ((λ h. not-up ((there plain starting x h).fe_up (match-plain plain starting x))), idle, idle, refl, refl, up, steady);
       il_early = (

@@ -2,7 +2,7 @@
 use Rattle.stack_engine.proofs.Words.{[], AllByRecursion, AllFresh, ap, append-nil, append_assoc, are_fit, AreTyped, arith, AtOpened, Bool, by_test, Call}
 use Rattle.stack_engine.proofs.Words.{call_refusal, Calls, CHECKSUM_MAX, Closed, cond, ConfirmedTakenLaw, connection_of, ConnectionState, ends_of, EndsEarly}
 use Rattle.stack_engine.proofs.Words.{EndSettings, EndState, eqb-true, Event, false, Fe, FeTaken, first_version, found_messages, FreshCall, FreshEvent}
-use Rattle.stack_engine.proofs.Words.{Freshness, Genuine, GenuineCall, GenuineEvent, happens, HasMessage, HeadlineLaw, Il, incarnation, is_closed, is_nil}
+use Rattle.stack_engine.proofs.Words.{Freshness, Genuine, GenuineCall, GenuineEvent, apply_event, HasMessage, HeadlineLaw, Il, incarnation, is_closed, is_nil}
 use Rattle.stack_engine.proofs.Words.{is_number, IsBeginning, IsTyped, Item, items_of, items_unconfirmed, items_waiting, Joined, JoinedEnd, latest, length}
 use Rattle.stack_engine.proofs.Words.{length-append, List, made_of, MatchOption, messages_in, nat_tests, None, not, Ok, Open, Option, Phase, PhaseLaw, put_at}
 use Rattle.stack_engine.proofs.Words.{ReachedLaw, ReachedState, refl, refusal, run, SettledAt, SettledFe, SettledLaw, Side, Some, start, subst, sym, taken_at}
@@ -311,7 +311,7 @@ fresh-event laws (Calls Fe c) w t ok g h = fresh-fe laws c w.ils w.fes w.dead_il
 all-fresh : (laws : Laws) (es : List Event) (w : World) → AreTyped es → Genuine es w → PairedWorld w → AllFresh es w
 all-fresh laws [] w t g k = tt
 all-fresh laws (e ∷ es) w t g k =
-    (λ ok. fresh-event laws e w t.0 ok (g.0 ok) k.mapped, all-fresh laws es (happens w e) t.1 g.1 (paired-event laws e w t.0 g.0 k))
+    (λ ok. fresh-event laws e w t.0 ok (g.0 ok) k.mapped, all-fresh laws es (apply_event w e) t.1 g.1 (paired-event laws e w t.0 g.0 k))
 
 pub freshness : Laws → Freshness
 freshness laws es typed genuine = all-fresh laws es start typed genuine paired-start

@@ -3,12 +3,12 @@ use Rattle.stack_engine.proofs.Words.{[], AllByRecursion, Among, answered, ap, A
 use Rattle.stack_engine.proofs.Words.{by_test, bytes_eq, bytes_eq-Decides, Call, Closed, ClosedByUser, CodeRule, cond, connection_of, ConnectionState, Datagram}
 use Rattle.stack_engine.proofs.Words.{Deliver, Down, drop, end_moved, EndSettings, EndState, eqb-true, Err, EventsLaw, false, Fe, GenuineAt, Guard, Guards}
 use Rattle.stack_engine.proofs.Words.{handed_up, has_made, HaveTexts, heard, heard_as, Hears, HearsOwn, Il, inl, Input, inr, is_asked_of, is_closed, is_live}
-use Rattle.stack_engine.proofs.Words.{is_shut, is_stranger, IsGenuine, joined_by, JoinedEnd, joins, judge_units, latest, latest_maker, Leaves, leaves, Leaving}
-use Rattle.stack_engine.proofs.Words.{length, List, Made, made_of, Move, move, MovesLaw, nat_tests, None, noted, Ok, Option, packed, Part, part, passed_by, Pdu}
+use Rattle.stack_engine.proofs.Words.{is_shut, is_stranger, IsGenuine, joined_by, JoinedEnd, is_joining, judge_units, latest, latest_maker, Leaves, leaves, Leaving}
+use Rattle.stack_engine.proofs.Words.{length, List, Made, made_of, Move, move, MovesLaw, nat_tests, None, noted, Ok, Option, packed, Part, part, parts_passed, Pdu}
 use Rattle.stack_engine.proofs.Words.{Receiver, RedTick, refl, Result, rule_of, safe_seen, safe_text, SafeFault, seen_by, Send, Sends, Settings, settle, Side}
 use Rattle.stack_engine.proofs.Words.{Some, Start, State, subst, suc, sym, take, Tick, Ticks, Timely, TimelyEvent, true, unit_text, Unspecified, upper_of}
 use Rattle.stack_engine.proofs.Words.{with_input, with_machine, zero, ℕ, ◌&&◌, ◌++◌, ◌+◌, ◌==◌, ◌∙◌, ◌∷◌, ◌≡◌, ◌≢◌, ◌≤◌}
-use Rattle.safe_machine.specs.World.{Event, Genuine, GenuineEvent, happens, run, start, World}
+use Rattle.safe_machine.specs.World.{Event, Genuine, GenuineEvent, apply_event, run, start, World}
 use Rattle.safe_machine.specs.World.Event.{Close as CloseMachine, Tick as TickMachine}
 use Rattle.stack_engine.proofs.one.Heeding.{OctetPart, OctetsUp, red-keeps, Whole, whole-keeps}
 use Rattle.stack_engine.proofs.one.Speaking.{and-parts, IsTypedCall, IsTypedInput, Keeps, Laws, same-length}
@@ -21,14 +21,14 @@ pub record Reached (m : World) : Type 0 where
   pub leads : run events start ≡ m
 
 -- one event more
-pub reached : EventsLaw → (m : World) (e : Event) → GenuineEvent m e → TimelyEvent m e → Reached m → Reached (happens m e)
+pub reached : EventsLaw → (m : World) (e : Event) → GenuineEvent m e → TimelyEvent m e → Reached m → Reached (apply_event m e)
 reached law m e g t r =
     let one = law r.events e in
     record {
       events = r.events ++ e ∷ [];
       genuine = one.genuine start r.genuine (subst (λ w. GenuineEvent w e) (sym r.leads) g);
       timely = one.timely start r.timely (subst (λ w. TimelyEvent w e) (sym r.leads) t);
-      leads = one.leads start ∙ ap (λ w. happens w e) r.leads;
+      leads = one.leads start ∙ ap (λ w. apply_event w e) r.leads;
     }
 
 -- an end in this state, its clock at this time
@@ -61,7 +61,7 @@ il-moves law m s clock (Leaves reason detail now) t g r = reached law (il_at s c
 
 -- to whom the field element is joined after a move
 abbrev pub joined_after : State → State → Option ℕ → World → Option ℕ
-joined_after s t joined m = cond (joins s.connection t.connection) (Some (length m.il_before)) joined
+joined_after s t joined m = cond (is_joining s.connection t.connection) (Some (length m.il_before)) joined
 
 pub fe-moves : EventsLaw → (m : World) (s : State) (joined : Option ℕ) (clock : ℕ) (mv : Move) → clock ≤ move_time mv
     → GenuineMove s (drop m.dead_il m.il.made) mv → Reached (fe_at s joined clock m)
@@ -233,11 +233,11 @@ pub record FeAt (ils : List EndState) (f : JoinedEnd) (m : M.World) (now : ℕ) 
   pub idle : x.machine.connection ≡ Down → x.request ≡ None
   pub first : x.request ≡ None → f.end.request ≡ None
 
-pub joins-both : (a b : ConnectionState) → joins a b ≡ true → (a ≡ Down) × (b ≡ Start)
+pub joins-both : (a b : ConnectionState) → is_joining a b ≡ true → (a ≡ Down) × (b ≡ Start)
 joins-both a b h = grind (arith, nat_tests)
 
 -- a move without an arrival joins nothing
-quiet : MovesLaw → (mv : Move) (s : State) → (HearsOwn mv s → ⊥) → joins s.connection (move mv s).connection ≡ false
+quiet : MovesLaw → (mv : Move) (s : State) → (HearsOwn mv s → ⊥) → is_joining s.connection (move mv s).connection ≡ false
 quiet law mv s deaf = grind (arith, (law mv s).starts, joins-both, deaf)
 
 fe-move : Laws → (ils : List EndState) (f : JoinedEnd) (m : M.World) (now : ℕ) (mv : Move) (x y : EndState) → move_time mv ≡ now → (HearsOwn mv x.machine → ⊥)
@@ -287,7 +287,7 @@ live-made (g ∷ before) x dead octets h = grind (arith, nat_tests, and-parts, m
 -- an end that starts on these bytes has received a PDU that the present interlocking made
 joins-made : Laws → MovesLaw → (ils : List EndState) (x : EndState) (dead now : ℕ) (octets : List ℕ) → Whole Fe x → IsGenuine (latest ils) dead x octets
     → (r : Result Pdu SafeFault) → seen_by x.machine octets ≡ r
-    → joins x.machine.connection (move (heard_as r now) x.machine).connection ≡ true → MadeBy ils octets
+    → is_joining x.machine.connection (move (heard_as r now) x.machine).connection ≡ true → MadeBy ils octets
 joins-made texts law ils x dead now octets whole g (Err fault) read h =
     let both = joins-both x.machine.connection (move (Guards now) x.machine).connection h in
     absurd ((law (Guards now) x.machine).starts both.0 both.1)
@@ -347,7 +347,7 @@ fe-heard laws ils f m dead now octets x count is q h =
     let law = laws.moves in
     let r = seen_by x.machine octets in
     let s = arrive_octets octets now x.machine in
-    let joining = joins x.machine.connection s.connection in
+    let joining = is_joining x.machine.connection s.connection in
     let joined = joined_by ils f.joined f.end.request x.request in
     let g : GenuineMove x.machine (drop m.dead_il m.il.made) (heard_as r now) =
     subst (λ live. GenuineMove x.machine live (heard_as r now)) (live-same (latest ils) dead m.il m.dead_il is)
@@ -414,7 +414,7 @@ octets-input : Laws → (now : ℕ) (i : Input) (m : Move) (x : EndState) → Is
 octets-input law now i m x t h = λ _.
     let y = end_moved m x in
     let same : y.red ≡ x.red = settled-red (with_machine (move m x.machine) x) in
-    octets-parts now (passed_by i y.red) (with_input i y)
+    octets-parts now (parts_passed i y.red) (with_input i y)
     (red-keeps law i y.red t (subst (λ (r : Receiver). AllByRecursion OctetPart r.waiting) (sym same) h)).0
 
 pub octets-call : Laws → (c : Call) (x : EndState) → IsTypedCall c → AllByRecursion OctetPart x.red.waiting → AtCall OctetsUp c x

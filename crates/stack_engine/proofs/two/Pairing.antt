@@ -1,14 +1,14 @@
 -- The sessions of each joined pair are joint, for any calls.
 use Rattle.stack_engine.proofs.Words.{[], AllByRecursion, answered, ap, append-nil, append_assoc, AreTyped, arith, arrive_octets, Arrives, AtFe, AtIl, AtOpened}
-use Rattle.stack_engine.proofs.Words.{Bool, by_test, Call, call, call_fe, call_il, call_refusal, Calls, changed, Closes, comes_up, Completes, cond, Dialogue}
+use Rattle.stack_engine.proofs.Words.{Bool, by_test, Call, call, call_fe, call_il, call_refusal, Calls, change_world, Closes, comes_up, Completes, cond, Dialogue}
 use Rattle.stack_engine.proofs.Words.{ends_of, EndSettings, EndState, eqb-true, Err, Event, false, Fe, first_version, found_messages, found_telegram, Genuine}
-use Rattle.stack_engine.proofs.Words.{GenuineCall, GenuineEvent, GoesUp, grown, grown_along, handed_by, handed_up, happen, happens, heard, History, Il}
-use Rattle.stack_engine.proofs.Words.{incarnation, inl, inr, InTurn, is_ended, is_shut, IsBeginning, IsNext, IsTyped, Joined, joined, joined_by, JoinedEnd}
-use Rattle.stack_engine.proofs.Words.{JoinedEvent, joins, judge_messages, judge_read, judge_units, judge_unpacked, Judged, latest, leaves, Leaving, length}
+use Rattle.stack_engine.proofs.Words.{GenuineCall, GenuineEvent, GoesUp, add_event, add_events, handed_by, handed_up, apply_events, apply_event, heard, History, Il}
+use Rattle.stack_engine.proofs.Words.{incarnation, inl, inr, InTurn, is_ended, is_shut, IsBeginning, IsNext, IsTyped, Joined, new_sessions, joined_by, JoinedEnd}
+use Rattle.stack_engine.proofs.Words.{JoinedEvent, is_joining, judge_messages, judge_read, judge_units, judge_unpacked, Judged, latest, leaves, Leaving, length}
 use Rattle.stack_engine.proofs.Words.{List, MatchOption, messages_in, nat_tests, new_end, None, noted, Ok, Open, Option, OverLaw, PackFault, phase_in, Puts}
 use Rattle.stack_engine.proofs.Words.{refl, refusal, Result, rises, run, SessionEvent, Side, Some, start, State, subst, sym, Tele, tele_seen, TeleFault}
 use Rattle.stack_engine.proofs.Words.{telegrams_in, time_of, true, unit_seen, units, unless_leaving, World, ℕ, ◌++◌, ◌+◌, ◌<◌, ◌==◌, ◌∙◌, ◌∷◌, ◌≡◌, ◌≤◌, ◌⊎◌}
-use Rattle.pdi_session.specs.JoinedSessions.{happens as happens-joined, OneMoreLaw}
+use Rattle.pdi_session.specs.JoinedSessions.{apply_event as happens-joined, OneMoreLaw}
 use Rattle.stack_engine.proofs.one.Heeding.{Heeding, heeding-read, heeding-unpacked, IsGood, Reads, Whole}
 use Rattle.stack_engine.proofs.one.Speaking.{all-map, call-keeps, came, hands-up, Hearing, hearing-read, hearing-unpacked, IsTypedCall, Keeps, Laws}
 use Rattle.stack_engine.proofs.one.Speaking.{leaves-same, nil-behind, nil-front, Spoken, telegrams-append}
@@ -22,15 +22,15 @@ use Rattle.safe_machine.specs.World as M
 
 -- two new sessions with the settings of two ends
 abbrev pub new_pair : EndSettings → EndSettings → Joined
-new_pair g f = joined g.addressing (first_version g.versions) f.addressing f.versions f.checksum
+new_pair g f = new_sessions g.addressing (first_version g.versions) f.addressing f.versions f.checksum
 
 -- events in turn lead to these histories
 pub record Joint (b : Joined) (x y : History) : Type 0 where
   pub events : List JoinedEvent
   pub in_turn : InTurn events b
-  pub leads : happen events b ≡ record { il = x; fe = y }
+  pub leads : apply_events events b ≡ record { il = x; fe = y }
 
-pub joint-il : OneMoreLaw → (b : Joined) (x y : History) (e : SessionEvent) → IsNext e x y → Joint b x y → Joint b (grown e x) y
+pub joint-il : OneMoreLaw → (b : Joined) (x y : History) (e : SessionEvent) → IsNext e x y → Joint b x y → Joint b (add_event e x) y
 joint-il law b x y e next h =
     record {
       events = h.events ++ AtIl e ∷ [];
@@ -38,7 +38,7 @@ joint-il law b x y e next h =
       leads = law.1 h.events (AtIl e) b ∙ ap (happens-joined (AtIl e)) h.leads;
     }
 
-pub joint-fe : OneMoreLaw → (b : Joined) (x y : History) (e : SessionEvent) → IsNext e y x → Joint b x y → Joint b x (grown e y)
+pub joint-fe : OneMoreLaw → (b : Joined) (x y : History) (e : SessionEvent) → IsNext e y x → Joint b x y → Joint b x (add_event e y)
 joint-fe law b x y e next h =
     record {
       events = h.events ++ AtFe e ∷ [];
@@ -52,7 +52,7 @@ next-quiet (Arrives t) x y h = cc
 next-quiet _ x y h = tt
 
 -- Of one of two sessions: J holds of its history, and stays if what happens is in turn.
-module _ (y : History) (J : History → Type 0) (more : (e : SessionEvent) (x : History) → IsNext e x y → J x → J (grown e x)) where
+module _ (y : History) (J : History → Type 0) (more : (e : SessionEvent) (x : History) → IsNext e x y → J x → J (add_event e x)) where
   begin-front : (a b : List Tele) → IsBeginning (a ++ b) y.queue → IsBeginning a y.queue
   begin-front a b h = (b ++ h.0, sym (append_assoc a b h.0) ∙ h.1)
 
@@ -151,9 +151,9 @@ abbrev all_handed : List SessionEvent → List Tele
 all_handed [] = []
 all_handed (e ∷ es) = handed_by e ++ all_handed es
 
-judged-along : (es : List SessionEvent) (h : History) → (grown_along es h).judged ≡ h.judged ++ all_handed es
+judged-along : (es : List SessionEvent) (h : History) → (add_events es h).judged ≡ h.judged ++ all_handed es
 judged-along [] h = sym (append-nil h.judged)
-judged-along (e ∷ es) h = judged-along es (grown e h) ∙ append_assoc h.judged (handed_by e) (all_handed es)
+judged-along (e ∷ es) h = judged-along es (add_event e h) ∙ append_assoc h.judged (handed_by e) (all_handed es)
 
 abbrev IsQuiet : SessionEvent → Type 0
 IsQuiet e = handed_by e ≡ []
@@ -162,13 +162,13 @@ quiet-all : (es : List SessionEvent) → all_handed es ≡ [] → AllByRecursion
 quiet-all [] h = tt
 quiet-all (e ∷ es) h = (nil-front (handed_by e) (all_handed es) h, quiet-all es (nil-behind (handed_by e) (all_handed es) h))
 
-along-il : OneMoreLaw → (b : Joined) (es : List SessionEvent) (x y : History) → AllByRecursion IsQuiet es → Joint b x y → Joint b (grown_along es x) y
+along-il : OneMoreLaw → (b : Joined) (es : List SessionEvent) (x y : History) → AllByRecursion IsQuiet es → Joint b x y → Joint b (add_events es x) y
 along-il law b [] x y q h = h
-along-il law b (e ∷ es) x y q h = along-il law b es (grown e x) y q.1 (joint-il law b x y e (next-quiet e x y q.0) h)
+along-il law b (e ∷ es) x y q h = along-il law b es (add_event e x) y q.1 (joint-il law b x y e (next-quiet e x y q.0) h)
 
-along-fe : OneMoreLaw → (b : Joined) (es : List SessionEvent) (x y : History) → AllByRecursion IsQuiet es → Joint b x y → Joint b x (grown_along es y)
+along-fe : OneMoreLaw → (b : Joined) (es : List SessionEvent) (x y : History) → AllByRecursion IsQuiet es → Joint b x y → Joint b x (add_events es y)
 along-fe law b [] x y q h = h
-along-fe law b (e ∷ es) x y q h = along-fe law b es x (grown e y) q.1 (joint-fe law b x y e (next-quiet e y x q.0) h)
+along-fe law b (e ∷ es) x y q h = along-fe law b es x (add_event e y) q.1 (joint-fe law b x y e (next-quiet e y x q.0) h)
 
 quiet-events : (side : Side) (x : EndState) (sp : Spoken side x) → x.machine.taken ≡ [] → AllByRecursion IsQuiet sp.talk.events
 quiet-events side x sp none = grind (arith, nat_tests, judged-along, nil-front, quiet-all)
@@ -179,8 +179,8 @@ joint-new law g f sg sf ng nf =
     let b = new_pair g.settings f.settings in
     let start-at : Joint b b.il b.fe = record { events = []; in_turn = tt; leads = refl } in
     subst (λ (h : History). Joint b h f.session.history) (sym sg.talk.history)
-    (subst (λ (h : History). Joint b (grown_along sg.talk.events b.il) h) (sym sf.talk.history)
-    (along-fe law b sf.talk.events (grown_along sg.talk.events b.il) b.fe (quiet-events Fe f sf nf)
+    (subst (λ (h : History). Joint b (add_events sg.talk.events b.il) h) (sym sf.talk.history)
+    (along-fe law b sf.talk.events (add_events sg.talk.events b.il) b.fe (quiet-events Fe f sf nf)
     (along-il law b sg.talk.events b.il b.fe (quiet-events Il g sg ng) start-at)))
 
 -- two ends
@@ -239,7 +239,7 @@ law-il : (s : State) (x : EndState) (before : List EndState) (fes : List JoinedE
     → L.Law (il_at s now (machines (x ∷ before) fes di df ci cf)) → L.LawOf (s ∷ states before) (served fes)
 law-il s x before fes di df ci cf now h =
     subst (λ fs. L.LawOf (s ∷ states before) fs) (fe-incarnations (served fes))
-    (subst (λ ss. L.LawOf ss (L.fe_incarnations (il_at s now (machines (x ∷ before) fes di df ci cf)))) (taken-before M.unopened s (states before)) h)
+    (subst (λ ss. L.LawOf ss (L.fe_incarnations (il_at s now (machines (x ∷ before) fes di df ci cf)))) (taken-before M.unopened_state s (states before)) h)
 
 law-fe : (s : State) (q : Option ℕ) (ils : List EndState) (f : JoinedEnd) (fs : List JoinedEnd) (di df ci cf now : ℕ)
     → L.Law (fe_at s q now (machines ils (f ∷ fs) di df ci cf))
@@ -256,7 +256,7 @@ record PairOf (A : EndState → Type 0) (J : History → Option (List ℕ) → T
   joint : J y.session.history y.request
 
 pair-keeps : (now : ℕ) (Q : EndState → List ℕ → Type 0) (A : EndState → Type 0) (J : History → Option (List ℕ) → Type 0) (s : EndSettings) → Keeps now Q A
-    → ((e : SessionEvent) (h : History) (q : Option (List ℕ)) → ((j k : History) → IsNext e j k) → J h q → J (grown e h) q)
+    → ((e : SessionEvent) (h : History) (q : Option (List ℕ)) → ((j k : History) → IsNext e j k) → J h q → J (add_event e h) q)
     → ((octets : List ℕ) (x : EndState) → Q x octets → PairOf A J s x → J (heard now octets x).session.history (heard now octets x).request)
     → Keeps now Q (PairOf A J s)
 pair-keeps now Q A J s k meets-joint hears-joint =
@@ -317,8 +317,8 @@ il-pair-keeps p x0 before fes di df ci cf now is whole =
     let s = x0.settings in
     let number = length before + 1 in
     pair-keeps now (Comes peer df) (IlAt m now) (λ h request. AllByRecursion (JointIl s number h) fes) s (il-keeps p m peer df now is)
-    (λ e h request next. all-map (JointIl s number h) (JointIl s number (grown e h))
-    (λ f j joined. joint-il p.one_more (new_pair s f.end.settings) h f.end.session.history e (next h f.end.session.history) (j joined)) fes)
+    (λ e h request next. all-map (JointIl s number h) (JointIl s number (add_event e h))
+    (λ f j new_sessions. joint-il p.one_more (new_pair s f.end.settings) h f.end.session.history e (next h f.end.session.history) (j new_sessions)) fes)
     (λ octets x q h.
     let t = arrive_octets octets now x.machine in
     let law : L.LawOf (t ∷ states before) (served fes) = law-il t x0 before fes di df ci cf now
@@ -362,7 +362,7 @@ none-or o number fs g h k l = grind (arith, nat_tests, not-joined)
 -- the pair before bytes come: joined already, or new
 fe-before : (p : Laws) (s : EndSettings) (ils : List EndState) (f : JoinedEnd) (fs : List JoinedEnd) (m : M.World) (now : ℕ) (octets : List ℕ)
     (x g : EndState) (number : ℕ) (b : Bool)
-    → joins x.machine.connection (arrive_octets octets now x.machine).connection ≡ b → FePair s ils f m now x → Whole Il g → incarnation ils number ≡ Some g
+    → is_joining x.machine.connection (arrive_octets octets now x.machine).connection ≡ b → FePair s ils f m now x → Whole Il g → incarnation ils number ≡ Some g
     → L.LawOf (states ils) (record { machine = x.machine; joined = JoinedNow ils f x } ∷ served fs)
     → L.JoinsFall number (served fs)
     → joined_by ils f.joined f.end.request (noted b octets x.request) ≡ Some number
@@ -399,7 +399,7 @@ fe-joint p s ils f fs m now octets x wholes h before after number is (Some g) in
     let whole = inc-whole ils number g wholes inc in
     let fall : L.JoinsFall number (served fs) = subst (λ o. L.JoinsFall (L.next_bound (length (states ils) + 1) o) (served fs)) is after.joins_fall.1 in
     fe-with p s now octets x g h.at.whole whole.spoken sent
-    (fe-before p s ils f fs m now octets x g number (joins x.machine.connection t.connection) refl h whole inc before fall is)
+    (fe-before p s ils f fs m now octets x g number (is_joining x.machine.connection t.connection) refl h whole inc before fall is)
 
 fe-pair-keeps : (p : Laws) (ils : List EndState) (f : JoinedEnd) (fs : List JoinedEnd) (di df ci cf now : ℕ) → let m = machines ils (f ∷ fs) di df ci cf in
     PeerIs (latest ils) di m.il m.dead_il → AllWhole Il ils → Keeps now (Comes (latest ils) di) (FePair f.end.settings ils f m now)
@@ -409,9 +409,9 @@ fe-pair-keeps p ils f fs di df ci cf now is wholes =
     pair-keeps now (Comes (latest ils) di) (FeAt ils f m now) (FeJoint s ils f) s (fe-keeps p ils f m di now (before-length ils) is)
     (λ e h request next j. (
       j.0,
-      λ number joined.
-          match-map (λ g. Joint (new_pair g.settings s) g.session.history h) (λ g. Joint (new_pair g.settings s) g.session.history (grown e h))
-          (λ g l. joint-fe p.one_more (new_pair g.settings s) g.session.history h e (next h g.session.history) l) (incarnation ils number) (j.1 number joined),
+      λ number new_sessions.
+          match-map (λ g. Joint (new_pair g.settings s) g.session.history h) (λ g. Joint (new_pair g.settings s) g.session.history (add_event e h))
+          (λ g l. joint-fe p.one_more (new_pair g.settings s) g.session.history h e (next h g.session.history) l) (incarnation ils number) (j.1 number new_sessions),
     ))
     (λ octets x q h.
     let t = arrive_octets octets now x.machine in
@@ -424,7 +424,7 @@ fe-pair-keeps p ils f fs di df ci cf now is wholes =
     let before : L.LawOf (states ils) (record { machine = x.machine; joined = JoinedNow ils f x } ∷ served fs) =
     law-fe x.machine (JoinedNow ils f x) ils f fs di df ci cf h.at.clock (law-at p.units (fe_at x.machine (JoinedNow ils f x) h.at.clock m) h.at.reached)
     in
-    let joining = joins x.machine.connection t.connection in (
+    let joining = is_joining x.machine.connection t.connection in (
       λ none.
           let none-y : noted joining octets x.request ≡ None = sym (leaves-same now why y).1 ∙ none in
           let none-x : x.request ≡ None = noted-first joining octets x.request none-y in
@@ -529,7 +529,7 @@ paired-fe p c ils (f ∷ fs) di df typed ok g w =
       );
     }
 
-paired-changed : (p : Laws) (e : Event) (w : World) → IsTyped e → refusal e w ≡ None → GenuineEvent e w → PairedWorld w → PairedWorld (changed e w)
+paired-changed : (p : Laws) (e : Event) (w : World) → IsTyped e → refusal e w ≡ None → GenuineEvent e w → PairedWorld w → PairedWorld (change_world e w)
 paired-changed p (Open Il s first now) w t ok g k =
     let law = law-now p w.ils w.fes w.dead_il w.dead_fe k.mapped in
     let le : length (states w.ils) + 1 ≤ length w.ils + 1 = let e = states-length w.ils in omega (arith, e) in
@@ -547,12 +547,12 @@ paired-changed p (Open Fe s first now) w t ok g k =
 paired-changed p (Calls Il c) w t ok g k = paired-il p c w.ils w.fes w.dead_il w.dead_fe (typed-call Il c t) ok g k
 paired-changed p (Calls Fe c) w t ok g k = paired-fe p c w.ils w.fes w.dead_il w.dead_fe (typed-call Fe c t) ok g k
 
-pub paired-event : (p : Laws) (e : Event) (w : World) → IsTyped e → (refusal e w ≡ None → GenuineEvent e w) → PairedWorld w → PairedWorld (happens w e)
-paired-event p e w t g k = unless PairedWorld (refusal e w) w (changed e w) k (λ ok. paired-changed p e w t ok (g ok) k)
+pub paired-event : (p : Laws) (e : Event) (w : World) → IsTyped e → (refusal e w ≡ None → GenuineEvent e w) → PairedWorld w → PairedWorld (apply_event w e)
+paired-event p e w t g k = unless PairedWorld (refusal e w) w (change_world e w) k (λ ok. paired-changed p e w t ok (g ok) k)
 
 pub paired-run : (p : Laws) (es : List Event) (w : World) → AreTyped es → Genuine es w → PairedWorld w → PairedWorld (run es w)
 paired-run p [] w t g k = k
-paired-run p (e ∷ es) w t g k = paired-run p es (happens w e) t.1 g.1 (paired-event p e w t.0 g.0 k)
+paired-run p (e ∷ es) w t g k = paired-run p es (apply_event w e) t.1 g.1 (paired-event p e w t.0 g.0 k)
 
 pub paired-start : PairedWorld start
 paired-start = record { mapped = mapped-start; unjoined = tt; pairs = tt }

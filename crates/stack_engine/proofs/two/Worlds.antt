@@ -2,11 +2,11 @@
 use Rattle.stack_engine.proofs.Words.{[], AllByRecursion, AllTakeBeginnings, ap, append-nil, append_assoc, are_fit, AreSettings, arith, Arrive, arrive_octets}
 use Rattle.stack_engine.proofs.Words.{AtCall, AtInput, AtParts, Bool, Call, call, call_refusal, Calls, CHECKSUM_MAX, checksum_of, CodeRule, cond, connection_of}
 use Rattle.stack_engine.proofs.Words.{Datagram, Deliver, Down, end_moved, ends_of, EndSettings, EndState, Err, Event, EventsLaw, false, Fe, Fresh, FreshEvent}
-use Rattle.stack_engine.proofs.Words.{GenuineEvent, guard, Guards, happens, heard_as, Hears, Il, in_limits, incarnation, inl, Input, inr, is_addressing}
+use Rattle.stack_engine.proofs.Words.{GenuineEvent, guard, Guards, apply_event, heard_as, Hears, Il, in_limits, incarnation, inl, Input, inr, is_addressing}
 use Rattle.stack_engine.proofs.Words.{is_legal, is_name, is_untimely, IsBeginning, IsGenuine, IsJoined, IsName, IsTyped, items_of, joined_by, JoinedBelow}
 use Rattle.stack_engine.proofs.Words.{JoinedEnd, JoinsFall, last_time, latest, length, length-append, List, Made, made_of, MatchOption, messages_in, move}
 use Rattle.stack_engine.proofs.Words.{MovesLaw, nat_le, nat_lt, nat_tests, new_end, next_bound, None, Ok, OnlyJoinedTake, open_refusal, OpenMachine, Option}
-use Rattle.stack_engine.proofs.Words.{Part, part, passed_by, Pdu, Put, put_at, RedTick, refl, Refusal, Result, safe_seen, SafeFault, seen_by, session_of}
+use Rattle.stack_engine.proofs.Words.{Part, part, parts_passed, Pdu, Put, put_at, RedTick, refl, Refusal, Result, safe_seen, SafeFault, seen_by, session_of}
 use Rattle.stack_engine.proofs.Words.{Settings, settle, Side, Some, start, State, subst, suc, sym, take, taken_at, TakesBeginnings, TakesFresh, Tele}
 use Rattle.stack_engine.proofs.Words.{telegrams_in, texts, TextsLaw, Tick, tick, Ticks, time_of, true, units, unless_refused, with_input, with_joined}
 use Rattle.stack_engine.proofs.Words.{with_machine, World, ℕ, ◌++◌, ◌+◌, ◌==◌, ◌^◌, ◌||◌, ◌∙◌, ◌∷◌, ◌≡◌, ◌≢◌, ◌≤◌}
@@ -29,15 +29,15 @@ served (f ∷ fs) = record { machine = f.end.machine; joined = f.joined } ∷ se
 
 -- the world of machines before the first opening
 abbrev pub unserved : M.Served
-unserved = record { machine = M.unopened; joined = None }
+unserved = record { machine = M.unopened_state; joined = None }
 
 abbrev pub state_now : List State → State
-state_now [] = M.unopened
+state_now [] = M.unopened_state
 state_now (s ∷ before) = s
 
 abbrev pub states_before : List State → List State
 states_before [] = []
-states_before (s ∷ before) = before ++ M.unopened ∷ []
+states_before (s ∷ before) = before ++ M.unopened_state ∷ []
 
 abbrev pub served_now : List M.Served → M.Served
 served_now [] = unserved
@@ -155,7 +155,7 @@ new-whole Fe s first now fit =
 
 -- the opening in the world of machines
 pub open-il : (s : EndSettings) (first now : ℕ) (ils : List EndState) (fes : List JoinedEnd) (q : Option ℕ) (di df ci cf : ℕ) → is_legal s.connection ≡ true
-    → M.happens (machines_as ils fes q di df ci cf) (OpenMachine Il s.connection first now)
+    → M.apply_event (machines_as ils fes q di df ci cf) (OpenMachine Il s.connection first now)
     ≡ machines_as (new_end Il s first now ∷ ils) fes q 0 (length (made_of (latest (ends_of fes)))) now cf
 open-il s first now [] [] q di df ci cf legal = rw legal refl
 open-il s first now [] (f ∷ fs) q di df ci cf legal = rw legal refl
@@ -164,7 +164,7 @@ open-il s first now (x ∷ xs) (f ∷ fs) q di df ci cf legal = rw legal refl
 
 pub open-fe : (s : EndSettings) (first now : ℕ) (ils : List EndState) (fes : List JoinedEnd) (q : Option ℕ) (di df ci cf : ℕ)
     → q ≡ (served_now (served fes)).joined → is_legal s.connection ≡ true
-    → M.happens (machines_as ils fes q di df ci cf) (OpenMachine Fe s.connection first now)
+    → M.apply_event (machines_as ils fes q di df ci cf) (OpenMachine Fe s.connection first now)
     ≡ machines ils (record { end = new_end Fe s first now; joined = None } ∷ fes) (length (made_of (latest ils))) 0 ci now
 open-fe s first now ils fes q di df ci cf h k = grind (arith, nat_tests)
 
@@ -410,7 +410,7 @@ module _ (now : ℕ) (Q R : EndState → List ℕ → Type 0) (P : EndState → 
   at-parts (p ∷ ps) x q h = (each x p.1 h q.0, at-parts ps (part now p.1 x) q.1 (keep-part now Q P (goes-of now Q P k) p.1 x q.0 h))
 
   pub at-input : (i : Input) (x : EndState) → IsTypedInput i → AtInput Q now i x → P x → AtInput R now i x
-  at-input i x t q h = λ on. at-parts (passed_by i x.red) (with_input i x) (q on) (k.inputs i x t h)
+  at-input i x t q h = λ on. at-parts (parts_passed i x.red) (with_input i x) (q on) (k.inputs i x t h)
 
 pub call-at : (c : Call) (Q R : EndState → List ℕ → Type 0) (P : EndState → Type 0) (x : EndState) → Keeps (time_of c) Q P
     → ((y : EndState) (octets : List ℕ) → P y → Q y octets → R y octets)

@@ -1,9 +1,9 @@
-use Rattle.stack_end.proofs.Words.{ap, datagrams, EndSettings, FoldsTo, FoldsTo-keeps, HasMade, kept_of, length, number_behind, opens, rule_of, rules, sendings}
+use Rattle.stack_end.proofs.Words.{ap, datagrams, EndSettings, FoldsTo, FoldsTo-keeps, HasMade, kept_of, length, number_behind, opening_turn, rule_of, rules, sendings}
 use Rattle.stack_end.proofs.Words.{SendsOne, Settings, settings_of, side_of, subst, sym, ◌%◌, ◌^◌, ◌∙◌, ◌≡◌}
 use Rattle.end_settings.specs.EndSettings.{connection_of}
 use Rattle.end_settings.specs.declared.Side.TheVariants.{Interlocking}
 use Rattle.safe_machine.proofs.one.Turning.{opening_law_holds}
-use Rattle.safe_machine.specs.Step.{opened}
+use Rattle.safe_machine.specs.Step.{new_state}
 use Rattle.safe_machine.specs.View.{settings_of as machine_settings}
 use Rattle.std.proofs.Common.{zero-add}
 use Rattle.stack_end.proofs.Going.{datagrams-out}
@@ -18,7 +18,7 @@ returns-in-Ok-clause-stands g c =
     let is : machine ≡ connection_of (side_of c.args.side) settings = ap (λ r. machine_settings r c.machine.result) c.role-role.ensures
     ∙ c.machine.ensures c.args.side in
     c.in-Ok.ensures.left ∙ ((opening_law_holds machine c.args.first_sn c.args.now).stands
-    ∙ ap (λ (q : Settings). kept_of (opened q c.args.first_sn c.args.now)) is)
+    ∙ ap (λ (q : Settings). kept_of (new_state q c.args.first_sn c.args.now)) is)
 
 pub returns-in-Ok-clause-has_made : goal.returns-in-Ok-clause-has_made
 returns-in-Ok-clause-has_made g c =
@@ -33,7 +33,7 @@ returns-in-Ok-clause-sent g c =
     ap (λ r. machine_settings r c.machine.result) c.role-role.ensures ∙ c.machine.ensures c.args.side in
     let rule : c.machine.result.rule ≡ rule_of settings = ap (λ (s : Settings). s.rule) (c.machine.ensures Interlocking) in
     let machine = machine_settings c.role-role.result c.machine.result in
-    let made = (opens machine c.args.first_sn c.args.now).made in
+    let made = (opening_turn machine c.args.first_sn c.args.now).made in
     let out = datagrams-out (λ s. told s.channels.now) (λ s. s.numbers.now) (λ s. s.count) (λ s. s.made.now) _ (λ s pdu t r. (r.3, r.4, r.5, r.6)) c.machine.result.rule made _ _
     c.in-Ok.ensures.made in
     let spelled =
@@ -41,7 +41,7 @@ returns-in-Ok-clause-sent g c =
     ∙ (ap (λ n. datagrams (rule_of settings) settings.channels n made) c.requires.first ∙ datagrams-are settings 0 made) in
     let first = subst (λ xs. FoldsTo SendsOne (told c.args.channels.now) xs (told c.open.new.out.channels.now)) spelled out.0 in
     let sent =
-    subst (λ (q : Settings). FoldsTo SendsOne (told c.args.channels.now) (sendings settings 0 (opened q c.args.first_sn c.args.now).made)
+    subst (λ (q : Settings). FoldsTo SendsOne (told c.args.channels.now) (sendings settings 0 (new_state q c.args.first_sn c.args.now).made)
     (told c.open.new.out.channels.now)) is
     (subst (λ ms. FoldsTo SendsOne (told c.args.channels.now) (sendings settings 0 ms) (told c.open.new.out.channels.now))
     (sym (opening_law_holds machine c.args.first_sn c.args.now).made) first) in
@@ -54,7 +54,7 @@ returns-in-Ok-clause-numbered g c =
     let is : machine_settings c.role-role.result c.machine.result ≡ connection_of (side_of c.args.side) settings =
     ap (λ r. machine_settings r c.machine.result) c.role-role.ensures ∙ c.machine.ensures c.args.side in
     let machine = machine_settings c.role-role.result c.machine.result in
-    let made = (opens machine c.args.first_sn c.args.now).made in
+    let made = (opening_turn machine c.args.first_sn c.args.now).made in
     let out = datagrams-out (λ s. g.C.Channels.told s.channels.now) (λ s. s.numbers.now) (λ s. s.count) (λ s. s.made.now) _ (λ s pdu t r. (r.3, r.4, r.5, r.6)) c.machine.result.rule
     made _ _ c.in-Ok.ensures.made in
     let numbered =
@@ -62,7 +62,7 @@ returns-in-Ok-clause-numbered g c =
     ∙ (ap (λ n. number_behind n made) c.requires.first
     ∙ (behind-wrap 0 made
     ∙ (ap (λ n. n % 2 ^ 32) (zero-add (length made)) ∙ ap (λ ms. length ms % 2 ^ 32) (sym (opening_law_holds machine c.args.first_sn c.args.now).made)
-    ∙ ap (λ (q : Settings). length (opened q c.args.first_sn c.args.now).made % 2 ^ 32) is))) in
+    ∙ ap (λ (q : Settings). length (new_state q c.args.first_sn c.args.now).made % 2 ^ 32) is))) in
     let same = FoldsTo-keeps (λ s. s.numbers.ghost_name) _ (λ s x t h. h.1) _ _ _ c.in-Ok.ensures.made in
     search (rules, numbered, same)
 
@@ -72,13 +72,13 @@ returns-in-Ok-clause-made g c =
     let is : machine_settings c.role-role.result c.machine.result ≡ connection_of (side_of c.args.side) settings =
     ap (λ r. machine_settings r c.machine.result) c.role-role.ensures ∙ c.machine.ensures c.args.side in
     let machine = machine_settings c.role-role.result c.machine.result in
-    let made = (opens machine c.args.first_sn c.args.now).made in
+    let made = (opening_turn machine c.args.first_sn c.args.now).made in
     let out = datagrams-out (λ s. g.C.Channels.told s.channels.now) (λ s. s.numbers.now) (λ s. s.count) (λ s. s.made.now) _
     (λ s pdu t r. (r.3, r.4, r.5, r.6)) c.machine.result.rule made _ _ c.in-Ok.ensures.made in
     let counted =
     out.2
     ∙ (ap (with_made made) c.requires.none
     ∙ (ap (λ ms. with_made ms none_made) (sym (opening_law_holds machine c.args.first_sn c.args.now).made)
-    ∙ ap (λ (q : Settings). with_made (opened q c.args.first_sn c.args.now).made none_made) is)) in
+    ∙ ap (λ (q : Settings). with_made (new_state q c.args.first_sn c.args.now).made none_made) is)) in
     let same = FoldsTo-keeps (λ s. s.made.ghost_name) _ (λ s x t h. h.2) _ _ _ c.in-Ok.ensures.made in
     search (rules, counted, same)

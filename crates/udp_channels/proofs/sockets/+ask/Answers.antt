@@ -1,5 +1,5 @@
 use Rattle.std.proofs.Common.{rules}
-use Rattle.channels.specs.Told.{answered}
+use Rattle.channels.specs.Told.{answers_of}
 use Rattle.udp_channels.proofs.Asking.{asks-came, asks-nothing, asks-refused}
 use Rattle.udp_channels.proofs.sockets.+ask.Goals as goal
 
@@ -13,5 +13,5 @@ returns-in-Nothing-clause-asked g t c =
 
 pub returns-in-Refused-clause-asked : goal.returns-in-Refused-clause-asked
 returns-in-Refused-clause-asked g t c =
-    asks-refused c.args.first (answered c.ask-in-Refused.result c.ask-in-Refused.new.buffer) c.ask-in-Refused.new.list
+    asks-refused c.args.first (answers_of c.ask-in-Refused.result c.ask-in-Refused.new.buffer) c.ask-in-Refused.new.list
     c.in-Some.ensures.cases.0 (search rules) c.in-Refused.ensures.asked c.ask-in-Refused.ensures.asked

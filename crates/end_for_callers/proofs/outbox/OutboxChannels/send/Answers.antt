@@ -1,7 +1,7 @@
 use Rattle.std.proofs.Common.{ap, arith}
 use Rattle.end_for_callers.proofs.Sharing.{spent-least}
 use Rattle.end_for_callers.proofs.outbox.OutboxChannels.send.Goals as goal
-use Rattle.end_for_callers.specs.Boxes.{shared}
+use Rattle.end_for_callers.specs.Boxes.{sum_of_shares}
 
 pub total-rest-requires : goal.total-rest-requires
 total-rest-requires c =
@@ -9,7 +9,7 @@ total-rest-requires c =
       small = omega (
         arith,
         spent-least c.args.channel c.self.inside.shares,
-        ap shared c.spent_on-shares.ensures,
+        ap sum_of_shares c.spent_on-shares.ensures,
         c.self.invariant.0,
         c.places-places.ensures,
         c.places-places.type_inv,

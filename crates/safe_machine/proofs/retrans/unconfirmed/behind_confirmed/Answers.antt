@@ -1,5 +1,5 @@
 use Rattle.std.proofs.Common.{◌≡◌, ◌<◌, ◌∙◌, List, ap, arith, length, slice_index_or, sym}
-use Rattle.safe_machine.specs.retrans.Units.{Stored, above, all_shown, no_unit, units_from}
+use Rattle.safe_machine.specs.retrans.Units.{Stored, above, unit_values, no_unit, units_from}
 use Rattle.octets.proofs.RingPlaces.{behind-inside}
 use Rattle.safe_machine.proofs.RingLemmas.{drop-units_from, first_at, same_at}
 use Rattle.safe_machine.proofs.UnitLemmas.{first_dropped, first_kept, rest_rises}
@@ -28,7 +28,7 @@ loop-count-preserved c =
     (record {
       ring = (omega (arith, c.loop-count.invariant.ring.0), λ _. behind-inside (length c.args.places.now) c.loop-count.first inside);
       left =
-          ap (λ (us : List Stored). above c.args.number (all_shown us)) (sym rest)
+          ap (λ (us : List Stored). above c.args.number (unit_values us)) (sym rest)
           ∙ first_dropped c.args.number (units_from c.args.places.now c.loop-count.first c.loop-count.count) c.index-places-first.result first
           (omega (arith, c.if-places-first.false, ap (λ (u : Stored). u.0) c.index-places-first.is))
           ∙ c.loop-count.invariant.left;

@@ -1,7 +1,7 @@
 use Rattle.std.proofs.Common.{◌<◌, ◌≤◌, ◌+◌, ◌∙◌, arith, length, sym}
 use Rattle.std.proofs.lemmas.List.{length-set}
 use Rattle.octets.specs.RingPlaces.{IsFar}
-use Rattle.safe_machine.specs.retrans.Units.{all_shown, units_from}
+use Rattle.safe_machine.specs.retrans.Units.{unit_values, units_from}
 use Rattle.safe_machine.proofs.RingLemmas.{all_renumbered, length-shown_from, step_renumbered}
 use Rattle.safe_machine.proofs.retrans.unconfirmed.renumber_all.Goals as goal
 
@@ -20,6 +20,6 @@ loop-far-preserved c =
 
 pub returns-clause-numbers : goal.returns-clause-numbers
 returns-clause-numbers c =
-    all_renumbered (all_shown (units_from c.loop-far.places c.args.first c.args.count)) c.loop-far.far (c.args.number + c.loop-far.far)
+    all_renumbered (unit_values (units_from c.loop-far.places c.args.first c.args.count)) c.loop-far.far (c.args.number + c.loop-far.far)
     (omega (arith, length-shown_from c.loop-far.places c.args.first c.args.count))
     ∙ c.loop-far.invariant.numbers

@@ -1,4 +1,4 @@
-use Rattle.stack_engine.proofs.Words.{[], ap, Doing, doing_of, EndConfig, Entry, event_of, events_in, length, List, side_of, sym, ℕ, ◌++◌, ◌∙◌, ◌∷◌, ◌≡◌}
+use Rattle.stack_engine.proofs.Words.{[], ap, Action, doing_of, EndConfig, Entry, event_of, events_in, length, List, side_of, sym, ℕ, ◌++◌, ◌∙◌, ◌∷◌, ◌≡◌}
 use Rattle.stack_engine.specs.Histories.{Events}
 use Rattle.std.proofs.Common.{rules, vec_len}
 use Rattle.stack_engine.proofs.code.Histories.{opening-added}
@@ -17,6 +17,6 @@ returns-in-Open g c =
           ∙ (ap (λ (ts : List (Entry × List ℕ)). events_in (configs ++ c.in-Open.config ∷ []) ts) c.add.ensures.added
           ∙ (opening-added configs c.in-Open.config entries _ [] c.in-Open.first_sn c.self.invariant
           (ap (λ n. deed.Open n c.in-Open.first_sn) (c.len.ensures ∙ size))
-          ∙ (ap (λ (d : Doing). events_in configs entries ++ doing_of (side_of e.side) e.time d ∷ []) (sym c.in-Open.is)
+          ∙ (ap (λ (d : Action). events_in configs entries ++ doing_of (side_of e.side) e.time d ∷ []) (sym c.in-Open.is)
           ∙ ap (λ (h : Events). h.events ++ event_of e ∷ []) c.self.view_is)));
     }

@@ -1,5 +1,5 @@
 use Rattle.std.proofs.Common.{rules, ◌≡◌, ◌∙◌, ap, length, refl, sym, ◌++◌, List, ℕ, [], take}
-use Rattle.pdi_session.specs.telegram.Names.{filled}
+use Rattle.pdi_session.specs.telegram.Names.{fill_name}
 use Rattle.pdi_session.proofs.KnownLemmas.{made_behind, made_front, pair_made, written}
 use Rattle.pdi_session.proofs.telegram.known.KnownPair.new.Goals as goal
 
@@ -13,8 +13,8 @@ invariant_of-result c =
           pair_made c.put_name-2.new.buffer one other c.as_str.ensures.well_formed c.as_str-2.ensures.well_formed long
           (written c.put_name-2.new.buffer c.put_name.new.buffer [] one other c.as_str.ensures.well_formed
           long
-          (c.put_name.ensures.front ∙ ap filled (sym c.as_str.ensures.characters)) refl
-          (c.put_name-2.ensures.front ∙ ap (λ (name : List ℕ). take 20 c.put_name.new.buffer ++ filled name) (sym c.as_str-2.ensures.characters)));
+          (c.put_name.ensures.front ∙ ap fill_name (sym c.as_str.ensures.characters)) refl
+          (c.put_name-2.ensures.front ∙ ap (λ (name : List ℕ). take 20 c.put_name.new.buffer ++ fill_name name) (sym c.as_str-2.ensures.characters)));
     }
 
 pub returns-clause-sender : goal.returns-clause-sender
@@ -25,8 +25,8 @@ returns-clause-sender c =
     made_front c.put_name-2.new.buffer one other
     (written c.put_name-2.new.buffer c.put_name.new.buffer [] one other c.as_str.ensures.well_formed
     long
-    (c.put_name.ensures.front ∙ ap filled (sym c.as_str.ensures.characters)) refl
-    (c.put_name-2.ensures.front ∙ ap (λ (name : List ℕ). take 20 c.put_name.new.buffer ++ filled name) (sym c.as_str-2.ensures.characters)))
+    (c.put_name.ensures.front ∙ ap fill_name (sym c.as_str.ensures.characters)) refl
+    (c.put_name-2.ensures.front ∙ ap (λ (name : List ℕ). take 20 c.put_name.new.buffer ++ fill_name name) (sym c.as_str-2.ensures.characters)))
     ∙ c.as_str.ensures.characters
 
 pub returns-clause-receiver : goal.returns-clause-receiver
@@ -37,6 +37,6 @@ returns-clause-receiver c =
     made_behind c.put_name-2.new.buffer one other
     (written c.put_name-2.new.buffer c.put_name.new.buffer [] one other c.as_str.ensures.well_formed
     long
-    (c.put_name.ensures.front ∙ ap filled (sym c.as_str.ensures.characters)) refl
-    (c.put_name-2.ensures.front ∙ ap (λ (name : List ℕ). take 20 c.put_name.new.buffer ++ filled name) (sym c.as_str-2.ensures.characters)))
+    (c.put_name.ensures.front ∙ ap fill_name (sym c.as_str.ensures.characters)) refl
+    (c.put_name-2.ensures.front ∙ ap (λ (name : List ℕ). take 20 c.put_name.new.buffer ++ fill_name name) (sym c.as_str-2.ensures.characters)))
     ∙ c.as_str-2.ensures.characters

@@ -1,6 +1,6 @@
 use Rattle.std.proofs.Common.{◌≡◌, ◌<◌, ◌∙◌, [], ◌∷◌, ◌++◌, ap, arith, length, refl, subst, vec_len}
 use Rattle.octets.specs.RingPlaces.{IsFar}
-use Rattle.safe_machine.specs.retrans.Units.{Kept, Numbered, all_shown, shown, units_from}
+use Rattle.safe_machine.specs.retrans.Units.{Kept, Numbered, unit_values, unit_value, units_from}
 use Rattle.safe_machine.proofs.RingLemmas.{kept_more, length-shown_from, ring_more, shown_more}
 use Rattle.safe_machine.proofs.UnitLemmas.{Rises-sent}
 use Rattle.safe_machine.proofs.retrans.unconfirmed.Unconfirmed.keep.Goals as goal
@@ -61,7 +61,7 @@ returns g c =
     shown_more c.self.inside.places.items (vec_len c.self.inside.places) c.self.inside.first c.place_at-place.result c.self.inside.count c.write_unit.new.place
     (omega (arith, c.self.inside.places.ok)) near c.self.invariant.0 far
     in
-    let is : shown c.write_unit.new.place ≡ u = rw (c.write_unit.ensures.number, c.write_unit.ensures.octets) refl in
-    kept_more (vec_len c.self.inside.places) (all_shown (units_from c.self.inside.places.items c.self.inside.first c.self.inside.count)) _ c.args.self.now u
+    let is : unit_value c.write_unit.new.place ≡ u = rw (c.write_unit.ensures.number, c.write_unit.ensures.octets) refl in
+    kept_more (vec_len c.self.inside.places) (unit_values (units_from c.self.inside.places.items c.self.inside.first c.self.inside.count)) _ c.args.self.now u
     c.self.view_is
-    (more ∙ ap (λ (v : Numbered). all_shown (units_from c.self.inside.places.items c.self.inside.first c.self.inside.count) ++ v ∷ []) is)
+    (more ∙ ap (λ (v : Numbered). unit_values (units_from c.self.inside.places.items c.self.inside.first c.self.inside.count) ++ v ∷ []) is)

@@ -1,7 +1,7 @@
 use Rattle.std.proofs.Common.{◌≡◌, ◌<◌, ap, arith, length, refl, subst, vec_len}
 use Rattle.std.proofs.lemmas.Bool.{false≢true}
 use Rattle.octets.specs.RingPlaces.{IsFar}
-use Rattle.safe_machine.specs.retrans.Units.{Kept, Numbered, all_shown, units_from}
+use Rattle.safe_machine.specs.retrans.Units.{Kept, Numbered, unit_values, units_from}
 use Rattle.safe_machine.proofs.RingLemmas.{kept_more, length-shown_from, ring_more, shown_more}
 use Rattle.safe_machine.proofs.UnitLemmas.{Rises-sent}
 use Rattle.safe_machine.proofs.retrans.unconfirmed.Unconfirmed.sent.Goals as goal
@@ -41,7 +41,7 @@ returns-clause-added g c =
     (c.args.number, c.args.unit)
     (omega (arith, c.self.inside.places.ok)) near c.self.invariant.0 far
     in
-    kept_more (vec_len c.self.inside.places) (all_shown (units_from c.self.inside.places.items c.self.inside.first c.self.inside.count)) _ c.args.self.now u
+    kept_more (vec_len c.self.inside.places) (unit_values (units_from c.self.inside.places.items c.self.inside.first c.self.inside.count)) _ c.args.self.now u
     c.self.view_is more
 
 pub returns-clause-room : goal.returns-clause-room
