@@ -5,6 +5,8 @@ ghost use Rattle.std.specs.Prelude.{◌≡◌, ◌≤◌, ◌^◌, IfOk, OnOk};
 
 use crate::switch::{Switch, turn};
 use end_settings::Side;
+use octets::Milliseconds;
+use octets::limits::TIME_MAX;
 use safe_machine::ConnectionState;
 use settings_file::{Ends, Settings, SettingsFault, Subcommand, settings};
 use stack_end::{End, OpenFault};
@@ -18,11 +20,8 @@ use std::{env, fs};
 use thiserror::Error;
 use udp_channels::{UdpChannels, UdpFault, Watch, open_udp};
 
-/// The greatest time that an end accepts, in milliseconds.
-const TIME_MAX: u64 = 1 << 62;
-
 /// The longest wait between two turns, in milliseconds, so that the application can change its wish.
-const REST_MAX: u64 = 100;
+const REST_MAX: Milliseconds = 100;
 
 /// The limit of turns; never reached.
 const MOST: u32 = u32::MAX;
@@ -191,7 +190,7 @@ fn first_number<R: Files>(rt: &R, stated: Option<u32>) -> Result<u32, Stop> {
 }
 
 /// Returns the milliseconds since the start, never less than the last reading.
-fn read<K: Clock>(system: &K, began: Instant, last: u64) -> Result<u64, Stop>
+fn read<K: Clock>(system: &K, began: Instant, last: Milliseconds) -> Result<Milliseconds, Stop>
     requires { last ≤ 2 ^ 62 }
     // The reading is at least the last one, and at most 2^62.
     ensures { IfOk result (λ now. (last ≤ now) × (now ≤ 2 ^ 62)) }
@@ -206,7 +205,7 @@ fn read<K: Clock>(system: &K, began: Instant, last: u64) -> Result<u64, Stop>
 }
 
 /// Returns how many milliseconds to wait until the end has something to do.
-fn rest(deadline: Option<u64>, now: u64) -> u64 {
+fn rest(deadline: Option<Milliseconds>, now: Milliseconds) -> Milliseconds {
     match deadline {
         Some(at) => at.saturating_sub(now).min(REST_MAX),
         None => REST_MAX,

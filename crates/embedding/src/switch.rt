@@ -3,6 +3,7 @@
 ghost use Rattle.std.specs.Prelude.{◌≡◌, ◌≤◌, ◌^◌, ◌/◌, ◌%◌, ◌==◌};
 
 use channels::Channels;
+use octets::Milliseconds;
 use pdi_session::{Phase, Taker};
 use stack_end::{End, PollFault};
 
@@ -30,7 +31,7 @@ impl Taker for Switch {
 
 impl Switch {
     /// Decides by the clock, in milliseconds, whether the output should be on.
-    pub fn want(&mut self, now: u64)
+    pub fn want(&mut self, now: Milliseconds)
         // The output should be on in every second with an even number.
         ensures wanted { self.new.is_wanted ≡ (now / 1_000 % 2 == 0) }
         // The reported state stays the same.
@@ -51,7 +52,11 @@ impl Switch {
 ///
 /// Returns the fault of `End::poll` if a channel fails. Everything received before it stays taken; the next turn
 /// tries again.
-pub fn turn<C: Channels>(end: &mut End<C>, now: u64, switch: &mut Switch) -> Result<(), PollFault>
+pub fn turn<C: Channels>(
+    end: &mut End<C>,
+    now: Milliseconds,
+    switch: &mut Switch,
+) -> Result<(), PollFault>
     requires later { end.old.time ≤ now }
     requires now { now ≤ 2 ^ 62 }
     // After a `turn`, the time of the end is at most the time of this turn.

@@ -1,7 +1,7 @@
 -- Why a call of a station is refused, and what it does to the end and to the queues.
 use Rattle.std.specs.Prelude.{◌≡◌, ◌==◌, ℕ, ◌+◌, ◌*◌, ◌^◌, ◌≤◌, Bool, true, false, not, ◌&&◌, nat_le, Option, Some, None}
 use Rattle.std.specs.Prelude.{option_map, List, length, if◌then◌else◌}
-use Rattle.octets.specs.declared.limits.TheConstants.{PAYLOAD_MAX, Q_MAX, RED_PDU_MAX, WINDOW_MAX}
+use Rattle.octets.specs.declared.limits.TheConstants.{PAYLOAD_MAX, Q_MAX, RED_PDU_MAX, WINDOW_MAX, TIME_MAX}
 use Rattle.stack_end.specs.Ends.{Call, time_of}
 use Rattle.stack_end.specs.EndValue.{EndValue, channels_of, inside}
 use Rattle.stack_end.specs.Turns.{Inside, init_answer, is_over, put_answer, turn}
@@ -71,7 +71,7 @@ outbox_of s = channels_of s.end
 
 -- a time in range: not before the last accepted call, and at most 2^62
 abbrev pub is_time : ℕ → StationValue → Bool
-is_time now s = nat_le s.time now && nat_le now (2 ^ 62)
+is_time now s = nat_le s.time now && nat_le now TIME_MAX
 
 -- how many datagrams must have room before a call: on each channel the PDUs of one part and a retransmission. The peer sets how many of this end's PDUs can
 -- wait for confirmation, so the window counted is the greatest that a peer may have.
@@ -81,7 +81,7 @@ reserve_of s = (WINDOW_MAX + PART_PDUS) * s.channels
 -- the first reason to refuse an opening, if any, except a failed allocation
 abbrev pub refusal_to_open : Side → EndSettings → Rooms → ℕ → Option StationFault
 refusal_to_open side settings rooms now =
-    if not (nat_le now (2 ^ 62)) then Some opening.Time
+    if not (nat_le now TIME_MAX) then Some opening.Time
     else if not (are_fit (side_of side) settings) then Some opening.BadConfig
     else if not (nat_le CALL_TELEGRAMS rooms.telegrams && nat_le (reserve_of settings) rooms.datagrams) then Some opening.Rooms
     else None
@@ -224,6 +224,6 @@ pub record IsDeadline (next : Option ℕ) (v : Inside) : Type 0 where
   -- an open end stays as it is at a tick before the deadline
   pub before : is_over v ≡ false → (now : ℕ) → IsBefore now next → IsQuiet now v
   -- from the deadline on a tick has an effect
-  pub after : (now : ℕ) → now ≤ 2 ^ 62 → IsReachedAt now next → HasFallen now v
+  pub after : (now : ℕ) → now ≤ TIME_MAX → IsReachedAt now next → HasFallen now v
   -- a closed end has no deadline
   pub closed : is_over v ≡ true → next ≡ None

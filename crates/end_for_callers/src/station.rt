@@ -11,7 +11,7 @@ ghost use Rattle.stack_end.specs.EndValue.{EndStands, channels_of, inside};
 ghost use Rattle.end_for_callers.specs.Boxes.{Posted, new_outgoing, shares_of, told_of};
 ghost use Rattle.end_for_callers.specs.Notes.{heard_anew, next_of, rest_of};
 ghost use Rattle.end_for_callers.specs.Loads.{each_aside};
-ghost use Rattle.octets.specs.declared.limits.TheConstants.{CHANNELS_MAX, PAYLOAD_MAX, RED_PDU_MAX, WINDOW_MAX};
+ghost use Rattle.octets.specs.declared.limits.TheConstants.{CHANNELS_MAX, PAYLOAD_MAX, RED_PDU_MAX, WINDOW_MAX, TIME_MAX};
 ghost use Rattle.end_for_callers.specs.declared.Outcome.TheVariants as ended;
 ghost use Rattle.end_for_callers.specs.Calls.{Does, LosesNone, Reopens, SameButDatagrams, SameButNotes, SameButTelegrams, is_time, outbox_of, outcome_of, refusal, refusal_to_init, refusal_to_open, refusal_to_reopen, refusal_to_put, refusal_to_send, has_room, reserve_of, seen_end};
 ghost use Rattle.end_for_callers.specs.Queues.{Popped, new_queue};
@@ -25,15 +25,12 @@ use crate::queue::{Queue, TooSmall};
 use crate::{CALL_TELEGRAMS, CallFault, Outcome, PART_PDUS, StationFault};
 use end_settings::{EndConfig, Side};
 use octets::Milliseconds;
-use octets::limits::{PAYLOAD_MAX, RED_PDU_MAX, WINDOW_MAX};
+use octets::limits::{PAYLOAD_MAX, RED_PDU_MAX, TIME_MAX, WINDOW_MAX};
 use pdi_session::Phase;
 use safe_machine::ConnectionState;
 use stack_end::{Departure, End, OpenFault, Statistics};
 use std::alloc::Global;
 use std::marker::Model;
-
-/// The latest time, in milliseconds.
-const TIME_MAX: u64 = 1 << 62;
 
 /// The room of the two queues.
 #[derive(Clone, Copy, Debug, PartialEq, Eq)]
@@ -55,7 +52,7 @@ pub struct Station {
     /// The telegrams that wait.
     inbox: Inbox,
     /// The time of the last accepted call, in milliseconds.
-    time: u64,
+    time: Milliseconds,
     /// How many datagrams must have room before a call.
     reserve: usize,
 }
@@ -70,7 +67,7 @@ impl Model for Station {
 
     ghost view = { λ s. record { end = seen_end s.end; inbox = s.inbox; time = s.time; reserve = s.reserve } };
 
-    ghost invariant = { λ s. (s.end.time ≤ s.time) × (s.time ≤ 2 ^ 62) × (s.reserve < 2 ^ 32) × IsReady s.reserve (inside s.end) };
+    ghost invariant = { λ s. (s.end.time ≤ s.time) × (s.time ≤ TIME_MAX) × (s.reserve < 2 ^ 32) × IsReady s.reserve (inside s.end) };
 }
 
 impl Station {

@@ -84,6 +84,9 @@ pub const T_SEQ_LOWEST: u64 = 10;
 /// The greatest T_seq, in milliseconds.
 pub const T_SEQ_MAX: u64 = 1_000;
 
+/// The greatest time of a clock, in milliseconds.
+pub const TIME_MAX: u64 = 1 << 62;
+
 /// The longest safety PDU without its safety code: the header and a longest unit.
 pub const SAFE_FRONT_MAX: usize = SAFE_HEADER + UNIT_MAX;
 
@@ -92,6 +95,8 @@ pub const SAFE_PDU_MAX: usize = SAFE_FRONT_MAX + CODE_MAX;
 
 /// The longest redundancy PDU.
 pub const RED_PDU_MAX: usize = RED_HEADER + SAFE_PDU_MAX;
+
+const _: () = prove!(TIME_MAX == 4_611_686_018_427_387_904);
 
 const _: () = prove!(MESSAGE_MAX == 400);
 
@@ -113,7 +118,7 @@ pub fn limits_law()
     // At most 32 units are unconfirmed, 16 taken without sending, 64 messages waiting, 4 channels open and
     // 8 parts deferred; the reach is 10 times the window or q.
     ensures counts { CountsAre }
-    // T_max is 100 to 60,000 ms, T_h at least 10 ms, T_seq 10 to 1,000 ms, and the PDU limit 100 to
-    // 4,294,901,760.
+    // T_max is 100 to 60,000 ms, T_h at least 10 ms, T_seq 10 to 1,000 ms, a time at most 2^62 ms, and the PDU
+    // limit 100 to 4,294,901,760.
     ensures ranges { RangesAre }
 {}

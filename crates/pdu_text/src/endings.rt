@@ -11,6 +11,7 @@ use crate::names::{phase_name, state_name};
 use crate::pieces::write_front;
 use crate::write_text;
 use end_settings::Side;
+use octets::Milliseconds;
 use pdi_session::Phase;
 use safe_machine::ConnectionState;
 use safe_pdu::Leaving;
@@ -52,7 +53,7 @@ pub struct FinalState {
 #[tactic(auto, unfolding(crate::specs::Pieces::log_line, crate::specs::Endings::ending_text))]
 pub fn write_ending<W: Write>(
     writer: &mut W,
-    at: u64,
+    at: Milliseconds,
     side: Side,
     ending: &FinalState,
 ) -> io::Result<()>

@@ -11,6 +11,7 @@ use crate::names::{phase_name, state_name};
 use crate::pieces::write_front;
 use crate::write_text;
 use end_settings::Side;
+use octets::Milliseconds;
 use pdi_session::{InitFault, Phase, PutFault};
 use safe_machine::ConnectionState;
 use safe_pdu::Leaving;
@@ -54,7 +55,7 @@ pub enum EndEvent {
 #[tactic(auto, unfolding(crate::specs::Pieces::log_line))]
 pub fn write_happening<W: Write>(
     writer: &mut W,
-    at: u64,
+    at: Milliseconds,
     side: Side,
     happening: EndEvent,
 ) -> io::Result<()>
@@ -210,7 +211,7 @@ fn write_channel_front<W: Write>(writer: &mut W, channel: usize) -> io::Result<(
 #[tactic(auto, unfolding(crate::specs::Pieces::log_line))]
 pub fn write_channel<W: Write>(
     writer: &mut W,
-    at: u64,
+    at: Milliseconds,
     side: Side,
     channel: usize,
     local: &str,
@@ -250,7 +251,12 @@ fn write_opened<W: Write>(
 ///
 /// The writer's error; what came before it remains written.
 #[tactic(auto, unfolding(crate::specs::Pieces::log_line))]
-pub fn write_missed<W: Write>(writer: &mut W, at: u64, side: Side, count: u64) -> io::Result<()>
+pub fn write_missed<W: Write>(
+    writer: &mut W,
+    at: Milliseconds,
+    side: Side,
+    count: u64,
+) -> io::Result<()>
     // If it succeeds, `write_missed` has appended a line: the time in seconds, the name of the end, and how
     // many lines were left out.
     ensures { OnOk result (Appends (W.contents writer.old) (W.contents writer.new)

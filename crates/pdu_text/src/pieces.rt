@@ -6,12 +6,13 @@ ghost use Rattle.pdu_text.specs.Pieces.{front_text, three_digits, time_text};
 
 use crate::names::side_name;
 use end_settings::Side;
+use octets::Milliseconds;
 use std::io;
 use std::io::Write;
 
 /// Writes the time and the end at the start of a line.
 #[tactic(auto, unfolding(crate::specs::Pieces::front_text))]
-pub(crate) fn write_front<W: Write>(writer: &mut W, at: u64, side: Side) -> io::Result<()>
+pub(crate) fn write_front<W: Write>(writer: &mut W, at: Milliseconds, side: Side) -> io::Result<()>
     // If it succeeds, `write_front` has appended the time in seconds, a space, the name of the end and a
     // space.
     ensures { OnOk result (Appends (W.contents writer.old) (W.contents writer.new) (front_text at side)) }
@@ -23,7 +24,7 @@ pub(crate) fn write_front<W: Write>(writer: &mut W, at: u64, side: Side) -> io::
 
 /// Writes milliseconds as seconds with three decimals.
 #[tactic(auto, unfolding(crate::specs::Pieces::time_text))]
-pub(crate) fn write_time<W: Write>(writer: &mut W, ms: u64) -> io::Result<()>
+pub(crate) fn write_time<W: Write>(writer: &mut W, ms: Milliseconds) -> io::Result<()>
     // If it succeeds, `write_time` has appended the whole seconds in decimal, a point, and three digits of
     // milliseconds.
     ensures { OnOk result (Appends (W.contents writer.old) (W.contents writer.new) (time_text ms)) }

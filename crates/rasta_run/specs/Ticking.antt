@@ -1,9 +1,6 @@
 -- The clock of a run: whole milliseconds since it began, which never decrease.
 use Rattle.std.specs.Prelude.{ℕ, ◌-◌, ◌/◌, ◌^◌, max}
-
--- the greatest time that an end accepts, in milliseconds
-abbrev pub greatest_time : ℕ
-greatest_time = 2 ^ 62
+use Rattle.octets.specs.declared.limits.TheConstants.{TIME_MAX}
 
 -- the milliseconds between two readings of the system's clock in nanoseconds
 abbrev pub millis_between : ℕ → ℕ → ℕ

@@ -1,5 +1,6 @@
 -- How long a run waits after a turn.
 use Rattle.std.specs.Prelude.{◌≡◌, ℕ, ◌+◌, ◌-◌, ◌^◌, ◌≤◌, nat_eq, Bool, true, false, min, Option, Some, None, if◌then◌else◌}
+use Rattle.octets.specs.declared.limits.TheConstants.{TIME_MAX}
 use Rattle.rasta_words.specs.declared.status.RunLength.{RunLength}
 use Rattle.rasta_words.specs.declared.status.RunLength.TheVariants.{Turns, UntilEnd}
 use Rattle.safe_machine.specs.Deadlines.{IsBefore, IsReachedAt}
@@ -30,5 +31,5 @@ again_at deaf last = if nat_eq deaf 0 then None else Some (min (last + 10) (2 ^ 
 -- the deadline of an end: a tick before it does nothing, and one at or after it does something; a closed end has none
 abbrev pub IsDeadlineOf : Inside → Option ℕ → Type 0
 IsDeadlineOf v own =
-    (is_over v ≡ false → (now : ℕ) → IsBefore now own → IsQuiet now v) × ((now : ℕ) → now ≤ 2 ^ 62 → IsReachedAt now own → HasFallen now v)
+    (is_over v ≡ false → (now : ℕ) → IsBefore now own → IsQuiet now v) × ((now : ℕ) → now ≤ TIME_MAX → IsReachedAt now own → HasFallen now v)
     × (is_over v ≡ true → own ≡ None)

@@ -37,11 +37,11 @@ pub struct Teller {
     /// The end.
     side: Side,
     /// T_max of the end, in milliseconds.
-    t_max: u64,
+    t_max: Milliseconds,
     /// The form and the time between two times; `None` if nothing is printed.
     telling: Option<CountsRequest>,
     /// When counts are printed next before the end, in milliseconds.
-    pub next: Option<u64>,
+    pub next: Option<Milliseconds>,
     /// When each channel last received something.
     heard: [ChannelSilence; CHANNELS_MAX],
     /// The number of channels.
@@ -52,10 +52,10 @@ impl Teller {
     /// Returns the printer of counts for an end that is opened now.
     pub fn new(
         side: Side,
-        t_max: u64,
+        t_max: Milliseconds,
         telling: Option<CountsRequest>,
         count: usize,
-        now: u64,
+        now: Milliseconds,
     ) -> Self
         // A new printer is of this end, has this form and number of channels, and prints next after the seconds of
         // the form. Nothing has come on any channel.
@@ -237,7 +237,7 @@ impl Teller {
 }
 
 /// Returns when counts are printed next, in milliseconds.
-fn next_after(telling: Option<CountsRequest>, now: u64) -> Option<u64>
+fn next_after(telling: Option<CountsRequest>, now: Milliseconds) -> Option<Milliseconds>
     // `next_after` returns the time after the seconds of the form, if there is a form that has some.
     ensures { result ≡ counts.next_after telling now }
 {
@@ -248,7 +248,7 @@ fn next_after(telling: Option<CountsRequest>, now: u64) -> Option<u64>
 }
 
 /// Returns the time that is some seconds later, in milliseconds.
-fn next_every(every: Option<u32>, now: u64) -> Option<u64>
+fn next_every(every: Option<u32>, now: Milliseconds) -> Option<Milliseconds>
     // `next_every` returns the time after the seconds, and `None` without any.
     ensures { result ≡ counts.next_every every now }
 {
@@ -259,7 +259,12 @@ fn next_every(every: Option<u32>, now: u64) -> Option<u64>
 }
 
 /// Returns when counts are printed next, after a look.
-fn next_by(is_due: bool, telling: Option<CountsRequest>, next: Option<u64>, now: u64) -> Option<u64>
+fn next_by(
+    is_due: bool,
+    telling: Option<CountsRequest>,
+    next: Option<Milliseconds>,
+    now: Milliseconds,
+) -> Option<Milliseconds>
     // `next_by` returns a new time if counts are due, and else the time so far.
     ensures { result ≡ counts.next_by is_due telling next now }
 {
@@ -293,7 +298,7 @@ fn is_block(form: CountsForm) -> bool
 }
 
 /// Returns whether counts are due.
-fn is_due(next: Option<u64>, now: u64) -> bool
+fn is_due(next: Option<Milliseconds>, now: Milliseconds) -> bool
     // `is_due` is true if and only if there is a next time and it is reached.
     ensures { result ≡ counts.is_due next now }
 {
@@ -313,7 +318,7 @@ fn is_due(next: Option<u64>, now: u64) -> bool
 pub fn write_channel<W: Write>(
     writer: &mut W,
     form: LineForm,
-    at: u64,
+    at: Milliseconds,
     side: Side,
     channel: usize,
     receptions: &ReceptionCounts,
@@ -358,10 +363,10 @@ pub fn write_channel<W: Write>(
 pub fn write_connection<W: Write>(
     writer: &mut W,
     form: LineForm,
-    at: u64,
+    at: Milliseconds,
     side: Side,
     counted: &RunCounts,
-    t_max: u64,
+    t_max: Milliseconds,
 ) -> io::Result<()>
     // If `write_connection` succeeds, it has appended the line of the connection with its PDUs made and received,
     // its confirmations and its telegrams.
@@ -385,7 +390,7 @@ pub fn write_connection<W: Write>(
 fn write_pdus<W: Write>(
     writer: &mut W,
     form: LineForm,
-    at: u64,
+    at: Milliseconds,
     counted: &RunCounts,
 ) -> io::Result<()>
     // If `write_pdus` succeeds, it has appended the time, the PDUs made, accepted and dropped, and the confirmed units.
@@ -408,7 +413,7 @@ fn write_pdus<W: Write>(
 }
 
 /// Returns the least time that was left to T_max, in milliseconds.
-pub fn margin_of(oldest: Option<u64>, t_max: u64) -> Option<u64>
+pub fn margin_of(oldest: Option<Milliseconds>, t_max: Milliseconds) -> Option<Milliseconds>
     // `margin_of` returns T_max minus the greatest age, at least 0, and `None` if there is no age.
     ensures { result ≡ counts.margin_of oldest t_max }
 {

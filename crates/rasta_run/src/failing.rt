@@ -26,7 +26,7 @@ pub struct CallFailures {
     /// How many calls had failed then.
     pub failed: u64,
     /// When that was, in milliseconds.
-    pub at: u64,
+    pub at: Milliseconds,
     /// How many had failed before they began to fail.
     pub before: u64,
     /// Whether it was logged that they fail.

@@ -17,6 +17,7 @@ ghost use Rattle.stack_end.specs.Deadlines.{earliest};
 ghost use Rattle.stack_end.specs.EndValue.{EndTurnsAlone, channels_of, inside, statistics_of};
 ghost use Rattle.stack_end.specs.Turns.{above, closes, is_settled};
 ghost use Rattle.std.specs.Io.KnownBytes.{Appends};
+ghost use Rattle.octets.specs.declared.limits.TheConstants.{TIME_MAX};
 
 use crate::metrics::Sample;
 use crate::noticing::Notice;
@@ -161,7 +162,7 @@ impl<C: Channels, A: Allocator + Copy> Actor<'_, C, A> {
 
     /// Disconnects, and logs the events.
     pub fn close<E: Write>(&mut self, now: Milliseconds, err: &mut E)
-        requires now { now ≤ 2 ^ 62 }
+        requires now { now ≤ TIME_MAX }
         requires later { self.old.end.time ≤ now }
         // `close` disconnects the end, which sends a DiscReq if it has a connection.
         ensures closed { EndTurnsAlone (λ o. C.told o.inner) (above (closes now)) self.old.end self.new.end }

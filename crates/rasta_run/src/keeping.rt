@@ -24,13 +24,13 @@ pub struct Keeper {
     /// When it was last opened, in milliseconds.
     pub opened: u64,
     /// Since when it is stale, in milliseconds; `None` if it is not.
-    pub left: Option<u64>,
+    pub left: Option<Milliseconds>,
     /// Whether this opening got a session.
     pub had_session: bool,
     /// The number of openings in a row before this one that got no session.
     pub fruitless: u64,
     /// When the log last had that number, in milliseconds.
-    pub counted_at: u64,
+    pub counted_at: Milliseconds,
 }
 
 impl Keeper {
@@ -74,7 +74,7 @@ impl Keeper {
     }
 
     /// Returns how long it is until an end that is stale since `left` is opened again, in milliseconds.
-    fn rest_of(&self, side: Side, left: Milliseconds, now: Milliseconds) -> u64
+    fn rest_of(&self, side: Side, left: Milliseconds, now: Milliseconds) -> Milliseconds
         // `rest_of` returns the rest of T_max/4 since an interlocking was found stale, or of the pause since it was
         // opened, if that is longer; and for a field element the rest of T_max/8 since it was opened.
         ensures { result ≡ keeping.rest_of side self.now left now }
@@ -129,7 +129,7 @@ impl Keeper {
 }
 
 /// Returns since when an end is stale.
-fn left_by(before: Option<u64>, is_stale: bool, now: Milliseconds) -> Option<u64>
+fn left_by(before: Option<Milliseconds>, is_stale: bool, now: Milliseconds) -> Option<Milliseconds>
     // `left_by` returns the time so far, or `now`, for a stale end, and `None` for any other.
     ensures { result ≡ keeping.left_by before is_stale now }
 {
@@ -163,7 +163,7 @@ fn row_after(had_session: bool, fruitless: u64) -> u64
 }
 
 /// Returns the least time between two openings of an interlocking, in milliseconds.
-fn pause_of(fruitless: u64, t_max: Milliseconds) -> u64
+fn pause_of(fruitless: u64, t_max: Milliseconds) -> Milliseconds
     // `pause_of` returns T_max/4, T_max/2 after one opening without a session, and T_max after more in a row.
     ensures { result ≡ keeping.pause_of fruitless t_max }
 {
@@ -175,7 +175,7 @@ fn pause_of(fruitless: u64, t_max: Milliseconds) -> u64
 }
 
 /// Returns whether a wait is over.
-pub fn is_wait_over(until: Option<u64>) -> bool
+pub fn is_wait_over(until: Option<Milliseconds>) -> bool
     // `is_wait_over` is true if and only if there is a wait, and nothing of it is left.
     ensures { result ≡ keeping.is_wait_over until }
 {
@@ -186,7 +186,7 @@ pub fn is_wait_over(until: Option<u64>) -> bool
 }
 
 /// Returns when a wait that begins now is over.
-pub fn end_of_wait(until: Option<u64>, now: Milliseconds) -> Option<Milliseconds>
+pub fn end_of_wait(until: Option<Milliseconds>, now: Milliseconds) -> Option<Milliseconds>
     // `end_of_wait` returns the end of the wait, at most 2^64 - 1, and `None` without a wait.
     ensures { result ≡ keeping.end_of_wait until now }
 {

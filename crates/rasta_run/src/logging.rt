@@ -62,7 +62,7 @@ pub struct ChannelSilence {
     /// How many datagrams it had received then.
     pub came: u64,
     /// When it received the last one, in milliseconds.
-    pub at: u64,
+    pub at: Milliseconds,
     /// Whether it was logged as silent.
     pub silent: bool,
 }

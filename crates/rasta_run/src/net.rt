@@ -3,6 +3,7 @@
 //! At the end of input an end disconnects with a DiscReq, so that its peer need not wait for T_max.
 
 ghost use Rattle.std.specs.Prelude.{◌≡◌, ◌≢◌, ◌≤◌, ◌<◌, ◌^◌, ℕ, false, true, is_ok, is_some, length, IfOk, IfSome, None};
+ghost use Rattle.octets.specs.declared.limits.TheConstants.{TIME_MAX};
 ghost use Rattle.settings_file.specs.Whole.{ends_of};
 ghost use Rattle.rasta_run.specs.Reading.{settings_most};
 ghost use Rattle.rasta_run.specs.Pending.{longest_patience, unless_unread};
@@ -251,7 +252,7 @@ fn open_second<'a, R: Net + Clock + Files, E: Write>(
     now: Milliseconds,
     err: &mut E,
 ) -> Result<Option<Actor<'a, UdpChannels>>, StopCause>
-    requires { now ≤ 2 ^ 62 }
+    requires { now ≤ TIME_MAX }
     // If `open_second` succeeds, there is an end if and only if there are settings for it.
     ensures some { IfOk result (λ actor. is_some actor ≡ is_some second.entry) }
     // The time of an end that `open_second` returns is at most `now`.
@@ -280,7 +281,7 @@ fn open_side<'a, R: Net + Clock + Files, E: Write>(
     now: Milliseconds,
     err: &mut E,
 ) -> Result<Actor<'a, UdpChannels>, StopCause>
-    requires { now ≤ 2 ^ 62 }
+    requires { now ≤ TIME_MAX }
     // The time of the end that `open_side` returns is at most `now`.
     ensures time { IfOk result (λ actor. actor.end.time ≤ now) }
     // The end that `open_side` returns is of this side.
@@ -333,7 +334,7 @@ fn open_end<'a, D: Draw>(
     run: &Run,
     now: Milliseconds,
 ) -> Result<Actor<'a, UdpChannels>, Fault>
-    requires { now ≤ 2 ^ 62 }
+    requires { now ≤ TIME_MAX }
     // The end that `open_end` returns is newly opened on this side at this time, with the settings of the file. Its
     // first sequence number is that of the file, or else it was drawn.
     ensures opened { IfOk result (λ actor. (number : ℕ) × Begins D.draws settings.now.first_sn source.old number source.new

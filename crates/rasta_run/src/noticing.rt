@@ -298,7 +298,11 @@ pub fn wrong_request_notice(is_first: bool) -> Option<Notice>
 }
 
 /// Returns since when a retransmission is awaited.
-pub fn asked_by(before: Option<u64>, state: ConnectionState, now: Milliseconds) -> Option<u64>
+pub fn asked_by(
+    before: Option<Milliseconds>,
+    state: ConnectionState,
+    now: Milliseconds,
+) -> Option<Milliseconds>
     // `asked_by` returns the time so far, or `now`, for an end that awaits one, and `None` for any other.
     ensures { result ≡ telling.asked_by before state now }
 {

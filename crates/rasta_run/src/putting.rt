@@ -1,6 +1,7 @@
 //! The telegrams that an end puts: those of its list, and those of input.
 
 ghost use Rattle.std.specs.Prelude.{◌≡◌, ◌≢◌, ◌+◌, ◌≤◌, ◌^◌, false, is_some, length, ◌==◌, true, IfOk, OnOk};
+ghost use Rattle.octets.specs.declared.limits.TheConstants.{TIME_MAX};
 ghost use Rattle.pdi_session.specs.FaultNames.{init_fault_name, put_fault_name};
 ghost use Rattle.rasta_run.specs.Feeding.{Input, input_of};
 ghost use Rattle.rasta_run.specs.Putting.{CompletesIf, Offers, PutsBeginning, TakesInputIf, TakesLine, TakesFound, TakesNext, is_full, refusals_after};
@@ -49,7 +50,7 @@ impl<C: Channels, A: Allocator + Copy> Actor<'_, C, A> {
         app: &mut T,
         err: &mut E,
     ) -> Result<(), Fault>
-        requires now { now ≤ 2 ^ 62 }
+        requires now { now ≤ TIME_MAX }
         requires later { self.old.end.time ≤ now }
         // If `put_now` succeeds, an interlocking with an established session, or a field element that initialises,
         // has put what it has room for. With nothing left, the field element has ended its initialisation.
@@ -130,7 +131,7 @@ impl<C: Channels, A: Allocator + Copy> Actor<'_, C, A> {
         app: &mut T,
         err: &mut E,
     ) -> Result<(), Fault>
-        requires now { now ≤ 2 ^ 62 }
+        requires now { now ≤ TIME_MAX }
         requires later { self.old.end.time ≤ now }
         // If `put_left_if` succeeds, it has put what the end has room for, or nothing if `puts` is false.
         ensures puts { OnOk result (PutsIf (λ o. C.told o.inner) T.refuses now puts
@@ -177,7 +178,7 @@ impl<C: Channels, A: Allocator + Copy> Actor<'_, C, A> {
         app: &mut T,
         err: &mut E,
     ) -> Result<(), Fault>
-        requires now { now ≤ 2 ^ 62 }
+        requires now { now ≤ TIME_MAX }
         requires later { self.old.end.time ≤ now }
         // If `put_left` succeeds, it has put a prefix of the telegrams in order, each once, up to the first for
         // which the end is `Full`. One that is refused is counted. Exactly the rest is left.
@@ -221,7 +222,7 @@ impl<C: Channels, A: Allocator + Copy> Actor<'_, C, A> {
         app: &mut T,
         err: &mut E,
     ) -> Result<PutOutcome, Fault>
-        requires now { now ≤ 2 ^ 62 }
+        requires now { now ≤ TIME_MAX }
         requires later { self.old.end.time ≤ now }
         // If `put_one` succeeds, the telegram was put and counted; or it was refused, and the application knows; or
         // the end is `Full` for it, and nothing has changed.
@@ -278,7 +279,7 @@ impl<C: Channels, A: Allocator + Copy> Actor<'_, C, A> {
         app: &mut T,
         err: &mut E,
     ) -> Result<bool, Fault>
-        requires now { now ≤ 2 ^ 62 }
+        requires now { now ≤ TIME_MAX }
         requires later { self.old.end.time ≤ now }
         // If `put_lines` succeeds and it is the time for lines, it has taken up to 256 of them in order, each once:
         // it has put the telegram, or it was refused and counted, or the line is not one and was counted. It stops
@@ -321,7 +322,7 @@ impl<C: Channels, A: Allocator + Copy> Actor<'_, C, A> {
         app: &mut T,
         err: &mut E,
     ) -> Result<bool, Fault>
-        requires now { now ≤ 2 ^ 62 }
+        requires now { now ≤ TIME_MAX }
         requires later { self.old.end.time ≤ now }
         // If `put_line` returns true, it has taken the next line: its telegram was put or refused, or it is not one.
         // If it returns false, no line was there, or the end is `Full` for its telegram, which stays.
@@ -354,7 +355,7 @@ impl<C: Channels, A: Allocator + Copy> Actor<'_, C, A> {
         app: &mut T,
         err: &mut E,
     ) -> Result<bool, Fault>
-        requires now { now ≤ 2 ^ 62 }
+        requires now { now ≤ TIME_MAX }
         requires later { self.old.end.time ≤ now }
         // If `put_next` returns true, it has put the next telegram, or has counted that it was refused, and no
         // telegram is next. If it returns false, the end is `Full` for the next telegram, which stays.
@@ -395,7 +396,7 @@ impl<C: Channels, A: Allocator + Copy> Actor<'_, C, A> {
         app: &mut T,
         err: &mut E,
     ) -> Result<(), Fault>
-        requires now { now ≤ 2 ^ 62 }
+        requires now { now ≤ TIME_MAX }
         requires later { self.old.end.time ≤ now }
         // If `end_initialising_if` succeeds and `ends` is true, the initialisation is ended, or has to wait for room,
         // or that was refused and the application knows. If `ends` is false, nothing has changed.

@@ -12,6 +12,7 @@ ghost use Rattle.stack_end.specs.EndValue.{EndStands, channels_of, inside, stati
 ghost use Rattle.stack_end.specs.Ends.{opened_end};
 ghost use Rattle.stack_end.specs.Stale.{is_stale};
 ghost use Rattle.std.specs.List.{FoldsTo};
+ghost use Rattle.octets.specs.declared.limits.TheConstants.{TIME_MAX};
 ghost use Rattle.udp_channels.specs.Sockets.{told_of};
 
 use crate::RecordedChannels;
@@ -156,7 +157,7 @@ impl Actor<'_, UdpChannels> {
         now: Milliseconds,
         err: &mut E,
     ) -> Result<bool, Fault>
-        requires now { now ≤ 2 ^ 62 }
+        requires now { now ≤ TIME_MAX }
         requires later { self.old.end.time ≤ now }
         // `keep` opens the end again if and only if it is kept, it is stale and its wait is over.
         ensures anew { IfOk result (λ anew. anew ≡ keeping.opens_anew self.old.is_kept self.old.side (is_stale (inside self.old.end))

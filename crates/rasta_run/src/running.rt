@@ -1,13 +1,13 @@
 //! One end, or an interlocking and a field element in one process, which take turns.
 
 ghost use Rattle.std.specs.Prelude.{◌≡◌, ℕ, ◌≤◌, ◌+◌, ◌%◌, ◌^◌, ◌&&◌, ◌==◌, None, true, IfOk, IfSome, OnOk};
+ghost use Rattle.octets.specs.declared.limits.TheConstants.{TIME_MAX};
 ghost use Rattle.rasta_run.specs.Acting as acting;
 ghost use Rattle.rasta_run.specs.Counting.{counted_of};
 ghost use Rattle.rasta_run.specs.Counts.{look};
 ghost use Rattle.rasta_run.specs.Failing.{all_failures};
 ghost use Rattle.rasta_run.specs.Pending.{unread_lines};
 ghost use Rattle.rasta_run.specs.Progress.{limit_after};
-ghost use Rattle.rasta_run.specs.Ticking.{greatest_time};
 ghost use Rattle.rasta_run.specs.Undone.{is_nothing};
 ghost use Rattle.stack_end.specs.EndValue.{channels_of, statistics_of};
 
@@ -63,10 +63,10 @@ impl Runner<'_> {
         streams: &mut Streams<O, E>,
     ) -> Result<(), Fault>
         requires later { (self.old.first.end.time ≤ clock.old.last) × IfSome self.old.second (λ a. a.end.time ≤ clock.old.last) }
-        requires bounded { clock.old.last ≤ greatest_time }
+        requires bounded { clock.old.last ≤ TIME_MAX }
         // After `take_turns` no end is later than the last reading of the clock, which is at most 2^62 ms.
         ensures later { (self.new.first.end.time ≤ clock.new.last) × IfSome self.new.second (λ a. a.end.time ≤ clock.new.last)
-            × (clock.new.last ≤ greatest_time) }
+            × (clock.new.last ≤ TIME_MAX) }
         // If `take_turns` succeeds, it has read the clock once for each of its `turns`, and taken that many.
         ensures taken { OnOk result ((clock.new.readings ≡ (clock.old.readings + turns) % 2 ^ 64)
             × (self.new.turns ≡ (self.old.turns + turns) % 2 ^ 64)) }
@@ -103,10 +103,10 @@ impl Runner<'_> {
         streams: &mut Streams<O, E>,
     ) -> Result<u64, Fault>
         requires later { (self.old.first.end.time ≤ clock.old.last) × IfSome self.old.second (λ a. a.end.time ≤ clock.old.last) }
-        requires bounded { clock.old.last ≤ greatest_time }
+        requires bounded { clock.old.last ≤ TIME_MAX }
         // After `run_until_end` no end is later than the last reading of the clock, which is at most 2^62 ms.
         ensures { (self.new.first.end.time ≤ clock.new.last) × IfSome self.new.second (λ a. a.end.time ≤ clock.new.last)
-            × (clock.new.last ≤ greatest_time) }
+            × (clock.new.last ≤ TIME_MAX) }
     {
         let mut feed = Feed::open(alloc, &mut streams.gate, watch, rt.reader())?;
         let ran = self.take_fed_turns(rt, alloc, clock, watch, &mut feed, streams);
@@ -125,10 +125,10 @@ impl Runner<'_> {
         streams: &mut Streams<O, E>,
     ) -> Result<(), Fault>
         requires later { (self.old.first.end.time ≤ clock.old.last) × IfSome self.old.second (λ a. a.end.time ≤ clock.old.last) }
-        requires bounded { clock.old.last ≤ greatest_time }
+        requires bounded { clock.old.last ≤ TIME_MAX }
         // After `take_fed_turns` no end is later than the last reading of the clock, which is at most 2^62 ms.
         ensures { (self.new.first.end.time ≤ clock.new.last) × IfSome self.new.second (λ a. a.end.time ≤ clock.new.last)
-            × (clock.new.last ≤ greatest_time) }
+            × (clock.new.last ≤ TIME_MAX) }
     {
         'turns: for _ in 0..TURNS_MOST {
             let now = clock.read(rt)?;
@@ -170,7 +170,7 @@ impl Runner<'_> {
         out: &mut O,
         err: &mut E,
     ) -> Result<bool, Fault>
-        requires now { now ≤ 2 ^ 62 }
+        requires now { now ≤ TIME_MAX }
         requires later { (self.old.first.end.time ≤ now) × IfSome self.old.second (λ a. a.end.time ≤ now) }
         // After `take_turn` no end is later than `now`.
         ensures time { (self.new.first.end.time ≤ now) × IfSome self.new.second (λ a. a.end.time ≤ now) }
@@ -194,7 +194,7 @@ impl Runner<'_> {
         out: &mut O,
         err: &mut E,
     ) -> Result<bool, Fault>
-        requires now { now ≤ 2 ^ 62 }
+        requires now { now ≤ TIME_MAX }
         requires later { self.old.first.end.time ≤ now }
         // After `put_lines` the first end is no later than `now`.
         ensures time { self.new.first.end.time ≤ now }
@@ -258,7 +258,7 @@ impl Runner<'_> {
         now: Milliseconds,
         err: &mut E,
     ) -> Result<bool, Fault>
-        requires now { now ≤ 2 ^ 62 }
+        requires now { now ≤ TIME_MAX }
         requires later { (self.old.first.end.time ≤ now) × IfSome self.old.second (λ a. a.end.time ≤ now) }
         // After `keep` no end is later than `now`.
         ensures time { (self.new.first.end.time ≤ now) × IfSome self.new.second (λ a. a.end.time ≤ now) }
@@ -323,7 +323,7 @@ impl Runner<'_> {
         now: Milliseconds,
         streams: &mut Streams<O, E>,
     ) -> Result<Outcome, Fault>
-        requires now { now ≤ 2 ^ 62 }
+        requires now { now ≤ TIME_MAX }
         requires later { (self.old.first.end.time ≤ now) × IfSome self.old.second (λ a. a.end.time ≤ now) }
         // If no state is expected, each end was in it when `finish` succeeds.
         ensures expected { run.now.expected ≡ None → IfOk result (λ outcome. outcome.is_met ≡ true) }
@@ -364,7 +364,7 @@ impl Runner<'_> {
 
     /// Disconnects the ends if their input has ended, or if lines of standard output were left out. Logs the latter.
     fn leave<E: Write>(&mut self, is_until_end: bool, left_out: u64, now: Milliseconds, err: &mut E)
-        requires now { now ≤ 2 ^ 62 }
+        requires now { now ≤ TIME_MAX }
         requires later { (self.old.first.end.time ≤ now) × IfSome self.old.second (λ a. a.end.time ≤ now) }
     {
         if left_out > 0 {
@@ -423,7 +423,7 @@ fn turn_of<O: Write, E: Write>(
     out: &mut O,
     err: &mut E,
 ) -> Result<(), Fault>
-    requires now { now ≤ 2 ^ 62 }
+    requires now { now ≤ TIME_MAX }
     requires later { actor.old.end.time ≤ now }
     // After `turn_of` the end is no later than `now`, and it has taken a turn.
     ensures turned { (actor.new.end.time ≤ now) × (actor.new.last_turn ≡ now) }
@@ -444,7 +444,7 @@ fn turn_of_second<O: Write, E: Write>(
     out: &mut O,
     err: &mut E,
 ) -> Result<(), Fault>
-    requires now { now ≤ 2 ^ 62 }
+    requires now { now ≤ TIME_MAX }
     requires later { IfSome second.old (λ a. a.end.time ≤ now) }
     // After `turn_of_second` the end is no later than `now`, and it has taken a turn.
     ensures { IfSome second.new (λ a. (a.end.time ≤ now) × (a.last_turn ≡ now)) }
@@ -464,7 +464,7 @@ fn keep_second<R: Files, E: Write>(
     now: Milliseconds,
     err: &mut E,
 ) -> Result<bool, Fault>
-    requires now { now ≤ 2 ^ 62 }
+    requires now { now ≤ TIME_MAX }
     requires later { IfSome second.old (λ a. a.end.time ≤ now) }
     // After `keep_second` the end is no later than `now`.
     ensures { IfSome second.new (λ a. a.end.time ≤ now) }

@@ -2,13 +2,13 @@
 
 ghost use Rattle.std.specs.Prelude.{◌≡◌, ◌≤◌, ◌<◌, ◌+◌, ◌%◌, ◌^◌, IfOk, OnErr, OnOk, IfErr};
 ghost use Rattle.std.specs.Time.{instant_nanos};
-ghost use Rattle.rasta_run.specs.Ticking.{greatest_time, millis_between, time_at};
+ghost use Rattle.octets.specs.declared.limits.TheConstants.{TIME_MAX};
+ghost use Rattle.rasta_run.specs.Ticking.{millis_between, time_at};
 
+use octets::Milliseconds;
+use octets::limits::TIME_MAX;
 use rasta_words::Fault;
 use std::time::{Clock, Instant};
-
-/// The greatest time that an end accepts, in milliseconds.
-const TIME_MAX: u64 = 1 << 62;
 
 /// The milliseconds since a run began, which never decrease.
 #[derive(Clone, Copy, Debug)]
@@ -16,7 +16,7 @@ pub struct RunClock {
     /// When the run began: the clock is 0 then.
     pub began: Instant,
     /// The last reading.
-    pub last: u64,
+    pub last: Milliseconds,
     /// The number of readings, modulo 2^64: one for each turn.
     pub readings: u64,
 }
@@ -49,7 +49,7 @@ impl RunClock {
     pub fn read<K: Clock>(&mut self, system: &K) -> Result<u64, Fault>
         // The time that `read` returns is at least the last reading and at most 2^62 ms, and it becomes the last
         // reading.
-        ensures now { IfOk result (λ now. (self.old.last ≤ now) × (now ≤ greatest_time) × (self.new.last ≡ now)) }
+        ensures now { IfOk result (λ now. (self.old.last ≤ now) × (now ≤ TIME_MAX) × (self.new.last ≡ now)) }
         // `read` does not change when the run began.
         ensures began { self.new.began ≡ self.old.began }
         // If `read` succeeds, the number of readings has grown by 1, modulo 2^64.
@@ -74,11 +74,11 @@ impl RunClock {
         // `at` returns the whole milliseconds since the run began, or the last reading if that is more.
         ensures now { IfOk result (λ now. now ≡ time_at (instant_nanos self.old.began) self.old.last (instant_nanos seen)) }
         // The time that `at` returns is at most 2^62 ms.
-        ensures bounded { IfOk result (λ now. now ≤ greatest_time) }
+        ensures bounded { IfOk result (λ now. now ≤ TIME_MAX) }
         // If `at` succeeds, its result becomes the last reading, and nothing else changes.
         ensures kept { IfOk result (λ now. self.new ≡ record self.old { last = now }) }
         // `at` fails only if the time is above 2^62 ms.
-        ensures refusal { IfErr result (λ fault. greatest_time
+        ensures refusal { IfErr result (λ fault. TIME_MAX
             < time_at (instant_nanos self.old.began) self.old.last (instant_nanos seen)) }
         // If `at` fails, the clock is unchanged.
         ensures refused { OnErr result (self.new ≡ self.old) }

@@ -13,6 +13,7 @@ ghost use Rattle.stack_end.specs.Certain.{confirmed_in};
 ghost use Rattle.stack_end.specs.EndValue.{channels_of, inside, statistics_of};
 ghost use Rattle.stack_end.specs.Turns.{is_over, is_settled};
 ghost use Rattle.std.specs.Io.KnownBytes.{Appends};
+ghost use Rattle.octets.specs.declared.limits.TheConstants.{TIME_MAX};
 ghost use Rattle.udp_channels.specs.Sockets.{no_failures};
 
 use crate::RecordedChannels;
@@ -85,7 +86,7 @@ pub struct Actor<'a, C, A: Allocator = Global> {
     /// When it is opened again.
     pub keeper: Keeper,
     /// When it is to be opened again, in milliseconds, if that is known.
-    pub anew_at: Option<u64>,
+    pub anew_at: Option<Milliseconds>,
     /// What the end counted in its earlier openings.
     pub earlier: Totals,
     /// The printer of its counts.
@@ -236,7 +237,7 @@ impl<'a, C: Channels, A: Allocator + Copy> Actor<'a, C, A> {
         app: &mut T,
         err: &mut E,
     ) -> Result<(), Fault>
-        requires now { now ≤ 2 ^ 62 }
+        requires now { now ≤ TIME_MAX }
         requires later { self.old.end.time ≤ now }
         // If `turn` succeeds, the end has received what came, and time has passed; its application has taken what
         // the session accepted, and lost none of it. Then the end has put what it may of its list.
@@ -285,7 +286,7 @@ impl<'a, C: Channels, A: Allocator + Copy> Actor<'a, C, A> {
     /// Receives what has come. Returns whether all receptions succeeded. If one fails, time passes all the same, so
     /// that deadlines are met.
     fn hear<T: Application>(&mut self, now: Milliseconds, app: &mut T) -> Result<bool, Fault>
-        requires now { now ≤ 2 ^ 62 }
+        requires now { now ≤ TIME_MAX }
         requires later { self.old.end.time ≤ now }
         // If `hear` succeeds, the end was polled, and time has passed even if a reception failed.
         ensures heard { IfOk result (λ works. turning.Hears (λ o. C.told o.inner) T.takes works now
@@ -423,7 +424,7 @@ fn poll_or_tick<C: Channels, A: Allocator, T: Taker>(
     now: Milliseconds,
     taker: &mut T,
 ) -> bool
-    requires now { now ≤ 2 ^ 62 }
+    requires now { now ≤ TIME_MAX }
     requires later { end.old.time ≤ now }
     // `poll_or_tick` polls the end once. If a reception failed, the end has ticked all the same.
     ensures heard { turning.Hears C.told T.takes result now (end.old, taker.old) (end.new, taker.new) }

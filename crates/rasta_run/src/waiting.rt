@@ -77,7 +77,7 @@ fn rest(
 }
 
 /// Returns the longest wait, in milliseconds.
-fn longest(length: RunLength) -> u64
+fn longest(length: RunLength) -> Milliseconds
     // `longest` returns 4 for counted turns, and 1,000 for a run until input ends.
     ensures { result ≡ longest_rest length }
 {
@@ -88,7 +88,7 @@ fn longest(length: RunLength) -> u64
 }
 
 /// Returns the earlier of two deadlines that may be absent.
-pub fn earlier(first: Option<u64>, second: Option<u64>) -> Option<u64>
+pub fn earlier(first: Option<Milliseconds>, second: Option<Milliseconds>) -> Option<Milliseconds>
     // `earlier` returns the earlier deadline if both are there, and else the one that is there.
     ensures { result ≡ earliest first second }
 {

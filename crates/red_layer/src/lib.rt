@@ -12,7 +12,7 @@
 
 ghost use Rattle.std.specs.Prelude.{◌≡◌, ℕ, ◌+◌, ◌*◌, ◌%◌, ◌^◌, ◌<◌, ◌≤◌, List, [], ◌∷◌, length, IfOk, IsSome, Ok, Err, MatchResult};
 ghost use Rattle.std.specs.List.{FoldsTo};
-ghost use Rattle.octets.specs.declared.limits.TheConstants.{SAFE_PDU_MAX};
+ghost use Rattle.octets.specs.declared.limits.TheConstants.{SAFE_PDU_MAX, TIME_MAX};
 ghost use Rattle.red_layer.specs.FiniteMap.{Rises, take_out, part_under};
 ghost use Rattle.red_layer.specs.Parts.{map_parts, IsBelow};
 ghost use Rattle.red_layer.specs.Begun.{has_begun};
@@ -169,7 +169,7 @@ impl<A: Allocator> RedLayer<A> {
     /// Receives a datagram, which may contain any bytes, after trying the deadline once. It passes parts to
     /// `up` in order: first those that the deadline releases, then those that the datagram releases.
     pub fn arrive<U: Upward>(&mut self, octets: &[u8], now: Milliseconds, up: &mut U) -> RedEvent
-        requires now { now ≤ 2 ^ 62 }
+        requires now { now ≤ TIME_MAX }
         requires ready { U.ready up.old self.old.expected }
         // The returned `event` is that of the rules for this datagram, for any bytes: passed, deferred,
         // dropped and why, or not a redundancy PDU.
@@ -193,7 +193,7 @@ impl<A: Allocator> RedLayer<A> {
     /// Tries the deadline: if parts are deferred and their time is over, passes up the least number and the
     /// consecutive numbers after it.
     pub fn tick<U: Upward>(&mut self, now: Milliseconds, up: &mut U)
-        requires now { now ≤ 2 ^ 62 }
+        requires now { now ≤ TIME_MAX }
         requires ready { U.ready up.old self.old.expected }
         // `tick` leaves the state of the rules `after` this `Tick`: unchanged before the deadline, else
         // with the released parts taken out.
@@ -245,7 +245,7 @@ impl<A: Allocator> RedLayer<A> {
     /// them.
     #[inline(always)]
     fn follow<U: Upward>(&mut self, from: u64, now: Milliseconds, up: &mut U)
-        requires now { now ≤ 2 ^ 62 }
+        requires now { now ≤ TIME_MAX }
         requires in_range { from ≤ 2 ^ 32 }
         requires rises { Rises from self.old.waiting }
         requires ready { U.ready up.old from }
@@ -279,7 +279,7 @@ impl<A: Allocator> RedLayer<A> {
     #[cold]
     #[inline(never)]
     fn follow_run<U: Upward>(&mut self, from: u64, now: Milliseconds, up: &mut U)
-        requires now { now ≤ 2 ^ 62 }
+        requires now { now ≤ TIME_MAX }
         requires in_range { from ≤ 2 ^ 32 }
         requires rises { Rises from self.old.waiting }
         requires ready { U.ready up.old from }
@@ -306,7 +306,7 @@ impl<A: Allocator> RedLayer<A> {
         now: Milliseconds,
         up: &mut U,
     ) -> RedEvent
-        requires now { now ≤ 2 ^ 62 }
+        requires now { now ≤ TIME_MAX }
         requires small { length upper.now ≤ SAFE_PDU_MAX }
         requires ready { U.ready up.old self.old.expected }
         // The returned `event` is that of the rules for an `arrival` with this number: `Passed`, `Wait`,
@@ -339,7 +339,7 @@ impl<A: Allocator> RedLayer<A> {
     #[cold]
     #[inline(never)]
     fn defer(&mut self, seq: u32, upper: &[u8], now: Milliseconds) -> RedEvent
-        requires now { now ≤ 2 ^ 62 }
+        requires now { now ≤ TIME_MAX }
         requires small { length upper.now ≤ SAFE_PDU_MAX }
         requires ahead { self.old.expected < seq }
         // The returned `event` is `Again` if the number is already deferred, else `Full` if q parts are

@@ -39,9 +39,9 @@ pub(crate) struct MachineState<A: Allocator = Global> {
     /// How many PDUs it has made, without wrap. SN_T is `first` plus this count, modulo 2^32.
     pub(crate) made: u64,
     /// The own time of the last PDU made, in milliseconds.
-    pub(crate) last_made: u64,
+    pub(crate) last_made: Milliseconds,
     /// How many units it has taken since its last sending; at mwa, a heartbeat is made.
-    pub(crate) since: Milliseconds,
+    pub(crate) since: u64,
     /// The index of the peer's next PDU: SN_R without its wrap.
     pub(crate) expected: u64,
     /// CS_T: the sequence number of the PDU that last moved `expected`, 0 before any.
@@ -51,7 +51,7 @@ pub(crate) struct MachineState<A: Allocator = Global> {
     /// The index of the last own PDU confirmed: CS_R without its wrap.
     pub(crate) confirmed: u64,
     /// The own time last confirmed, in milliseconds: CTS_R without its wrap.
-    pub(crate) confirmed_at: u64,
+    pub(crate) confirmed_at: Milliseconds,
     /// The index of the last RetrReq handled, 0 before any.
     pub(crate) answered: u64,
     /// How many units may be unconfirmed: the peer's N_sendmax.

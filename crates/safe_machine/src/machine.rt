@@ -2,7 +2,7 @@
 
 ghost use Rattle.std.specs.Prelude.{◌≡◌, ◌≢◌, ◌+◌, ◌<◌, ◌≤◌, ◌^◌, ◌↔◌, ℕ, List, [], true, false, length, Err, ◌++◌, ◌∷◌, IfOk, IsOk, OnOk, OnErr, if◌then◌else◌, option_map, slice_get};
 ghost use Rattle.std.specs.List.{FoldsTo};
-ghost use Rattle.octets.specs.declared.limits.TheConstants.{WINDOW_MAX};
+ghost use Rattle.octets.specs.declared.limits.TheConstants.{WINDOW_MAX, TIME_MAX};
 ghost use Rattle.safe_machine.specs.Settings.{is_legal};
 ghost use Rattle.safe_machine.specs.Turns.{guard_turn, has_room, leave_turn, opening_turn, send_turn, still, tick_turn};
 ghost use Rattle.safe_machine.specs.Octets.{decoded_answer, octets_turn, octets_units};
@@ -193,7 +193,7 @@ impl<A: Allocator> Machine<A> {
         // Before the `deadline`, a tick changes nothing and makes no PDU.
         ensures before { (now : ℕ) → IsBefore now result → tick_turn now self.now ≡ still self.now }
         // From the `deadline` on, up to 2^62 ms, a tick changes the machine.
-        ensures after { (now : ℕ) → now ≤ 2 ^ 62 → IsReachedAt now result → (tick_turn now self.now).left ≢ self.now }
+        ensures after { (now : ℕ) → now ≤ TIME_MAX → IsReachedAt now result → (tick_turn now self.now).left ≢ self.now }
     {
         self.end.deadline()
     }

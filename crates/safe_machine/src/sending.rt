@@ -173,7 +173,7 @@ impl<A: Allocator> MachineState<A> {
     }
 
     /// Returns the time at which the timeout check disconnects.
-    fn timeout(&self) -> u64
+    fn timeout(&self) -> Milliseconds
         // The time is 0 if the limit of PDUs is reached, otherwise T_max after the last confirmation, and at most
         // 2^64 - 1 (`timeout_of`).
         ensures { result ≡ timeout_of self.now }

@@ -11,6 +11,7 @@ use crate::readers::{
 };
 use crate::values::{Beginning, Identity, Limits};
 use end_settings::Side;
+use octets::Milliseconds;
 use octets::limits::{
     MWA_MAX, PDU_LIMIT_HIGHEST, PDU_LIMIT_LOWEST, Q_MAX, T_H_LOWEST, T_MAX_HIGHEST, T_MAX_LOWEST,
     T_SEQ_LOWEST, T_SEQ_MAX, UNIT_MESSAGES, WINDOW_MAX,
@@ -103,7 +104,7 @@ pub fn read_limits(table: &Value) -> Result<Limits, KeyFault>
 /// # Errors
 ///
 /// - `KeyFault` if the number is missing and has no default, or is outside its range.
-pub fn limit(table: &Value, t_max: u64, key: Key) -> Result<u64, KeyFault>
+pub fn limit(table: &Value, t_max: Milliseconds, key: Key) -> Result<u64, KeyFault>
     // `limit` returns the number at the key, or its default, within the key's range; that of `t_h` ends below
     // `t_max`.
     ensures { result ≡ limit_at (view table.now) t_max key }

@@ -1,6 +1,7 @@
 //! The content of a settings file.
 
 use end_settings::{Checksum, EndConfig, Versions};
+use octets::Milliseconds;
 use pdi_session::telegram::OwnedName;
 
 /// An end and its peer.
@@ -43,11 +44,11 @@ pub struct Limits {
     /// The number of parts that may be deferred.
     pub deferral: u64,
     /// The greatest age of the last confirmation, in milliseconds.
-    pub t_max: u64,
+    pub t_max: Milliseconds,
     /// The time between heartbeats, in milliseconds.
-    pub t_heartbeat: u64,
+    pub t_heartbeat: Milliseconds,
     /// The time for which a part is deferred, in milliseconds.
-    pub t_seq: u64,
+    pub t_seq: Milliseconds,
     /// The number of units taken after which a heartbeat is sent.
     pub mwa: u64,
     /// The number of PDUs that one connection may have.

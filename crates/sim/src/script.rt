@@ -7,6 +7,7 @@ use crate::{
 };
 use end_settings::Side;
 use octets::Milliseconds;
+use octets::limits::TIME_MAX;
 use pdu_text::EndReport;
 use stack_engine::{Action, ApplyFault, Call, Event, Pair};
 use std::alloc::Allocator;
@@ -15,9 +16,6 @@ use std::io::{ErrorKind, Read, Write};
 
 /// Largest number of datagrams that one `flow` delivers.
 const FLOW_MAX: usize = 1000;
-
-/// The latest time of a clock: 2^62 milliseconds.
-const CLOCK_MAX: u64 = 1 << 62;
 
 /// Runs the script in a reader on two ends that were never opened. Its output goes to `out`, a fault to `err`.
 ///
@@ -252,7 +250,7 @@ impl<W: Write + Drop, A: Allocator + Copy> Script<W, A> {
     /// Sets the clock of an end; it must not decrease.
     fn set_clock(&mut self, side: Side, now: Milliseconds) -> Result<(), ScriptLineFault> {
         let clock = self.clocks.of_mut(side);
-        if now < *clock || now > CLOCK_MAX {
+        if now < *clock || now > TIME_MAX {
             return self.trace.refuse(ApplyFault::Clock.name());
         }
         *clock = now;
@@ -272,7 +270,7 @@ impl<W: Write + Drop, A: Allocator + Copy> Script<W, A> {
         &mut self,
         label: Label,
         channel: u64,
-        at: u64,
+        at: Milliseconds,
         bits: u8,
     ) -> Result<(), ScriptLineFault> {
         self.check_channel(channel)?;

@@ -2,6 +2,7 @@
 //! clauses there and keep a single one.
 
 ghost use Rattle.std.specs.Prelude.{◌≡◌, ◌≤◌, ◌^◌, false, Some, None, OnOk, OnErr, MatchResult};
+ghost use Rattle.octets.specs.declared.limits.TheConstants.{TIME_MAX};
 ghost use Rattle.stack_end.specs.EndValue.{EndTurns, EndTurnsAlone, inside};
 ghost use Rattle.stack_end.specs.Outstanding.{PutOut};
 ghost use Rattle.stack_end.specs.Hearing.{HasHeard, TakesPart};
@@ -25,7 +26,7 @@ impl<C: Channels, A: Allocator> End<C, A> {
         now: Milliseconds,
         taker: &mut T,
     )
-        requires now { now ≤ 2 ^ 62 }
+        requires now { now ≤ TIME_MAX }
         requires later { self.old.time ≤ now }
         // The datagram passes the timeout check, then redundancy layer, safety machine and session; then waiting
         // messages are sent. State, datagrams and telegrams are those of `arrives`.
@@ -56,7 +57,7 @@ impl<C: Channels, A: Allocator> End<C, A> {
         payload: &[u8],
         now: Milliseconds,
     ) -> Result<(), PutFault>
-        requires now { now ≤ 2 ^ 62 }
+        requires now { now ≤ TIME_MAX }
         requires later { self.old.time ≤ now }
         // The telegram is queued last, then waiting messages are sent while the machine may send. State and datagrams
         // are those of `puts`; nothing is taken.

@@ -20,7 +20,7 @@ ghost use Rattle.stack_end.specs.Stale.{is_stale};
 ghost use Rattle.stack_end.specs.Timely.{margin_of};
 ghost use Rattle.stack_end.specs.Reopening.{reopening_turn};
 ghost use Rattle.stack_end.specs.Statistics.{none_received, count_reception};
-ghost use Rattle.octets.specs.declared.limits.TheConstants.{CHANNELS_MAX};
+ghost use Rattle.octets.specs.declared.limits.TheConstants.{CHANNELS_MAX, TIME_MAX};
 ghost use Rattle.safe_machine.specs.Deadlines.{IsBefore, IsReachedAt};
 ghost use Rattle.stack_end.specs.Deadlines.{HasFallen, IsQuiet, earliest};
 ghost use Rattle.stack_end.specs.Polling.{Asked, AskedOnce, HeardAll, HeardNext, HeardUntilFault, Polled, buffer_size, most_datagrams};
@@ -52,7 +52,7 @@ pub struct End<C, A: Allocator = Global> {
     /// The protocol layers, from the redundancy layer up.
     pub(crate) layers: Layers<C, A>,
     /// The time of the last call, in milliseconds.
-    pub(crate) time: u64,
+    pub(crate) time: Milliseconds,
     /// The counts of what came, by channel.
     pub(crate) receptions: [ReceptionCounts; CHANNELS_MAX],
 }
@@ -129,7 +129,7 @@ impl<C: Channels, A: Allocator> End<C, A> {
         now: Milliseconds,
         taker: &mut T,
     )
-        requires now { now ≤ 2 ^ 62 }
+        requires now { now ≤ TIME_MAX }
         requires later { self.old.time ≤ now }
         // `arrive` checks T_max and the PDU limit, then passes the datagram up: redundancy layer, safety
         // machine and session. It then sends waiting messages. Each PDU goes out on every channel in order, and
@@ -161,7 +161,7 @@ impl<C: Channels, A: Allocator> End<C, A> {
     ///
     /// Telegrams for the application go to `taker` in order. A closed end ignores the call.
     pub fn tick<T: Taker>(&mut self, now: Milliseconds, taker: &mut T)
-        requires now { now ≤ 2 ^ 62 }
+        requires now { now ≤ TIME_MAX }
         requires later { self.old.time ≤ now }
         // `tick` runs the timers of the safety machine, and unless that closes the end, the timer of the
         // redundancy layer. It then sends waiting messages. The new state, the datagrams sent (or counted as
@@ -194,7 +194,7 @@ impl<C: Channels, A: Allocator> End<C, A> {
     /// - `ReservedType` if `kind` is one of the five message types that set up the session;
     /// - `TooLong` if the payload is longer than 357 bytes.
     pub fn put(&mut self, kind: u16, payload: &[u8], now: Milliseconds) -> Result<(), PutFault>
-        requires now { now ≤ 2 ^ 62 }
+        requires now { now ≤ TIME_MAX }
         requires later { self.old.time ≤ now }
         // An accepted put queues the telegram last and sends waiting messages while the safety machine may
         // send. The new state and the datagrams sent (or counted as failed) are exactly those of `puts`;
@@ -230,7 +230,7 @@ impl<C: Channels, A: Allocator> End<C, A> {
     /// - `NotInitialising` if this is not a field element in phase Initialising;
     /// - `Full` if 64 messages wait.
     pub fn init_done(&mut self, now: Milliseconds) -> Result<(), InitFault>
-        requires now { now ≤ 2 ^ 62 }
+        requires now { now ≤ TIME_MAX }
         requires later { self.old.time ≤ now }
         // An accepted end of the initialisation queues its telegram last and sends waiting messages while the
         // safety machine may send. The new state and the datagrams sent (or counted as failed) are exactly
@@ -257,7 +257,7 @@ impl<C: Channels, A: Allocator> End<C, A> {
 
     /// Disconnects with reason 0 (closed by the user) if there is a connection, and ends the session.
     pub fn close(&mut self, now: Milliseconds)
-        requires now { now ≤ 2 ^ 62 }
+        requires now { now ≤ TIME_MAX }
         requires later { self.old.time ≤ now }
         // If there is a connection, the end sends a DiscReq with reason 0. Connection and session are then
         // over. The new state and the datagrams sent (or counted as failed) are exactly those of `closes`;
@@ -276,7 +276,7 @@ impl<C: Channels, A: Allocator> End<C, A> {
     /// interlocking sends its ConnReq at once, numbered `first_sn`; a field element waits for one. Nothing is sent on
     /// the connection that there was: to inform the peer, close the end first. All counts begin anew.
     pub fn reopen(&mut self, first_sn: u32, now: Milliseconds)
-        requires now { now ≤ 2 ^ 62 }
+        requires now { now ≤ TIME_MAX }
         requires later { self.old.time ≤ now }
         // Every layer is as newly opened with the settings that it has. The new state, and the ConnReq sent (or
         // counted as failed), are exactly those of `reopening_turn`; nothing is delivered to the application.
@@ -299,7 +299,7 @@ impl<C: Channels, A: Allocator> End<C, A> {
     /// - `Channel` if a reception fails. Datagrams received before it have been processed; time has not passed,
     ///   so the caller must still call `tick`.
     pub fn poll<T: Taker>(&mut self, now: Milliseconds, taker: &mut T) -> Result<(), PollFault>
-        requires now { now ≤ 2 ^ 62 }
+        requires now { now ≤ TIME_MAX }
         requires later { self.old.time ≤ now }
         // A successful poll processes up to 64 datagrams in the order received, each as a delivery and before it
         // requests the next, then ticks once; everything that it delivers is recent. It stops before 64 only if
@@ -333,7 +333,7 @@ impl<C: Channels, A: Allocator> End<C, A> {
         now: Milliseconds,
         taker: &mut T,
     ) -> Result<(), ChannelFault>
-        requires now { now ≤ 2 ^ 62 }
+        requires now { now ≤ TIME_MAX }
         requires room { length buffer.old ≡ buffer_size }
         requires later { self.old.time ≤ now }
         // Up to 64 datagrams have been processed in order, and fewer only if nothing more has come.
@@ -362,7 +362,7 @@ impl<C: Channels, A: Allocator> End<C, A> {
         now: Milliseconds,
         taker: &mut T,
     ) -> Result<bool, ChannelFault>
-        requires now { now ≤ 2 ^ 62 }
+        requires now { now ≤ TIME_MAX }
         requires room { length buffer.old ≡ buffer_size }
         requires later { self.old.time ≤ now }
         // Either one datagram was received and processed, or nothing had come, or the reception failed and
@@ -405,7 +405,7 @@ impl<C: Channels, A: Allocator> End<C, A> {
             → IsQuiet now (inside self.now) }
         // At or after the returned time (up to 2^62 ms), a tick changes the safety machine, or T_seq of the
         // redundancy layer has passed.
-        ensures after { (now : ℕ) → now ≤ 2 ^ 62 → IsReachedAt now result → HasFallen now (inside self.now) }
+        ensures after { (now : ℕ) → now ≤ TIME_MAX → IsReachedAt now result → HasFallen now (inside self.now) }
         // A closed end has no deadline.
         ensures closed { is_over (inside self.now) ≡ true → result ≡ None }
     {
@@ -561,7 +561,7 @@ impl<C: Channels, A: Allocator> End<C, A> {
 }
 
 /// Returns the earlier of two deadlines.
-fn earliest(one: Option<u64>, other: Option<u64>) -> Option<u64>
+fn earliest(one: Option<Milliseconds>, other: Option<Milliseconds>) -> Option<Milliseconds>
     // The result is the smaller of both deadlines, or the only one.
     ensures { result ≡ earliest one other }
 {

@@ -1,6 +1,7 @@
 //! The layers of an end together: datagrams go up through them, and waiting messages go out.
 
 ghost use Rattle.std.specs.Prelude.{◌≡◌, ◌≤◌, ◌^◌, length, Some, None, MatchResult, OnOk, OnErr};
+ghost use Rattle.octets.specs.declared.limits.TheConstants.{TIME_MAX};
 ghost use Rattle.pdi_session.specs.SessionStep.{init_refusal, put_refusal};
 ghost use Rattle.red_layer.specs.Redundancy.{Datagram, Tick as RedTick};
 ghost use Rattle.stack_end.specs.Fields.{BothDo, BothDoAlone, inside_of};
@@ -34,7 +35,7 @@ impl<C: Channels, A: Allocator> Layers<C, A> {
         now: Milliseconds,
         taker: &mut T,
     ) -> Option<RedEvent>
-        requires now { now ≤ 2 ^ 62 }
+        requires now { now ≤ TIME_MAX }
         requires kept { IsKept self.old }
         // The result is what the redundancy layer did with the datagram, or `None` if the end is closed, or the timeout
         // check closes it.
@@ -65,7 +66,7 @@ impl<C: Channels, A: Allocator> Layers<C, A> {
         now: Milliseconds,
         taker: &mut T,
     ) -> Option<RedEvent>
-        requires now { now ≤ 2 ^ 62 }
+        requires now { now ≤ TIME_MAX }
         requires kept { IsKept self.old }
         // The result is what the redundancy layer did with the datagram, or `None` if the end is closed.
         ensures event { result ≡ red_event now octets.now (inside_of self.old) }
@@ -87,7 +88,7 @@ impl<C: Channels, A: Allocator> Layers<C, A> {
 
     /// Lets time pass: the timers of the machine, and if they leave the end open, that of the redundancy layer.
     pub(crate) fn tick<T: Taker>(&mut self, now: Milliseconds, taker: &mut T)
-        requires now { now ≤ 2 ^ 62 }
+        requires now { now ≤ TIME_MAX }
         requires kept { IsKept self.old }
         // The machine's timers come first. If the end is open then, the T_seq timer follows, with the parts that it
         // releases, and then waiting messages are sent.
@@ -110,7 +111,7 @@ impl<C: Channels, A: Allocator> Layers<C, A> {
     /// Tries the timer of the redundancy layer after those of the machine, then sends waiting messages. Does nothing
     /// if the end is closed.
     fn wait<T: Taker>(&mut self, now: Milliseconds, taker: &mut T)
-        requires now { now ≤ 2 ^ 62 }
+        requires now { now ≤ TIME_MAX }
         requires kept { IsKept self.old }
         // If the end is open, the redundancy layer tries its timer, each part that it releases goes up, and waiting
         // messages are sent.

@@ -1,7 +1,7 @@
 //! All layers of an end above the redundancy layer's receiving half, with the channels.
 
 ghost use Rattle.std.specs.Prelude.{◌≡◌, ◌+◌, ◌*◌, ◌<◌, ◌≤◌, ◌^◌, length, if◌then◌else◌, OnOk, OnErr, MatchResult, Some, None};
-ghost use Rattle.octets.specs.declared.limits.TheConstants.{SAFE_PDU_MAX, UNIT_MESSAGES, WINDOW_MAX};
+ghost use Rattle.octets.specs.declared.limits.TheConstants.{SAFE_PDU_MAX, UNIT_MESSAGES, WINDOW_MAX, TIME_MAX};
 ghost use Rattle.pdi_session.specs.SessionStep.{FewWait, init_refusal, put_refusal};
 ghost use Rattle.safe_machine.specs.Properties.{index_step};
 ghost use Rattle.safe_machine.specs.retrans.Units.{octets_of};
@@ -584,7 +584,7 @@ impl<'a, 'b, C: Channels, A: Allocator, T: Taker> Upward for ToUpper<'a, 'b, C, 
 
     // Each part moves the index by at most 321, and may make the session queue a message, for which there must be
     // room.
-    ghost ready = { λ s n. (s.upper.now.machine.expected ≤ 321 * n) × FewWait s.upper.now.session s.upper.now.waiting };
+    ghost ready = { λ s n. (s.upper.now.machine.expected ≤ index_step * n) × FewWait s.upper.now.session s.upper.now.waiting };
 
     fn up(&mut self, seq: u32, upper: &[u8]) {
         self.upper.part(seq, upper, self.now, self.taker);
@@ -602,8 +602,8 @@ impl<C: Channels, A: Allocator> UpperLayers<C, A> {
         now: Milliseconds,
         taker: &mut T,
     ) -> RedEvent
-        requires now { now ≤ 2 ^ 62 }
-        requires reach { self.old.machine.expected ≤ 321 * red.old.expected }
+        requires now { now ≤ TIME_MAX }
+        requires reach { self.old.machine.expected ≤ index_step * red.old.expected }
         requires few { FewWait self.old.session self.old.waiting }
         // The result is what the redundancy layer did with the datagram.
         ensures event { result ≡ (judge now octets.now red.old).event }
@@ -615,7 +615,7 @@ impl<C: Channels, A: Allocator> UpperLayers<C, A> {
         ensures does { Does C.told T.takes (parts now (parts_passed (Datagram octets.now now) red.old)) self.old taker.old self.new taker.new }
         // After the datagram, the index of the peer's next PDU is still at most 321 times the number that the
         // redundancy layer expects.
-        ensures reach { self.new.machine.expected ≤ 321 * red.new.expected }
+        ensures reach { self.new.machine.expected ≤ index_step * red.new.expected }
         // A datagram does not change the unit size.
         ensures same { self.new.max ≡ self.old.max }
         // After the datagram, there is still room among the waiting messages for the session's next one.
@@ -638,8 +638,8 @@ impl<C: Channels, A: Allocator> UpperLayers<C, A> {
         now: Milliseconds,
         taker: &mut T,
     )
-        requires now { now ≤ 2 ^ 62 }
-        requires reach { self.old.machine.expected ≤ 321 * red.old.expected }
+        requires now { now ≤ TIME_MAX }
+        requires reach { self.old.machine.expected ≤ index_step * red.old.expected }
         requires few { FewWait self.old.session self.old.waiting }
         // If T_seq has passed for a deferred part, the redundancy layer lets parts up over the gap; if not, it stays
         // as it is.
@@ -648,7 +648,7 @@ impl<C: Channels, A: Allocator> UpperLayers<C, A> {
         ensures does { Does C.told T.takes (parts now (parts_passed (RedTick now) red.old)) self.old taker.old self.new taker.new }
         // After the timer, the index of the peer's next PDU is still at most 321 times the number that the redundancy
         // layer expects.
-        ensures reach { self.new.machine.expected ≤ 321 * red.new.expected }
+        ensures reach { self.new.machine.expected ≤ index_step * red.new.expected }
         // The timer does not change the unit size.
         ensures same { self.new.max ≡ self.old.max }
         // After the timer, there is still room among the waiting messages for the session's next one.

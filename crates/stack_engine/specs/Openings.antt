@@ -4,6 +4,7 @@ use Rattle.safe_pdu.specs.SafeText.{code_octets}
 use Rattle.end_settings.specs.EndSettings.{rule_of}
 use Rattle.stack_end.specs.Ends.{EndState, Call, call, is_shut}
 use Rattle.std.specs.Borrow.{Bor}
+use Rattle.octets.specs.declared.limits.TheConstants.{TIME_MAX}
 use Rattle.stack_end.specs.EndValue.{EndValue, EndStands, channels_of}
 use Rattle.stack_engine.specs.Keeping.{Keeping, told_of}
 use Rattle.stack_engine.specs.declared.ApplyFault.{ApplyFault}
@@ -66,7 +67,7 @@ is_memory _ = false
 
 -- the end was opened, and the time is neither before its last nor after 2^62 ms
 abbrev pub IsOpenAt : {A : Type 0} → ℕ → Openings A → Type 0
-IsOpenAt now o = MatchOption o.present ⊥ (λ i. (i.time ≤ now) × (now ≤ 2 ^ 62))
+IsOpenAt now o = MatchOption o.present ⊥ (λ i. (i.time ≤ now) × (now ≤ TIME_MAX))
 
 -- the peer made a PDU of these bytes under a code of `code` bytes, not counting its first `dead` ones
 abbrev pub live_in : (code : ℕ) → Option EndState → (dead : ℕ) → List ℕ → Bool

@@ -2,6 +2,7 @@
 use Rattle.std.specs.Prelude.{ℕ, ◌+◌, ◌^◌, nat_lt, Bool, true, false, ◌||◌, Option, Some, None, is_none, List, [], ◌∷◌, length, if◌then◌else◌}
 use Rattle.std.specs.Option.{option_map}
 use Rattle.std.specs.Str.{bytes_eq}
+use Rattle.octets.specs.declared.limits.TheConstants.{TIME_MAX}
 use Rattle.safe_pdu.specs.declared.CodeRule.{CodeRule}
 use Rattle.safe_machine.specs.Made.{Made}
 use Rattle.safe_machine.specs.World.{Side}
@@ -66,7 +67,7 @@ pub data Refusal : Type 0 where
 
 -- the time is before the last, or after 2^62 ms
 abbrev pub is_untimely : ℕ → ℕ → Bool
-is_untimely last now = nat_lt now last || nat_lt (2 ^ 62) now
+is_untimely last now = nat_lt now last || nat_lt TIME_MAX now
 
 -- the time of the end's last event, 0 if it was never opened
 abbrev pub last_time : Option EndState → ℕ

@@ -6,6 +6,7 @@ ghost use Rattle.stack_engine.specs.Events.{event_of, put_size};
 ghost use Rattle.stack_engine.specs.Premise.{IsTyped};
 
 use end_settings::{EndConfig, Side};
+use octets::Milliseconds;
 
 /// What happens to one of two ends, at a time of that end's clock. It borrows its bytes.
 #[derive(Clone, Copy, Debug)]
@@ -13,7 +14,7 @@ pub struct Event<'a> {
     /// The end that it happens to.
     pub side: Side,
     /// When, in milliseconds.
-    pub time: u64,
+    pub time: Milliseconds,
     /// What happens to it.
     pub doing: Action<'a>,
 }

@@ -9,6 +9,7 @@ ghost use Rattle.stack_engine.specs.HistoryPlaces.{deed_in};
 use crate::event::{Action, Call, Event};
 use crate::texts::Texts;
 use end_settings::{EndConfig, Side};
+use octets::Milliseconds;
 use std::alloc::{AllocError, Allocator, Global};
 use std::marker::Model;
 
@@ -18,7 +19,7 @@ struct Entry {
     /// The end that it happened to.
     side: Side,
     /// When, in milliseconds of that end's clock.
-    time: u64,
+    time: Milliseconds,
     /// What happened; its bytes are kept next to it.
     doing: Deed,
 }

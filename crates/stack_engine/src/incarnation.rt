@@ -1,6 +1,7 @@
 //! One incarnation of an end: from one opening to the next.
 
 ghost use Rattle.std.specs.Prelude.{◌≡◌, ◌≤◌, ◌^◌, ◌↔◌, ℕ, true, false, length, None, Some, MatchResult, OnOk, OnErr, IfOk, IsErrAnd, drop, not, ◌&&◌, option_map};
+ghost use Rattle.octets.specs.declared.limits.TheConstants.{TIME_MAX};
 ghost use Rattle.end_settings.specs.EndSettings.{are_fit};
 ghost use Rattle.end_settings.specs.Configured.{settings_of, side_of};
 ghost use Rattle.stack_end.specs.Ends.{EndState, opened_end};
@@ -48,7 +49,7 @@ pub(crate) struct Incarnation<A: Allocator = Global> {
     /// The settings it was opened with.
     pub(crate) config: EndConfig,
     /// The time of the last accepted call, in milliseconds.
-    pub(crate) time: u64,
+    pub(crate) time: Milliseconds,
     /// For a field element the number, from 1, of the interlocking incarnation whose ConnReq it accepted.
     pub(crate) joined: Option<usize>,
     /// How many of the first notes of its keeper are of earlier events.
@@ -75,7 +76,7 @@ impl<A: Allocator + Copy> Incarnation<A> {
         first_sn: u32,
         now: Milliseconds,
     ) -> Result<Self, OpenFault>
-        requires now { now ≤ 2 ^ 62 }
+        requires now { now ≤ TIME_MAX }
         requires few { are_fit (side_of side) (settings_of config) ≡ true
             → FewFirst (opened_end side config first_sn now) }
         // `BadConfig` is returned if and only if the settings do not fit this side.
@@ -159,7 +160,7 @@ impl<A: Allocator + Copy> Incarnation<A> {
     ///
     /// Nothing has changed then.
     pub(crate) fn call(&mut self, call: &Call<'_>, now: Milliseconds) -> Result<(), ApplyFault>
-        requires now { now ≤ 2 ^ 62 }
+        requires now { now ≤ TIME_MAX }
         requires later { self.old.time ≤ now }
         requires room { HasRoomFor call.now self.old }
         // After an accepted call the incarnation represents the state after the call's step, if that step stays
@@ -184,7 +185,7 @@ impl<A: Allocator + Copy> Incarnation<A> {
 
     /// Calls the end, and keeps the notes of earlier events.
     fn step(&mut self, call: &Call<'_>, now: Milliseconds) -> Result<(), ApplyFault>
-        requires now { now ≤ 2 ^ 62 }
+        requires now { now ≤ TIME_MAX }
         requires later { self.old.time ≤ now }
         requires room { HasRoomFor call.now self.old }
         // An accepted call takes its turn at the end: what is taken is kept, and a telegram that is put is added to
@@ -213,7 +214,7 @@ impl<A: Allocator + Copy> Incarnation<A> {
 
     /// Delivers a datagram.
     fn deliver(&mut self, channel: usize, octets: &[u8], now: Milliseconds)
-        requires now { now ≤ 2 ^ 62 }
+        requires now { now ≤ TIME_MAX }
         requires later { self.old.time ≤ now }
         requires room { HasRoom self.old }
         // The end takes the turn of a delivery on this channel; the telegrams taken are kept.
@@ -227,7 +228,7 @@ impl<A: Allocator + Copy> Incarnation<A> {
 
     /// Lets time pass.
     fn tick(&mut self, now: Milliseconds)
-        requires now { now ≤ 2 ^ 62 }
+        requires now { now ≤ TIME_MAX }
         requires later { self.old.time ≤ now }
         requires room { HasRoom self.old }
         // The end takes the turn of a tick; the telegrams taken are kept.
@@ -241,7 +242,7 @@ impl<A: Allocator + Copy> Incarnation<A> {
 
     /// Puts a telegram. The caller has made room for it.
     fn put(&mut self, kind: u16, payload: &[u8], now: Milliseconds) -> Result<(), PutFault>
-        requires now { now ≤ 2 ^ 62 }
+        requires now { now ≤ TIME_MAX }
         requires later { self.old.time ≤ now }
         requires room { HasRoom self.old }
         requires place { 1 ≤ self.old.put.places }
@@ -270,7 +271,7 @@ impl<A: Allocator + Copy> Incarnation<A> {
 
     /// Ends the initialisation: the application of a field element has put its initial status.
     fn init_done(&mut self, now: Milliseconds) -> Result<(), InitFault>
-        requires now { now ≤ 2 ^ 62 }
+        requires now { now ≤ TIME_MAX }
         requires later { self.old.time ≤ now }
         requires room { HasRoom self.old }
         // An accepted end of the initialisation takes its turn at the end.
@@ -295,7 +296,7 @@ impl<A: Allocator + Copy> Incarnation<A> {
 
     /// Closes the end.
     fn close(&mut self, now: Milliseconds)
-        requires now { now ≤ 2 ^ 62 }
+        requires now { now ≤ TIME_MAX }
         requires later { self.old.time ≤ now }
         requires room { HasRoom self.old }
         // The end takes the turn of a close.

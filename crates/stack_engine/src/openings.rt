@@ -1,6 +1,7 @@
 //! One end with all its incarnations.
 
 ghost use Rattle.std.specs.Prelude.{◌≡◌, ◌≤◌, ◌^◌, true, false, List, [], ◌∷◌, length, reverse, slice_get, option_map, None, MatchResult, OnOk, OnErr, IfErr};
+ghost use Rattle.octets.specs.declared.limits.TheConstants.{TIME_MAX};
 ghost use Rattle.end_settings.specs.EndSettings.{are_fit};
 ghost use Rattle.end_settings.specs.Configured.{settings_of, side_of};
 ghost use Rattle.stack_end.specs.Ends.{Call, EndState, opened_end, time_of};
@@ -19,11 +20,9 @@ use crate::report::{Entry, report_on};
 use crate::{ApplyFault, event};
 use end_settings::{EndConfig, Side};
 use octets::Milliseconds;
+use octets::limits::TIME_MAX;
 use stack_end::End;
 use std::alloc::{Allocator, Global};
-
-/// The greatest time, 2^62 milliseconds.
-const TIME_MAX: u64 = 1 << 62;
 
 /// The incarnations of one end: the present one, and the earlier ones in the order of their opening.
 #[derive(Drop)]
@@ -129,7 +128,7 @@ impl<A: Allocator + Copy> Openings<A> {
         // If an opening is admitted, its settings fit the side.
         ensures fit { OnOk result (are_fit (side_of side) (settings_of config.now) ≡ true) }
         // If an opening is admitted, its time is at most 2^62 ms.
-        ensures now { OnOk result (now ≤ 2 ^ 62) }
+        ensures now { OnOk result (now ≤ TIME_MAX) }
         // Testing an opening never returns `Memory`.
         ensures no_memory { IfErr result (λ fault. is_memory fault ≡ false) }
     {

@@ -1,6 +1,6 @@
 -- No end is later than the clock, which is within its bounds.
 use Rattle.std.proofs.Common.{◌≤◌, IfSome}
-use Rattle.rasta_run.specs.Ticking.{greatest_time}
+use Rattle.octets.specs.declared.limits.TheConstants.{TIME_MAX}
 use Rattle.rasta_run.proofs.running.Runner.take_fed_turns.Given as goal
 
 abbrev pub invariant-turns : goal.invariant-turns
@@ -8,5 +8,5 @@ invariant-turns g l =
     record {
       first : l.self.first.end.time ≤ l.clock.last;
       second : IfSome l.self.second (λ a. a.end.time ≤ l.clock.last);
-      bounded : l.clock.last ≤ greatest_time;
+      bounded : l.clock.last ≤ TIME_MAX;
     }
