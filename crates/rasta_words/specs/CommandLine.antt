@@ -1,9 +1,10 @@
 -- The command line of the program as clap declares it, and the requests that words ask for.
 use Rattle.std.specs.Prelude.{◌≡◌, ⊤, true, List, codes, Option, Some}
 use Rattle.std.specs.Option.{option_copied}
-use Rattle.clap.specs.Words.{App, HasKind, Row, Rule, Text, fault_of, first_of, new_app, new_rule, subcommand_of, with_rule, with_subcommand}
+use Rattle.clap.specs.Words.{App, HasKind, Row, Text, fault_of, first_of, new_app, subcommand_of}
+use Rattle.rasta_words.specs.Arguments.{with_command, with_operand, with_option, with_required}
 use Rattle.rasta_words.specs.Beside.{HasChoices}
-use Rattle.rasta_words.specs.Choices.{code_word, file_rule, follow_app, iv_rule}
+use Rattle.rasta_words.specs.Choices.{code_word, follow_app}
 use Rattle.rasta_words.specs.Runs.{IsRun, ends_word, net_app}
 use Rattle.rasta_words.specs.declared.command_line.Request.{Request}
 use Rattle.rasta_words.specs.declared.command_line.Request.TheVariants.{Check, Digest, Show, Sim, Follow, Net}
@@ -12,77 +13,37 @@ use Rattle.rasta_words.specs.declared.command_line.WordsFault.TheVariants.{Words
 use Rattle.rasta_words.specs.declared.rejection.Rejection.{Rejection}
 use Rattle.rasta_words.specs.Rejections.{IsReason}
 
--- `--code N` of show --code N [--iv HEX] HEX; it is required
-abbrev pub code_rule : Rule
-code_rule = record (new_rule (codes "code")) { long = Some (codes "code"); required = true }
-
--- HEX, which is required
-abbrev pub hex_rule : Rule
-hex_rule = record (new_rule (codes "hex")) { required = true }
-
--- `show` with `--code`
-abbrev pub code_app : App
-code_app = with_rule (new_app (codes "show")) code_rule
-
--- with `--iv`, too
-abbrev pub coded_app : App
-coded_app = with_rule code_app iv_rule
-
--- the whole command `show`
+-- the command show --code N [--iv HEX] HEX; --code is required
 abbrev pub show_app : App
-show_app = with_rule coded_app hex_rule
+show_app = with_operand (with_option (with_required (new_app (codes "show")) (codes "code")) (codes "iv")) (codes "hex")
 
 -- the command md4 HEX
 abbrev pub md4_app : App
-md4_app = with_rule (new_app (codes "md4")) hex_rule
-
--- SCRIPT, which is required
-abbrev pub script_rule : Rule
-script_rule = record (new_rule (codes "script")) { required = true }
+md4_app = with_operand (new_app (codes "md4")) (codes "hex")
 
 -- the command sim SCRIPT
 abbrev pub sim_app : App
-sim_app = with_rule (new_app (codes "sim")) script_rule
+sim_app = with_operand (new_app (codes "sim")) (codes "script")
 
 -- the command check FILE
 abbrev pub check_app : App
-check_app = with_rule (new_app (codes "check")) file_rule
+check_app = with_operand (new_app (codes "check")) (codes "file")
 
 -- the program without subcommands, of which one is required; it has a version
 abbrev pub bare_app : App
 bare_app = record (new_app (codes "rasta")) { top = record (new_app (codes "rasta")).top { subcommand_required = true; has_version = true } }
 
--- the program with `md4`
-abbrev pub digest_app : App
-digest_app = with_subcommand bare_app md4_app.top
+-- the program with the subcommands that use no sockets but `check`
+abbrev pub with_files : App → App
+with_files app = with_command (with_command (with_command (with_command app md4_app) show_app) sim_app) follow_app
 
--- with `show`, too: the commands that read no file
-abbrev pub plain_app : App
-plain_app = with_subcommand digest_app show_app.top
+-- the program with the subcommands of ends over sockets
+abbrev pub with_ends : App → App
+with_ends app = with_command (with_command (with_command app (net_app (codes "il"))) (net_app (codes "fe"))) (net_app (codes "pair"))
 
--- with `sim`, too
-abbrev pub local_app : App
-local_app = with_subcommand plain_app sim_app.top
-
--- with `follow`, too
-abbrev pub file_app : App
-file_app = with_subcommand local_app follow_app.top
-
--- with `il`, too
-abbrev pub il_app : App
-il_app = with_subcommand file_app (net_app (codes "il")).top
-
--- with `fe`, too
-abbrev pub ends_app : App
-ends_app = with_subcommand il_app (net_app (codes "fe")).top
-
--- with `pair`, too
-abbrev pub both_app : App
-both_app = with_subcommand ends_app (net_app (codes "pair")).top
-
--- with `check`, too: the whole program
+-- the whole program
 abbrev pub rasta_app : App
-rasta_app = with_subcommand both_app check_app.top
+rasta_app = with_command (with_ends (with_files bare_app)) check_app
 
 -- the request is that of the subcommand of this name, and its values are those of the entries found there
 abbrev pub HasEntries : Request → Text → List Row → Type 0

@@ -1,3 +1,4 @@
+pub mod Arguments
 pub mod Seconds
 pub mod Times
 pub mod Status

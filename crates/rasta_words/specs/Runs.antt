@@ -1,8 +1,7 @@
 -- The options of `il`, `fe` and `pair`, and the words that name their values.
 use Rattle.std.specs.Prelude.{◌≡◌, ⊤, ℕ, ◌≤◌, Bool, false, true, List, codes, Option, None, Some}
 use Rattle.std.specs.Str.Parse.{IsNumeral, digits_value, without_leading_plus}
-use Rattle.clap.specs.Words.{App, Row, Rule, Text, first_of, new_app, new_rule, with_rule}
-use Rattle.clap.specs.declared.builder.action.ArgAction.TheVariants.{SetTrue}
+use Rattle.clap.specs.Words.{App, Row, Text, first_of, new_app}
 use Rattle.rasta_words.specs.declared.status.RunLength.{RunLength}
 use Rattle.rasta_words.specs.declared.status.RunLength.TheVariants.{Turns, UntilEnd}
 use Rattle.rasta_words.specs.declared.status.LogLevel.{LogLevel}
@@ -14,7 +13,8 @@ use Rattle.rasta_words.specs.declared.status.Expected.TheVariants.{Up, Settled}
 use Rattle.rasta_words.specs.declared.status.CountsForm.{CountsForm}
 use Rattle.rasta_words.specs.declared.status.CountsForm.TheVariants as counts_form
 use Rattle.rasta_words.specs.declared.status.CountsRequest.{CountsRequest}
-use Rattle.rasta_words.specs.Choices.{file_rule, is_flagged}
+use Rattle.rasta_words.specs.Arguments.{with_flag, with_operand, with_option}
+use Rattle.rasta_words.specs.Choices.{is_flagged}
 use Rattle.rasta_words.specs.Seconds.{AreSecondsChosen}
 use Rattle.rasta_words.specs.declared.command_line.RunRequest.{RunRequest}
 use Rattle.settings_file.specs.declared.Subcommand.{Subcommand}
@@ -26,74 +26,28 @@ ends_word Il = codes "il"
 ends_word Fe = codes "fe"
 ends_word Pair = codes "pair"
 
--- `--turns N` of il FILE (--turns N | --until-end) [--log off|state|all] [--time utc|run] [--expect up|settled] [--keep] [--stats text|json|prometheus
--- [--every N]]; fe and pair have the same
-abbrev pub turns_rule : Rule
-turns_rule = record (new_rule (codes "turns")) { long = Some (codes "turns") }
+-- The command is il FILE (--turns N | --until-end) [--log off|state|all] [--time utc|run] [--expect up|settled] [--keep]
+-- [--stats text|json|prometheus [--every N]]; fe and pair have the same.
 
--- `--until-end`, a flag
-abbrev pub until_end_rule : Rule
-until_end_rule = record (new_rule (codes "until-end")) { long = Some (codes "until-end"); action = Some SetTrue }
+-- the command with `--turns` and the flag `--until-end`
+abbrev pub with_length : App → App
+with_length app = with_flag (with_option app (codes "turns")) (codes "until-end")
 
--- `--log`
-abbrev pub log_rule : Rule
-log_rule = record (new_rule (codes "log")) { long = Some (codes "log") }
+-- the command with `--log` and `--time`
+abbrev pub with_log : App → App
+with_log app = with_option (with_option app (codes "log")) (codes "time")
 
--- `--time`
-abbrev pub time_rule : Rule
-time_rule = record (new_rule (codes "time")) { long = Some (codes "time") }
+-- the command with `--expect` and the flag `--keep`
+abbrev pub with_expected : App → App
+with_expected app = with_flag (with_option app (codes "expect")) (codes "keep")
 
--- `--expect`
-abbrev pub expect_rule : Rule
-expect_rule = record (new_rule (codes "expect")) { long = Some (codes "expect") }
+-- the command with `--stats` and `--every`
+abbrev pub with_stats : App → App
+with_stats app = with_option (with_option app (codes "stats")) (codes "every")
 
--- `--keep`, a flag
-abbrev pub keep_rule : Rule
-keep_rule = record (new_rule (codes "keep")) { long = Some (codes "keep"); action = Some SetTrue }
-
--- `--stats`
-abbrev pub stats_rule : Rule
-stats_rule = record (new_rule (codes "stats")) { long = Some (codes "stats") }
-
--- `--every N`
-abbrev pub every_rule : Rule
-every_rule = record (new_rule (codes "every")) { long = Some (codes "every") }
-
--- the command of this name with `--turns`
-abbrev pub turns_app : Text → App
-turns_app name = with_rule (new_app name) turns_rule
-
--- with `--until-end`, too
-abbrev pub ending_app : Text → App
-ending_app name = with_rule (turns_app name) until_end_rule
-
--- with `--log`, too
-abbrev pub logged_app : Text → App
-logged_app name = with_rule (ending_app name) log_rule
-
--- with `--time`, too
-abbrev pub timed_app : Text → App
-timed_app name = with_rule (logged_app name) time_rule
-
--- with `--expect`, too
-abbrev pub expecting_app : Text → App
-expecting_app name = with_rule (timed_app name) expect_rule
-
--- with `--keep`, too
-abbrev pub keeping_app : Text → App
-keeping_app name = with_rule (expecting_app name) keep_rule
-
--- with `--stats`, too
-abbrev pub counting_app : Text → App
-counting_app name = with_rule (keeping_app name) stats_rule
-
--- with `--every`, too
-abbrev pub repeating_app : Text → App
-repeating_app name = with_rule (counting_app name) every_rule
-
--- with FILE, too: the whole command of this name
+-- the whole command of this name, with FILE, which is required
 abbrev pub net_app : Text → App
-net_app name = with_rule (repeating_app name) file_rule
+net_app name = with_operand (with_stats (with_expected (with_log (with_length (new_app name))))) (codes "file")
 
 -- the word is a number of turns from 1 to 1,000,000, in decimal digits, after an optional plus
 abbrev pub IsTurns : Text → ℕ → Type 0

@@ -1,6 +1,7 @@
 //! The command line of the program `rasta`: the command that it asks for.
 #![tactic(auto)]
 
+mod arguments;
 mod beside_options;
 mod command_line;
 mod entries;

@@ -1,11 +1,13 @@
 //! The arguments of `il`, `fe` and `pair` as clap declares them.
 
 ghost use Rattle.std.specs.Prelude.{◌≡◌, IfOk, false};
-ghost use Rattle.clap.specs.declared.Command.TheViews.{out-Command};
 ghost use Rattle.clap.specs.Words.{app_of};
-ghost use Rattle.rasta_words.specs.Runs.{counting_app, ending_app, expecting_app, keeping_app, logged_app, net_app, repeating_app, timed_app, turns_app};
+ghost use Rattle.clap.specs.declared.Command.TheViews.{out-Command as fields_of};
+ghost use Rattle.rasta_words.specs.Runs as spec;
+ghost use Rattle.rasta_words.specs.Runs.{net_app};
 
-use clap::{Arg, ArgAction, Command};
+use crate::arguments::{with_flag, with_operand, with_option};
+use clap::Command;
 use std::alloc::{AllocError, Global};
 
 /// Declares a command of ends over sockets.
@@ -17,173 +19,107 @@ pub fn net_command<'a>(
     name: &'a str,
     about: &'a str,
 ) -> Result<Command<'a>, AllocError>
-    // `net_command` declares a subcommand of this `name` with all options of `repeating_app` and the required
-    // argument `file`.
+    // `net_command` declares a subcommand of this `name` with the options of a run and the required argument `file`.
     ensures app { IfOk result (λ command. app_of command ≡ net_app name.entry.now) }
     // No argument that `net_command` declares is global.
-    ensures local { IfOk result (λ command. (out-Command command).has_globals ≡ false) }
+    ensures local { IfOk result (λ command. (fields_of command).has_globals ≡ false) }
 {
-    let command = repeating_command(alloc, name, about)?;
-    let file = Arg::new(alloc, "file")
-        .required(true)
-        .help("Settings file (TOML)");
-    command.arg(file)
+    let command = Command::new(alloc, name).about(about);
+    let command = with_length(alloc, command)?;
+    let command = with_log(alloc, command)?;
+    let command = with_expected(alloc, command)?;
+    let command = with_stats(alloc, command)?;
+    with_operand(alloc, command, "file", "Settings file (TOML)")
 }
 
-/// Declares a command of ends over sockets without its file.
+/// Adds `--turns` and `--until-end`.
 #[inline(never)]
-fn repeating_command<'a>(
-    alloc: Global,
-    name: &'a str,
-    about: &'a str,
-) -> Result<Command<'a>, AllocError>
-    // `repeating_command` declares a subcommand of this `name` with the options of `counting_app` and `--every`.
-    ensures app { IfOk result (λ command. app_of command ≡ repeating_app name.entry.now) }
-    // No argument that `repeating_command` declares is global.
-    ensures local { IfOk result (λ command. (out-Command command).has_globals ≡ false) }
+fn with_length<'a>(alloc: Global, command: Command<'a>) -> Result<Command<'a>, AllocError>
+    requires { (fields_of command).has_globals ≡ false }
+    // The command that `with_length` returns has `--turns` and `--until-end` after its other arguments.
+    ensures app { IfOk result (λ made. app_of made ≡ spec.with_length (app_of command.entry)) }
+    // No argument of the command that `with_length` returns is global.
+    ensures local { IfOk result (λ made. (fields_of made).has_globals ≡ false) }
 {
-    let command = counting_command(alloc, name, about)?;
-    let every = Arg::new(alloc, "every").long("every").help(
-        "With --stats: also write the counts every so many seconds, 1 to 86,400 [default: only at the end]",
-    );
-    command.arg(every)
-}
-
-/// Declares a command of ends over sockets without its file and `--every`.
-#[inline(never)]
-fn counting_command<'a>(
-    alloc: Global,
-    name: &'a str,
-    about: &'a str,
-) -> Result<Command<'a>, AllocError>
-    // `counting_command` declares a subcommand of this `name` with the options of `keeping_app` and `--stats`.
-    ensures app { IfOk result (λ command. app_of command ≡ counting_app name.entry.now) }
-    // No argument that `counting_command` declares is global.
-    ensures local { IfOk result (λ command. (out-Command command).has_globals ≡ false) }
-{
-    let command = keeping_command(alloc, name, about)?;
-    let stats = Arg::new(alloc, "stats").long("stats").help(
-        "Write counts to standard error at the end: text, json or prometheus [default: no counts]",
-    );
-    command.arg(stats)
-}
-
-/// Declares a command of ends over sockets with `--turns`, `--until-end`, `--log`, `--time`, `--expect`
-/// and `--keep`.
-#[inline(never)]
-fn keeping_command<'a>(
-    alloc: Global,
-    name: &'a str,
-    about: &'a str,
-) -> Result<Command<'a>, AllocError>
-    // `keeping_command` declares a subcommand of this `name` with the options of `expecting_app` and the flag
-    // `--keep`.
-    ensures app { IfOk result (λ command. app_of command ≡ keeping_app name.entry.now) }
-    // No argument that `keeping_command` declares is global.
-    ensures local { IfOk result (λ command. (out-Command command).has_globals ≡ false) }
-{
-    let command = expecting_command(alloc, name, about)?;
-    let keep = Arg::new(alloc, "keep")
-        .long("keep")
-        .action(ArgAction::SetTrue)
-        .help("Reopen an end that has lost its connection [default: it stays closed]");
-    command.arg(keep)
-}
-
-/// Declares a command of ends over sockets with `--turns`, `--until-end`, `--log`, `--time` and `--expect`.
-#[inline(never)]
-fn expecting_command<'a>(
-    alloc: Global,
-    name: &'a str,
-    about: &'a str,
-) -> Result<Command<'a>, AllocError>
-    // `expecting_command` declares a subcommand of this `name` with the options of `timed_app` and `--expect`.
-    ensures app { IfOk result (λ command. app_of command ≡ expecting_app name.entry.now) }
-    // No argument that `expecting_command` declares is global.
-    ensures local { IfOk result (λ command. (out-Command command).has_globals ≡ false) }
-{
-    let command = timed_command(alloc, name, about)?;
-    let expect = Arg::new(alloc, "expect").long("expect").help(
-        "Exit with status 4 unless, at the end, the session is established (up), or every telegram to be put is also confirmed (settled) [default: nothing is expected]",
-    );
-    command.arg(expect)
-}
-
-/// Declares a command of ends over sockets with `--turns`, `--until-end`, `--log` and `--time`.
-#[inline(never)]
-fn timed_command<'a>(
-    alloc: Global,
-    name: &'a str,
-    about: &'a str,
-) -> Result<Command<'a>, AllocError>
-    // `timed_command` declares a subcommand of this `name` with the options of `logged_app` and `--time`.
-    ensures app { IfOk result (λ command. app_of command ≡ timed_app name.entry.now) }
-    // No argument that `timed_command` declares is global.
-    ensures local { IfOk result (λ command. (out-Command command).has_globals ≡ false) }
-{
-    let command = logged_command(alloc, name, about)?;
-    let time = Arg::new(alloc, "time").long("time").help(
-        "Times of the log: utc, or run (milliseconds since the start of the run) [default: utc]",
-    );
-    command.arg(time)
-}
-
-/// Declares a command of ends over sockets with `--turns`, `--until-end` and `--log`.
-#[inline(never)]
-fn logged_command<'a>(
-    alloc: Global,
-    name: &'a str,
-    about: &'a str,
-) -> Result<Command<'a>, AllocError>
-    // `logged_command` declares a subcommand of this `name` with the options of `ending_app` and `--log`.
-    ensures app { IfOk result (λ command. app_of command ≡ logged_app name.entry.now) }
-    // No argument that `logged_command` declares is global.
-    ensures local { IfOk result (λ command. (out-Command command).has_globals ≡ false) }
-{
-    let command = ending_command(alloc, name, about)?;
-    let log = Arg::new(alloc, "log").long("log").help(
-        "Log to standard error: off, state (changes of state and the reason of the last one) or all (dropped datagrams too) [default: off]",
-    );
-    command.arg(log)
-}
-
-/// Declares a command of ends over sockets with `--turns` and `--until-end`.
-#[inline(never)]
-fn ending_command<'a>(
-    alloc: Global,
-    name: &'a str,
-    about: &'a str,
-) -> Result<Command<'a>, AllocError>
-    // `ending_command` declares a subcommand of this `name` with the option of `turns_app` and the flag
-    // `--until-end`.
-    ensures app { IfOk result (λ command. app_of command ≡ ending_app name.entry.now) }
-    // No argument that `ending_command` declares is global.
-    ensures local { IfOk result (λ command. (out-Command command).has_globals ≡ false) }
-{
-    let command = turns_command(alloc, name, about)?;
-    let until_end = Arg::new(alloc, "until-end")
-        .long("until-end")
-        .action(ArgAction::SetTrue)
-        .help(
-            "Instead of --turns: put each input line TYPE:HEX as a telegram, and stop when standard input ends",
-        );
-    command.arg(until_end)
-}
-
-/// Declares a command of ends over sockets with `--turns` only.
-#[inline(never)]
-fn turns_command<'a>(
-    alloc: Global,
-    name: &'a str,
-    about: &'a str,
-) -> Result<Command<'a>, AllocError>
-    // `turns_command` declares a subcommand of this `name` with the option `--turns` only.
-    ensures app { IfOk result (λ command. app_of command ≡ turns_app name.entry.now) }
-    // No argument that `turns_command` declares is global.
-    ensures local { IfOk result (λ command. (out-Command command).has_globals ≡ false) }
-{
-    let turns = Arg::new(alloc, "turns").long("turns").help(
+    let command = with_option(
+        alloc,
+        command,
+        "turns",
         "Stop after this many turns, 1 to 1,000,000; an idle turn lasts at most 5 milliseconds [required without --until-end]",
-    );
-    Command::new(alloc, name).about(about).arg(turns)
+    )?;
+    with_flag(
+        alloc,
+        command,
+        "until-end",
+        "Instead of --turns: put each input line TYPE:HEX as a telegram, and stop when standard input ends",
+    )
+}
+
+/// Adds `--log` and `--time`.
+#[inline(never)]
+fn with_log<'a>(alloc: Global, command: Command<'a>) -> Result<Command<'a>, AllocError>
+    requires { (fields_of command).has_globals ≡ false }
+    // The command that `with_log` returns has `--log` and `--time` after its other arguments.
+    ensures app { IfOk result (λ made. app_of made ≡ spec.with_log (app_of command.entry)) }
+    // No argument of the command that `with_log` returns is global.
+    ensures local { IfOk result (λ made. (fields_of made).has_globals ≡ false) }
+{
+    let command = with_option(
+        alloc,
+        command,
+        "log",
+        "Log to standard error: off, state (changes of state and the reason of the last one) or all (dropped datagrams too) [default: off]",
+    )?;
+    with_option(
+        alloc,
+        command,
+        "time",
+        "Times of the log: utc, or run (milliseconds since the start of the run) [default: utc]",
+    )
+}
+
+/// Adds `--expect` and `--keep`.
+#[inline(never)]
+fn with_expected<'a>(alloc: Global, command: Command<'a>) -> Result<Command<'a>, AllocError>
+    requires { (fields_of command).has_globals ≡ false }
+    // The command that `with_expected` returns has `--expect` and `--keep` after its other arguments.
+    ensures app { IfOk result (λ made. app_of made ≡ spec.with_expected (app_of command.entry)) }
+    // No argument of the command that `with_expected` returns is global.
+    ensures local { IfOk result (λ made. (fields_of made).has_globals ≡ false) }
+{
+    let command = with_option(
+        alloc,
+        command,
+        "expect",
+        "Exit with status 4 unless, at the end, the session is established (up), or every telegram to be put is also confirmed (settled) [default: nothing is expected]",
+    )?;
+    with_flag(
+        alloc,
+        command,
+        "keep",
+        "Reopen an end that has lost its connection [default: it stays closed]",
+    )
+}
+
+/// Adds `--stats` and `--every`.
+#[inline(never)]
+fn with_stats<'a>(alloc: Global, command: Command<'a>) -> Result<Command<'a>, AllocError>
+    requires { (fields_of command).has_globals ≡ false }
+    // The command that `with_stats` returns has `--stats` and `--every` after its other arguments.
+    ensures app { IfOk result (λ made. app_of made ≡ spec.with_stats (app_of command.entry)) }
+    // No argument of the command that `with_stats` returns is global.
+    ensures local { IfOk result (λ made. (fields_of made).has_globals ≡ false) }
+{
+    let command = with_option(
+        alloc,
+        command,
+        "stats",
+        "Write counts to standard error at the end: text, json or prometheus [default: no counts]",
+    )?;
+    with_option(
+        alloc,
+        command,
+        "every",
+        "With --stats: also write the counts every so many seconds, 1 to 86,400 [default: only at the end]",
+    )
 }
