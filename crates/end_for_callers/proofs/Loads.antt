@@ -23,7 +23,7 @@ use Rattle.safe_machine.specs.Connections.{in_turn, is_closed}
 use Rattle.safe_machine.specs.Deadlines.{beat_due, overdue}
 use Rattle.safe_machine.specs.Decision.{distance}
 use Rattle.safe_machine.specs.Made.{Made}
-use Rattle.safe_machine.specs.Octets.{move_of, octets_turn as machine_hears, decoded_answer}
+use Rattle.safe_machine.specs.Octets.{move_of, octets_turn as machine_hears, octets_units, decoded_answer}
 use Rattle.safe_machine.specs.Turned.{turn as machine_turn_of}
 use Rattle.safe_machine.specs.Turns.{Turn as MachineTurn, answer_ahead_turn, answer_early_turn, answer_next_turn, request_turn, heartbeat_turn, goes_on, guard_turn, has_room, leave_turn, move_past}
 use Rattle.safe_machine.specs.Turns.{both_confirmed, reply_turn, mark_answered, resend_turn, response_turn, sending_turn, send_turn, send_unit_turn, still, tick_turn, units_confirmed, acceptance_turn}
@@ -49,7 +49,7 @@ use Rattle.stack_end.specs.Ends.Call.{Close, Deliver, InitDone, Put, Tick}
 use Rattle.stack_end.specs.Turns.{accepts as accepts_in, Fields, Inside, Turn, above as above_red, arrives as end_arrives, can_pack, closes, closing}
 use Rattle.stack_end.specs.Turns.{completes, counts, datagrams, departs, dialogue_of, followed, goes_on as end_goes_on, goes_up, is_over, judged_at}
 use Rattle.stack_end.specs.Turns.{leaves as end_leaves, machine_turn, next_number, notes, packs, packs_up_to, part, parts, passes, puts, receives}
-use Rattle.stack_end.specs.Turns.{sends as end_sends, session_turn, settles, still as end_still, waited}
+use Rattle.stack_end.specs.Turns.{sends as end_sends, session_turn, settles, still as end_still, waited, with_units}
 use Rattle.stack_end.specs.declared.departure.Departure.{Departure}
 use Rattle.end_for_callers.proofs.Effects.{read-body, responds-has}
 use Rattle.end_for_callers.specs.Loads.{LoadLaw, sent_on}
@@ -324,14 +324,15 @@ part-sparse k now octets v h =
     let before = v.machine.connection in
     let judge = judged_at now octets v in
     let answer = decoded_answer (safe_seen v.machine.settings.rule octets) now v.machine in
-    let t0 = machine_turn (machine_hears octets now v.machine) v in
+    let t0 = with_units (octets_units octets now v.machine) (machine_turn (machine_hears octets now v.machine) v) in
     let t1 = followed t0 (session_turn judge.left) in
     let t2 = followed t1 (notes before octets) in
     let t3 = followed t2 (goes_up before) in
     let t4 = followed t3 (end_leaves now judge.leaving) in
     let t5 = followed t4 settles in
     let t6 = followed t5 (departs (closing now octets v)) in
-    let h0 = machine-sparse k 4 (machine_hears octets now v.machine) v (hears-few octets now v.machine h) in
+    let g = machine-sparse k 4 (machine_hears octets now v.machine) v (hears-few octets now v.machine h) in
+    let h0 : Sparse k 4 t0 = record { sent = g.sent; held = g.held } in
     let h1 = quiet-then k 4 t0 (session_turn judge.left) h0 (session-quiet judge.left t0.left) in
     let h2 = quiet-then k 4 t1 (notes before octets) h1 (notes-quiet before octets t1.left) in
     let h3 = quiet-then k 4 t2 (goes_up before) h2 (goes_up-quiet before t2.left) in

@@ -57,12 +57,12 @@ use Rattle.red_layer.specs.pdu.RedText.{red_text}
 use Rattle.stack_end.specs.Datagrams.{on_channels}
 use Rattle.stack_end.specs.Departures.{own_departure}
 use Rattle.stack_end.specs.Dialogue.{Dialogue, Judged, Leaving, judge_messages, judge_read, judge_units, judge_unpacked, process_event, session_in, unless_leaving}
-use Rattle.stack_end.specs.Ends.{Call, comes_up, rises}
+use Rattle.stack_end.specs.Ends.{Call}
 use Rattle.stack_end.specs.Ends.Call.{Close, Deliver, InitDone, Put, Tick}
 use Rattle.stack_end.specs.Turns.{Fields, Inside, Turn, above as above_red, accepts as accepts_in, arrives as end_arrives, can_pack, closes, closing}
-use Rattle.stack_end.specs.Turns.{completes, counts, datagrams, departs, dialogue_of, followed, goes_on as end_goes_on, goes_up, is_over, judged_at}
+use Rattle.stack_end.specs.Turns.{comes_up, completes, counts, datagrams, departs, dialogue_of, followed, goes_on as end_goes_on, goes_up, is_over, judged_at}
 use Rattle.stack_end.specs.Turns.{leaves as end_leaves, machine_turn, next_number, notes, packs, packs_up_to, part, parts, passes, puts, receives}
-use Rattle.stack_end.specs.Turns.{sends as end_sends, session_turn, settles, still as end_still, turn, waited}
+use Rattle.stack_end.specs.Turns.{rises, sends as end_sends, session_turn, settles, still as end_still, turn, waited, with_units}
 use Rattle.stack_end.specs.declared.departure.Departure.{Departure}
 use Rattle.end_for_callers.proofs.Effects.{responds-has}
 use Rattle.end_for_callers.proofs.Loads.{settled}
@@ -424,7 +424,7 @@ part-good n now octets v h =
     let before = v.machine.connection in
     let judged = judged_at now octets v in
     let answer = decoded_answer (safe_seen v.machine.settings.rule octets) now v.machine in
-    let t0 = machine_turn (machine_hears octets now v.machine) v in
+    let t0 = with_units (octets_units octets now v.machine) (machine_turn (machine_hears octets now v.machine) v) in
     let t1 = followed t0 (session_turn judged.left) in
     let t2 = followed t1 (notes before octets) in
     let t3 = followed t2 (goes_up before) in
@@ -432,7 +432,8 @@ part-good n now octets v h =
     let t5 = followed t4 settles in
     let t6 = followed t5 (departs (closing now octets v)) in
     let talk = units-talk (octets_units octets now v.machine) (dialogue_of v) (talks-of v h.sized) in
-    let h0 = machine-good n (machine_hears octets now v.machine) v h (hears-keeps octets now v.machine h.sized.units) in
+    let g = machine-good n (machine_hears octets now v.machine) v h (hears-keeps octets now v.machine h.sized.units) in
+    let h0 : Good n t0 = record { placed = g.placed; able = g.able } in
     let h1 = good-then n t0 (session_turn judged.left) h0 (session-good n judged.left t0.left h0.able talk) in
     let h2 = good-then n t1 (notes before octets) h1 (same-good n t1.left (notes before octets t1.left).left h1.able refl refl refl refl refl) in
     let h3 = good-then n t2 (goes_up before) h2 (goes_up-good n before t2.left h2.able) in

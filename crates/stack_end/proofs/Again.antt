@@ -2,7 +2,7 @@
 use Rattle.stack_end.proofs.Words.{[], ap, Arrives, Bool, by_cond, ClosedByUser, Closes, Completes, Datagram, datagrams, Dialogue, EndSettings, Err, Event, false}
 use Rattle.stack_end.proofs.Words.{if◌then◌else◌, Input, Inside, is_nil, judge_messages, judge_read, judge_units, judge_unpacked, Judged, Leaving, length, List, process_event, None, number_behind}
 use Rattle.stack_end.proofs.Words.{Ok, opening_turn, Option, Part, parts_passed, Puts, Receiver, red_after, RedTick, refl, Result, rises, rule_of, sendings, session_in, Settings, Some, subst}
-use Rattle.stack_end.proofs.Words.{suc, sym, Tele, tele_seen, TeleFault, true, unit_seen, unit_text, unless_leaving, Unspecified, View, zero, ℕ, ◌%◌, ◌^◌, ◌∙◌, ◌∷◌, ◌≡◌, PackFault, take, comes_up}
+use Rattle.stack_end.proofs.Words.{can_pack, suc, sym, Tele, tele_seen, TeleFault, true, unit_seen, unit_text, unless_leaving, Unspecified, View, zero, ℕ, ◌%◌, ◌^◌, ◌∙◌, ◌∷◌, ◌≡◌, PackFault, take, comes_up}
 use Rattle.pdi_session.specs.SessionStep.{new_session as session_opened, SessionState}
 use Rattle.red_layer.specs.FiniteMap.{has_number}
 use Rattle.red_layer.specs.Redundancy.{after_release, arrival, decoded, defer, follow, step_decoded as red_heard, is_due, least_waiting, new_receiver as red_opened, ReceiverStep}
@@ -16,14 +16,17 @@ use Rattle.safe_machine.specs.Moves.{Move, move}
 use Rattle.safe_machine.specs.Moves.Move.{Guards, Leaves, Sends, Ticks}
 use Rattle.safe_machine.specs.Octets.{arrive_octets, move_of as heard_move, seen_by}
 use Rattle.safe_machine.specs.State.{State}
-use Rattle.safe_machine.specs.Step.{may_send, new_state}
+use Rattle.safe_machine.specs.Step.{new_state}
 use Rattle.safe_machine.specs.View.{kept_of}
 use Rattle.safe_machine.specs.World.{Side}
 use Rattle.safe_machine.specs.World.Side.{Il, Fe}
 use Rattle.end_settings.specs.EndSettings.{connection_of, session_of}
 use Rattle.stack_end.proofs.Turning.{behind-wrap, datagrams-are, opens-made}
-use Rattle.stack_end.specs.Ends.{answered, Call, call, Close, Deliver, did, EndState, goes_on, handed_up, heard, InitDone, is_shut, leaves, moved, new_end, packed, packed_up_to}
-use Rattle.stack_end.specs.Ends.{part, parts, Put, receives, sends, settle, Tick, with_input, with_machine, with_session}
+use Rattle.stack_end.proofs.Effects.{answered, handed_up, heard, leaves, moved, packed, put_done, put_in, settle, with_machine, with_session}
+use Rattle.stack_end.proofs.Following.{closed-is, finished-is, guarded-is, packed-is, part-is, queued-is, ticked-is}
+use Rattle.stack_end.specs.Ends.{Call, Close, Deliver, EndState, InitDone, is_shut, new_end, Put, Tick}
+use Rattle.stack_end.specs.Steps.{by_steps, call, guarded, kept_of as fields_kept, part, parts, receives, step, ticked, whole_way, with_input}
+use Rattle.stack_end.specs.Turns.{call_by, closes, finishes, goes_by, packs, packs_by, queues, sends_by}
 use Rattle.stack_end.specs.Fields.{BothStand, Stands}
 use Rattle.stack_end.specs.Reopening.{after_calls, AgainLaw, IsAgain, reopening_turn}
 use Rattle.stack_end.specs.Statistics.{none_made, with_made}
@@ -175,7 +178,7 @@ kept-part now octets x =
     let y = answered octets x s in
     let z = heard now octets x in
     let left = kept-then x y z (kept-answered now octets x) (kept-leaves now (judge_units (handed_up x s) x.session).leaving y) in
-    kept-then x z (settle z) left (kept-settle z)
+    subst (Kept x) (sym (part-is now octets x)) (kept-then x z (settle z) left (kept-settle z))
 
 kept-parts : (now : ℕ) (ps : List Part) (x : EndState) → Kept x (parts now ps x)
 kept-parts now [] x = kept x
@@ -189,47 +192,47 @@ kept-receives now i x =
     let red : Kept x y = record { settings = refl; red = still-after i x.red; machine = refl; session = same x.session } in
     kept-then x y (receives now i x) red (kept-parts now (parts_passed i x.red) y)
 
-kept-packed : (now : ℕ) (x : EndState) → Kept x (packed now x)
+kept-packed : (now : ℕ) (x : EndState) → Kept x (step (packs now) x)
 kept-packed now x =
-    record {
+    subst (Kept x) (sym (packed-is now x))
+    (record {
       settings = refl;
       red = still x.red;
       machine = settings_law_holds (Sends (unit_text (take x.settings.n_maxpacket x.session.waiting)) now) x.machine;
       session = record { addressing = refl; role = refl };
-    }
+    })
 
-kept-packed_up_to : (n now : ℕ) (x : EndState) → Kept x (packed_up_to n now x)
-kept-packed_up_to zero now x = kept x
-kept-packed_up_to (suc n) now x =
-    let y = packed now x in
-    let more = kept-then x y (packed_up_to n now y) (kept-packed now x) (kept-packed_up_to n now y) in
-    kept-if (is_nil x.session.waiting) x _ _ (kept x) (kept-if (may_send x.machine) x _ _ more (kept x))
+kept-packs : (n now : ℕ) (x : EndState) → Kept x (packs_by by_steps n now x)
+kept-packs zero now x = kept x
+kept-packs (suc n) now x =
+    let y = step (packs now) x in
+    let more = kept-then x y (packs_by by_steps n now y) (kept-packed now x) (kept-packs n now y) in
+    kept-if (can_pack (fields_kept x)) x _ _ more (kept x)
 
-kept-sends : (now : ℕ) (x : EndState) → Kept x (sends now x)
-kept-sends now x = kept-packed_up_to (length x.session.waiting) now x
+kept-sends : (now : ℕ) (x : EndState) → Kept x (sends_by by_steps now x)
+kept-sends now x = kept-packs (length x.session.waiting) now x
 
-kept-goes_on : (now : ℕ) (i : Input) (x : EndState) → Kept x (goes_on now i x)
+kept-goes_on : (now : ℕ) (i : Input) (x : EndState) → Kept x (goes_by whole_way now i x)
 kept-goes_on now i x =
     let y = receives now i x in
-    kept-if (is_shut x) x _ _ (kept x) (kept-then x y (sends now y) (kept-receives now i x) (kept-sends now y))
+    kept-if (is_shut x) x _ _ (kept x) (kept-then x y (sends_by by_steps now y) (kept-receives now i x) (kept-sends now y))
 
-kept-did : (c : Call) (x : EndState) → Kept x (did c x)
-kept-did (Close now) x = kept-moved (Leaves ClosedByUser Unspecified now) x
+-- what follows the timers of the machine
+kept-first : (now : ℕ) (i : Input) (m : Move) (x y : EndState) → y ≡ moved m x → Kept x (if is_shut x then x else goes_by whole_way now i y)
+kept-first now i m x y is =
+    kept-if (is_shut x) x _ _ (kept x) (kept-then x y (goes_by whole_way now i y) (subst (Kept x) (sym is) (kept-moved m x)) (kept-goes_on now i y))
+
+kept-did : (c : Call) (x : EndState) → Kept x (call_by whole_way c x)
+kept-did (Close now) x = subst (Kept x) (sym (closed-is now x)) (kept-moved (Leaves ClosedByUser Unspecified now) x)
 kept-did (Put kind payload now) x =
-    let e = Puts kind payload (length x.session.waiting) in
-    let y = with_session (process_event e x.session) x in
-    kept-then x y (sends now y) (kept-meets e x) (kept-sends now y)
+    let y = step (queues kind payload) x in
+    let queued = subst (Kept x) (sym (queued-is kind payload x)) (kept-meets (Puts kind payload (length x.session.waiting)) x) in
+    kept-then x y (sends_by by_steps now y) queued (kept-sends now y)
 kept-did (InitDone now) x =
-    let e = Completes (length x.session.waiting) in
-    let y = with_session (process_event e x.session) x in
-    kept-then x y (sends now y) (kept-meets e x) (kept-sends now y)
-kept-did (Tick now) x =
-    let y = moved (Ticks now) x in
-    kept-if (is_shut x) x _ _ (kept x) (kept-then x y (goes_on now (RedTick now) y) (kept-moved (Ticks now) x) (kept-goes_on now (RedTick now) y))
-kept-did (Deliver channel octets now) x =
-    let y = moved (Guards now) x in
-    let i = Datagram octets now in
-    kept-if (is_shut x) x _ _ (kept x) (kept-then x y (goes_on now i y) (kept-moved (Guards now) x) (kept-goes_on now i y))
+    let y = step finishes x in
+    kept-then x y (sends_by by_steps now y) (subst (Kept x) (sym (finished-is x)) (kept-meets (Completes (length x.session.waiting)) x)) (kept-sends now y)
+kept-did (Tick now) x = kept-first now (RedTick now) (Ticks now) x (ticked now x) (ticked-is now x)
+kept-did (Deliver channel octets now) x = kept-first now (Datagram octets now) (Guards now) x (guarded now x) (guarded-is now x)
 
 kept-call : (c : Call) (x : EndState) → Kept x (call c x)
 kept-call c x =

@@ -1,6 +1,8 @@
 pub mod Words
 pub mod Going
 pub mod Packing
+pub mod Effects
+pub mod Following
 pub mod Turning
 pub mod Taking
 pub mod Timely

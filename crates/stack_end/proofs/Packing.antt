@@ -103,7 +103,15 @@ none-packs v h = ap (λ b. not b && has_room v.machine) (none-nil v.waiting h)
 
 -- a turn after another
 abbrev behind : Turn Fields → Turn Fields → Turn Fields
-behind t u = record { left = u.left; sent = t.sent ++ u.sent; taken = t.taken ++ u.taken }
+behind t u =
+    record {
+      left = u.left;
+      sent = t.sent ++ u.sent;
+      taken = t.taken ++ u.taken;
+      made = t.made ++ u.made;
+      units = t.units ++ u.units;
+      talks = t.talks ++ u.talks;
+    }
 
 -- more turns than messages wait change nothing
 fuel : (n m now : ℕ) (v : Fields) → 1 ≤ v.max → length v.waiting ≤ n → length v.waiting ≤ m → packs_up_to n now v ≡ packs_up_to m now v
@@ -140,6 +148,9 @@ followed-assoc t f g = λ i.
       left = (g (f t.left).left).left;
       sent = sym (append_assoc t.sent (f t.left).sent (g (f t.left).left).sent) i;
       taken = sym (append_assoc t.taken (f t.left).taken (g (f t.left).left).taken) i;
+      made = sym (append_assoc t.made (f t.left).made (g (f t.left).left).made) i;
+      units = sym (append_assoc t.units (f t.left).units (g (f t.left).left).units) i;
+      talks = sym (append_assoc t.talks (f t.left).talks (g (f t.left).left).talks) i;
     }
 
 -- one unit more after those that went out
@@ -323,7 +334,7 @@ listening now octets v h =
     let t = above (guards now) v in
     let on = followed (receives now i t.left) (above (sends now)) in
     ap (λ b. if b then still v else followed t (goes_on now i)) h.before
-    ∙ ap (λ b. let u = if b then still t.left else on in record { left = u.left; sent = t.sent ++ u.sent; taken = t.taken ++ u.taken }) h.behind
+    ∙ ap (λ b. followed t (λ w. if b then still w else followed (receives now i w) (above (sends now)))) h.behind
 
 pub has-heard : (now : ℕ) (octets : List ℕ) (v w : Inside) → w ≡ (arrives now octets v).left → HasHeard now octets v w
 has-heard now octets v w e listens = ap (λ (q : Inside). q.red) e ∙ ap (λ (t : Turn Inside). t.left.red) (listening now octets v listens)

@@ -4,7 +4,7 @@ use Rattle.stack_end.proofs.Words.{comes_up, Completes, completes, ConnectionSta
 use Rattle.stack_end.proofs.Words.{EndSettings, Err, Event, false, Fields, followed, goes_on, goes_up, has_room, HasMade, hears, octets_units, if_ended}
 use Rattle.stack_end.proofs.Words.{if◌then◌else◌, inl, Input, inr, Inside, is_closed, is_nil, is_none, is_over, IsBefore, IsReachedAt, Item, judge_messages}
 use Rattle.stack_end.proofs.Words.{judge_read, judge_units, judge_unpacked, Judged, judge_telegram, judged_at, kept_of, leaves, Leaving, length, length-append, List}
-use Rattle.stack_end.proofs.Words.{machine_hears, machine_still, machine_turn, MachineTurn, Made, process_event, next_number, None, not, notes, number_behind, Ok}
+use Rattle.stack_end.proofs.Words.{machine_hears, machine_still, machine_turn, MachineTurn, Made, process_event, next_number, None, not, noted, notes, number_behind, Ok}
 use Rattle.stack_end.proofs.Words.{on_channels, opening_turn, Option, PackFault, packs, packs_up_to, Part, part, parts, parts_passed, Puts, puts, Receiver, receives}
 use Rattle.stack_end.proofs.Words.{red_after, red_text, RedTick, refl, Result, rises, rule_of, sendings, sends, session_in, session_turn, Settings, settles}
 use Rattle.stack_end.proofs.Words.{Some, Speaks, Start, subst, suc, sym, take, taken_by, Tele, tele_seen, TeleFault, text_of, texts, tick_turn, ChannelHistory, true}
@@ -41,9 +41,11 @@ use Rattle.stack_end.specs.Certain.{telegrams_in}
 use Rattle.stack_end.specs.Datagrams.{upper_of}
 use Rattle.stack_end.specs.Deadlines.{earliest}
 use Rattle.stack_end.specs.EndValue.{EndTurns, EndValue}
-use Rattle.stack_end.specs.Ends.{Call, Close, did, EndState, goes_on as end_goes_on, handed_up, InitDone, is_shut, leaves as end_leaves, moved, noted, packed}
-use Rattle.stack_end.specs.Ends.{packed_up_to, part as end_part, parts as end_parts, Put, receives as end_receives, sends as end_sends, settle, Tick, time_of}
-use Rattle.stack_end.specs.Ends.{with_input, with_machine, with_session}
+use Rattle.stack_end.proofs.Effects.{handed_up, leaves as end_leaves, moved, packed, sends as end_sends, settle, with_machine, with_session}
+use Rattle.stack_end.proofs.Following.{can_pack-is, closed-is, finished-is, guarded-is, heard_alone, noted_from, packed-is, part-is, queued-is, rises_from, ticked-is}
+use Rattle.stack_end.specs.Ends.{Call, Close, EndState, InitDone, is_shut, Put, Tick, time_of}
+use Rattle.stack_end.specs.Steps.{by_steps, guarded, kept_of as fields_kept, part as end_part, parts as end_parts, receives as end_receives, step, ticked}
+use Rattle.stack_end.specs.Steps.{whole_way, with_input}
 use Rattle.stack_end.specs.Fields.{BothDo, BothStand, Stands}
 use Rattle.stack_end.specs.Departures.{known_departure}
 use Rattle.stack_end.specs.Statistics.{none_made, with_kind, with_made, with_step}
@@ -52,7 +54,8 @@ use Rattle.stack_end.specs.declared.statistics.PartCounts.{PartCounts}
 use Rattle.stack_end.specs.declared.statistics.ReceptionCounts.{ReceptionCounts}
 use Rattle.stack_end.specs.Turned.{AnyChannelLaw, Grew, LastLaw, TellsLaw, Turned, TurnsLaw}
 use Rattle.stack_end.specs.Departures.{own_departure}
-use Rattle.stack_end.specs.Turns.{closes, closing, counts, departs, still as end_still, Turn as EndTurn, waited}
+use Rattle.stack_end.specs.Turns.{call_by, closes, closing, counts, departs, finishes, goes_by, packs_by, queues, still as end_still, Turn as EndTurn}
+use Rattle.stack_end.specs.Turns.{waited, with_units}
 use Rattle.stack_end.specs.declared.departure.Departure.{Departure}
 use Rattle.safe_machine.specs.Deadlines.{overdue}
 use Rattle.stack_end.specs.declared.layers.Layers.{Layers}
@@ -186,18 +189,17 @@ pub red-at : (now : ℕ) (r : Receiver) (nil : Bool) → is_nil r.waiting ≡ ni
 red-at now r true n h = absurd (rw n at h)
 red-at now r false n h = let k = rw n at h in rw (n, le-leb (r.since + r.t_seq) now k) refl
 
-sends-history : (n now : ℕ) (x : EndState) → (packed_up_to n now x).session.history ≡ x.session.history
-sends-history zero now x = refl
-sends-history (suc n) now x =
-    by_cond (λ (y : EndState). y.session.history ≡ x.session.history) (is_nil x.session.waiting) x _ (λ _. refl)
-    (λ _. by_cond (λ (y : EndState). y.session.history ≡ x.session.history) (may_send x.machine) (packed_up_to n now (packed now x)) x
-    (λ _. sends-history n now (packed now x)) (λ _. refl))
+packs-history : (n now : ℕ) (x : EndState) → (packs_by by_steps n now x).session.history ≡ x.session.history
+packs-history zero now x = refl
+packs-history (suc n) now x =
+    by_cond (λ (y : EndState). y.session.history ≡ x.session.history) (can_pack (fields_kept x)) (packs_by by_steps n now (step (packs now) x)) x
+    (λ _. packs-history n now (step (packs now) x)) (λ _. refl)
 
 pub puts-last : (kind : ℕ) (payload : List ℕ) (now : ℕ) (x : EndState) → put_refusal (session_in x.session) kind payload (length x.session.waiting) ≡ None
-    → (did (Put kind payload now) x).session.history.put ≡ x.session.history.put ++ (kind, payload) ∷ []
+    → (call_by whole_way (Put kind payload now) x).session.history.put ≡ x.session.history.put ++ (kind, payload) ∷ []
 puts-last kind payload now x accepted =
-    let y : EndState = with_session (process_event (Puts kind payload (length x.session.waiting)) x.session) x in
-    ap (λ (h : History). h.put) (sends-history (length y.session.waiting) now y)
+    let y : EndState = step (queues kind payload) x in
+    ap (λ (h : History). h.put) (packs-history (length y.session.waiting) now y)
     ∙ ap (λ r. x.session.history.put ++ (if is_none r then (kind, payload) ∷ [] else [])) accepted
 
 -- four bytes give a number modulo 2^32
@@ -424,18 +426,7 @@ upper-leaves now a b v x same h = subst (λ q. UpperTurned (leaves now a v) x (e
     both None = upper-still v x h
     both (Some why) = upper-move (Leaves why.0 why.1 now) v x tt h
 
--- A part, step by step: it is processed; the request is kept; the session goes up.
-abbrev heard_alone : ℕ → List ℕ → EndState → EndState
-heard_alone now octets x =
-    let s = arrive_octets octets now x.machine in
-    with_session (judge_units (handed_up x s) x.session).left (with_machine s x)
-
-abbrev noted_from : ConnectionState → List ℕ → EndState → EndState
-noted_from before octets x = record x { request = noted (is_joining before x.machine.connection) octets x.request }
-
-abbrev rises_from : ConnectionState → EndState → EndState
-rises_from before x = with_session (rises (comes_up before x.machine.connection) x.session) x
-
+-- A part, step by step.
 upper-hears : (now : ℕ) (octets : List ℕ) (v : Fields) (x : EndState) → Stands v x → UpperTurned (hears now octets v) x (heard_alone now octets x)
     × ((judged_at now octets v).leaving ≡ (judge_units (handed_up x (arrive_octets octets now x.machine)) x.session).leaving)
 upper-hears now octets v x h =
@@ -450,8 +441,14 @@ upper-hears now octets v x h =
     let both = subst (λ us. RidesJudged before (judged_at now octets v) (judge_units us x.session)) up
     (rides-units before units (dialogue_of v) x.session (rides-here v x h)) in
     let second = upper-session (judged_at now octets v).left (judge_units (handed_up x s) x.session).left (machine_turn m v).left (with_machine s x)
-    (put-units (handed_up x s) x.session) both.left first.stands in
-    (upper-then (machine_turn m v) (session_turn (judged_at now octets v).left) x (with_machine s x) (heard_alone now octets x) first second, both.leaving)
+    (put-units (handed_up x s) x.session) both.left first.stands in (
+      upper-then (with_units units (machine_turn m v)) (session_turn (judged_at now octets v).left) x (with_machine s x) (heard_alone now octets x)
+          (record { stands = first.stands; red = first.red; grew = delivers first.grew }) second,
+      both.leaving,
+    )
+  where
+    delivers : {t : EndTurn Fields} {x y : EndState} {us : List (List ℕ)} → Grew t x y → Grew (with_units us t) x y
+    delivers g = record { settings = g.settings; more = g.more; made = g.made; sent = g.sent; taken = g.taken }
 
 upper-notes : (before : ConnectionState) (octets : List ℕ) (v : Fields) (x : EndState) → Stands v x
     → UpperTurned (notes before octets v) x (noted_from before octets x)
@@ -544,7 +541,8 @@ upper-part now octets v x h =
     let h3 = upper-then t2 (leaves now why) x x2 x3 h2 (upper-leaves now why asked t2.left x2 heard.1 h2.stands) in
     let h4 = upper-then t3 settles x x3 (settle x3) h3 (upper-settles t3.left x3 h3.stands) in
     subst (UpperTurned (part now octets v) x)
-    (ap (λ (q : ConnectionState). settle (end_leaves now asked (rises_from q (noted_from q octets x0)))) (ap (λ (m : View). m.connection) h.machine))
+    (ap (λ (q : ConnectionState). settle (end_leaves now asked (rises_from q (noted_from q octets x0)))) (ap (λ (m : View). m.connection) h.machine)
+    ∙ sym (part-is now octets x))
     (upper-counts (decoded_answer (safe_seen v.machine.settings.rule octets) now v.machine) (waited now v) now
     (followed (followed t3 settles) (departs (closing now octets v))) x (settle x3)
     (upper-departs (closing now octets v) (followed t3 settles) x (settle x3) h4))
@@ -561,7 +559,7 @@ upper-parts now (p ∷ ps) v x h =
 abbrev sent_out : List ℕ → List (List ℕ) → ℕ → EndState → EndState
 sent_out unit rest now x = record x { machine = send unit now x.machine; session = record { history = x.session.history; waiting = rest } }
 
-upper-packs : (now : ℕ) (v : Fields) (x : EndState) → Stands v x → UpperTurned (packs now v) x (packed now x)
+upper-packs : (now : ℕ) (v : Fields) (x : EndState) → Stands v x → UpperTurned (packs now v) x (step (packs now) x)
 upper-packs now v x h =
     let unit = unit_text (take v.max v.waiting) in
     let rest = drop v.max v.waiting in
@@ -591,30 +589,23 @@ upper-packs now v x h =
     let is : z ≡ packed now x =
     ap (λ n. sent_out (unit_text (take n v.waiting)) (drop n v.waiting) now x) h.max
     ∙ ap (λ ws. sent_out (unit_text (take x.settings.n_maxpacket ws)) (drop x.settings.n_maxpacket ws) now x) h.speaks.waits in
-    subst (UpperTurned (packs now v) x) is (upper-then t (λ w. end_still (record w { waiting = rest })) x y z one behind)
+    subst (UpperTurned (packs now v) x) (is ∙ sym (packed-is now x)) (upper-then t (λ w. end_still (record w { waiting = rest })) x y z one behind)
 
--- the two tests of packing are one
-one-test : (nil may : Bool) (y z : EndState) → (if not nil && may then z else y) ≡ (if nil then y else if may then z else y)
-one-test true may y z = refl
-one-test false may y z = refl
-
-upper-up_to : (n now : ℕ) (v : Fields) (x : EndState) → Stands v x → UpperTurned (packs_up_to n now v) x (packed_up_to n now x)
+upper-up_to : (n now : ℕ) (v : Fields) (x : EndState) → Stands v x → UpperTurned (packs_up_to n now v) x (packs_by by_steps n now x)
 upper-up_to zero now v x h = upper-still v x h
 upper-up_to (suc n) now v x h =
     let t = packs now v in
-    let y : EndState = packed now x in
-    let z : EndState = packed_up_to n now y in
+    let y : EndState = step (packs now) x in
+    let z : EndState = packs_by by_steps n now y in
     let one = upper-packs now v x h in
     let more = upper-then t (packs_up_to n now) x y z one (upper-up_to n now t.left y one.stands) in
     let nil = is_nil x.session.waiting in
-    let may = may_send x.machine in
-    let can : can_pack v ≡ (not nil && may) =
-    ap (λ ws. not (is_nil ws) && has_room v.machine) h.speaks.waits ∙ ap (λ b. not nil && b) (machine_tells_hold v.machine x.machine h.machine).room in
-    subst (UpperTurned (packs_up_to (suc n) now v) x) (one-test nil may x z)
-    (choose (λ q w. UpperTurned q x w) (can_pack v) (not nil && may) (followed t (packs_up_to n now)) (end_still v) z x can more (upper-still v x h))
+    let can : can_pack v ≡ can_pack (fields_kept x) =
+    ap (λ ws. not (is_nil ws) && has_room v.machine) h.speaks.waits ∙ ap (λ (m : View). not nil && has_room m) h.machine in
+    choose (λ q w. UpperTurned q x w) (can_pack v) (can_pack (fields_kept x)) (followed t (packs_up_to n now)) (end_still v) z x can more (upper-still v x h)
 
 upper-sends : (now : ℕ) (v : Fields) (x : EndState) → Stands v x → UpperTurned (sends now v) x (end_sends now x)
-upper-sends now v x h = subst (λ ws. UpperTurned (sends now v) x (packed_up_to (length ws) now x)) h.speaks.waits (upper-up_to (length v.waiting) now v x h)
+upper-sends now v x h = subst (λ ws. UpperTurned (sends now v) x (packs_by by_steps (length ws) now x)) h.speaks.waits (upper-up_to (length v.waiting) now v x h)
 
 -- an event of the session that knows how many messages wait, and then sending
 upper-event : (event : ℕ → Event) (n now : ℕ) (v : Fields) (x : EndState)
@@ -688,7 +679,7 @@ whole-receives now i v x h =
 over-is : (v : Inside) (x : EndState) → BothStand v x → is_over v ≡ is_shut x
 over-is v x h = ap (λ (m : View). is_closed m.connection) h.upper.machine
 
-whole-goes_on : (now : ℕ) (i : Input) (v : Inside) (x : EndState) → BothStand v x → Turned (goes_on now i v) x (end_goes_on now i x)
+whole-goes_on : (now : ℕ) (i : Input) (v : Inside) (x : EndState) → BothStand v x → Turned (goes_on now i v) x (goes_by whole_way now i x)
 whole-goes_on now i v x h =
     let t = receives now i v in
     let y : EndState = end_receives now i x in
@@ -699,31 +690,36 @@ whole-goes_on now i v x h =
     (over-is v x h) (whole-still v x h) more
 
 -- the machine first, and then what follows
-whole-first : (m : Move) (now : ℕ) (i : Input) (v : Inside) (x : EndState) → MaySend m v.upper.machine → BothStand v x
+whole-first : (m : Move) (now : ℕ) (i : Input) (v : Inside) (x y : EndState) → y ≡ moved m x → MaySend m v.upper.machine → BothStand v x
     → Turned
     (if is_over v then end_still v else followed
     (above (λ w. followed (followed (machine_turn (machine_move m w.machine) w) settles) (departs (own_departure (overdue now w.machine) now))) v)
     (goes_on now i)) x
-    (if is_shut x then x else end_goes_on now i (moved m x))
-whole-first m now i v x may h =
+    (if is_shut x then x else goes_by whole_way now i y)
+whole-first m now i v x y is may h =
     let cause = own_departure (overdue now v.upper.machine) now in
     let next = λ (w : Fields). followed (followed (machine_turn (machine_move m w.machine) w) settles) (departs (own_departure (overdue now w.machine) now)) in
     let t = above next v in
-    let y : EndState = moved m x in
-    let one = whole-above next v x y h (upper-departs cause _ x y (upper-moved m v.upper x may h.upper)) in
-    choose (λ q w. Turned q x w) (is_over v) (is_shut x) (end_still v) (followed t (goes_on now i)) x (end_goes_on now i y) (over-is v x h) (whole-still v x h)
-    (whole-then t (goes_on now i) x y (end_goes_on now i y) one (whole-goes_on now i t.left y one.stands))
+    let one = whole-above next v x y h
+    (subst (UpperTurned (next v.upper) x) (sym is) (upper-departs cause _ x (moved m x) (upper-moved m v.upper x may h.upper))) in
+    choose (λ q w. Turned q x w) (is_over v) (is_shut x) (end_still v) (followed t (goes_on now i)) x (goes_by whole_way now i y) (over-is v x h)
+    (whole-still v x h)
+    (whole-then t (goes_on now i) x y (goes_by whole_way now i y) one (whole-goes_on now i t.left y one.stands))
 
-pub turns_did : (c : Call) (v : Inside) (x : EndState) → BothStand v x → Turned (turn c v) x (did c x)
-turns_did (Close now) v x h = whole-above (closes now) v x (moved (Leaves ClosedByUser Unspecified now) x) h
-    (upper-departs _ _ x (moved (Leaves ClosedByUser Unspecified now) x) (upper-moved (Leaves ClosedByUser Unspecified now) v.upper x tt h.upper))
+pub turns_did : (c : Call) (v : Inside) (x : EndState) → BothStand v x → Turned (turn c v) x (call_by whole_way c x)
+turns_did (Close now) v x h = whole-above (closes now) v x (step (closes now) x) h
+    (subst (UpperTurned (closes now v.upper) x) (sym (closed-is now x))
+    (upper-departs _ _ x (moved (Leaves ClosedByUser Unspecified now) x) (upper-moved (Leaves ClosedByUser Unspecified now) v.upper x tt h.upper)))
 turns_did (Put kind payload now) v x h =
-    whole-above (puts kind payload now) v x (did (Put kind payload now) x) h (upper-event (λ n. Puts kind payload n) _ now v.upper x
-    (puts-counted kind payload v.upper x h.upper) h.upper)
-turns_did (InitDone now) v x h = whole-above (completes now) v x (did (InitDone now) x) h (upper-event (λ n. Completes n) v.upper.accepted now v.upper x
-    (h.upper.accepted ∙ ap (λ (is : List Item). cap_count (length is)) (sym (append-nil x.session.history.put))) h.upper)
-turns_did (Tick now) v x h = whole-first (Ticks now) now (RedTick now) v x tt h
-turns_did (Deliver channel octets now) v x h = whole-first (Guards now) now (Datagram octets now) v x tt h
+    whole-above (puts kind payload now) v x (call_by whole_way (Put kind payload now) x) h
+    (subst (λ (y : EndState). UpperTurned (puts kind payload now v.upper) x (end_sends now y)) (sym (queued-is kind payload x))
+    (upper-event (λ n. Puts kind payload n) _ now v.upper x (puts-counted kind payload v.upper x h.upper) h.upper))
+turns_did (InitDone now) v x h = whole-above (completes now) v x (call_by whole_way (InitDone now) x) h
+    (subst (λ (y : EndState). UpperTurned (completes now v.upper) x (end_sends now y)) (sym (finished-is x))
+    (upper-event (λ n. Completes n) v.upper.accepted now v.upper x
+    (h.upper.accepted ∙ ap (λ (is : List Item). cap_count (length is)) (sym (append-nil x.session.history.put))) h.upper))
+turns_did (Tick now) v x h = whole-first (Ticks now) now (RedTick now) v x (ticked now x) (ticked-is now x) tt h
+turns_did (Deliver channel octets now) v x h = whole-first (Guards now) now (Datagram octets now) v x (guarded now x) (guarded-is now x) tt h
 
 -- the time of a call does not change what the layers represent
 timed : (v : Inside) (x : EndState) (time : ℕ) → BothStand v x → BothStand v (record x { time = time })
@@ -751,7 +747,7 @@ turns_law_holds c v x h =
     let one = turns_did c v x h in
     let g = one.grew in
     record {
-      stands = timed _ (did c x) (time_of c) one.stands;
+      stands = timed _ (call_by whole_way c x) (time_of c) one.stands;
       grew = record { settings = g.settings; more = g.more; made = g.made; sent = g.sent; taken = g.taken };
     }
 

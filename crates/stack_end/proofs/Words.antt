@@ -37,12 +37,12 @@ pub use Rattle.stack_end.specs.Datagrams.{on_channels, sendings}
 pub use Rattle.stack_end.specs.Dialogue.{Dialogue, if_ended, judge_messages, judge_read, judge_units, judge_unpacked, Judged, Leaving, process_event, session_in}
 pub use Rattle.stack_end.specs.Dialogue.{unless_leaving}
 pub use Rattle.stack_end.specs.EndValue.{inside}
-pub use Rattle.stack_end.specs.Ends.{comes_up, Deliver, rises}
+pub use Rattle.stack_end.specs.Ends.{Deliver}
 pub use Rattle.stack_end.specs.Fields.{fields_of, inside_of, Keeps}
 pub use Rattle.stack_end.specs.Hearing.{HasHeard, TakesPart}
 pub use Rattle.stack_end.specs.Outstanding.{PutOut}
 pub use Rattle.stack_end.specs.Recent.{DatagramRecent, TickRecent}
 pub use Rattle.stack_end.specs.Talk.{Judges, Speaks, talk, texts_of}
-pub use Rattle.stack_end.specs.Turns.{above, arrives, can_pack, completes, datagrams, dialogue_of, Fields, followed, goes_on, goes_up, guards, hears, Inside}
-pub use Rattle.stack_end.specs.Turns.{is_over, judged_at, leaves, machine_turn, next_number, notes, number_behind, packs, packs_once, packs_up_to, part, parts}
-pub use Rattle.stack_end.specs.Turns.{passes, puts, receives, sends, session_turn, settles, still, Turn, turn, WentAlone}
+pub use Rattle.stack_end.specs.Turns.{above, arrives, can_pack, comes_up, completes, datagrams, dialogue_of, Fields, followed, goes_on, goes_up, guards, hears, Inside}
+pub use Rattle.stack_end.specs.Turns.{is_over, judged_at, leaves, machine_turn, next_number, noted, notes, number_behind, packs, packs_once, packs_up_to, part, parts}
+pub use Rattle.stack_end.specs.Turns.{passes, puts, receives, rises, sends, session_turn, settles, still, Turn, turn, WentAlone}

@@ -6,6 +6,7 @@ pub mod Departures
 pub mod Turns
 pub mod Certain
 pub mod Fields
+pub mod Steps
 pub mod Turned
 pub mod Later
 pub mod Kept

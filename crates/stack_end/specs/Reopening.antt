@@ -6,10 +6,11 @@ use Rattle.safe_machine.specs.Turns.{opening_turn}
 use Rattle.safe_machine.specs.World.{Side}
 use Rattle.end_settings.specs.EndSettings.{EndSettings}
 use Rattle.stack_end.specs.Datagrams.{sent_at_opening}
-use Rattle.stack_end.specs.Ends.{Call, EndState, call, new_end}
+use Rattle.stack_end.specs.Ends.{Call, EndState, new_end}
 use Rattle.stack_end.specs.Fields.{BothStand}
 use Rattle.stack_end.specs.Statistics.{none_heard, none_made}
-use Rattle.stack_end.specs.Turns.{Fields, Inside, Turn, machine_turn}
+use Rattle.stack_end.specs.Steps.{call}
+use Rattle.stack_end.specs.Turns.{Fields, Inside, Turn, machine_turn, with_red}
 
 -- what is kept above the redundancy layer before anything has happened: only the settings, and the machine of before
 abbrev pub empty_fields : Fields → Fields
@@ -35,9 +36,7 @@ machine_reopening_turn first now v = machine_turn (opening_turn v.machine.settin
 
 -- all layers open again
 abbrev pub reopening_turn : (first now : ℕ) → Inside → Turn Inside
-reopening_turn first now v =
-    let t = machine_reopening_turn first now (empty_fields v.upper) in
-    record { left = record { red = red_opened v.red.q v.red.t_seq; upper = t.left }; sent = t.sent; taken = [] }
+reopening_turn first now v = with_red (red_opened v.red.q v.red.t_seq) (machine_reopening_turn first now (empty_fields v.upper))
 
 -- an end after these calls, in order
 abbrev pub after_calls : List Call → EndState → EndState

@@ -1,4 +1,5 @@
--- The bridge from what an end keeps to its whole history: each turn is the call's step, and the state grows by what was sent and delivered.
+-- The bridge from what an end keeps to its whole history: what a turn leaves represents the state after the call's steps, and the state grows by what was
+-- sent and delivered.
 use Rattle.std.specs.Prelude.{◌≡◌, ◌≢◌, ℕ, None, List, [], ◌∷◌, ◌++◌, length}
 use Rattle.pdi_session.specs.SessionStep.{put_refusal}
 use Rattle.safe_machine.specs.Made.{Made}
@@ -7,7 +8,8 @@ use Rattle.safe_machine.specs.Step.{tick}
 use Rattle.safe_machine.specs.Turns.{still, tick_turn}
 use Rattle.stack_end.specs.Datagrams.{sendings}
 use Rattle.stack_end.specs.Dialogue.{session_in}
-use Rattle.stack_end.specs.Ends.{Call, Deliver, EndState, Put, call, is_settled}
+use Rattle.stack_end.specs.Ends.{Call, Deliver, EndState, Put, is_settled}
+use Rattle.stack_end.specs.Steps.{call}
 use Rattle.stack_end.specs.Certain.{confirmed_in, confirmed_of}
 use Rattle.stack_end.specs.Fields.{BothStand}
 use Rattle.stack_end.specs.Turns.{Inside, Turn, is_settled as keeps_none, turn}

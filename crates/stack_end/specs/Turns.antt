@@ -1,20 +1,22 @@
 -- One call of an end: its new contents, the datagrams that it sends, and the telegrams that its application takes, each in order.
 --
--- A turn depends only on what is kept. The states with the whole history take the same step: Turned.TurnsLaw is the only place that says so.
-use Rattle.std.specs.Prelude.{◌≡◌, ℕ, zero, suc, ◌+◌, ◌-◌, min, ◌%◌, ◌^◌, Bool, not, ◌&&◌, Option, Some, None, List, [], ◌∷◌, ◌++◌, take, drop, length}
+-- A turn depends only on what is kept. A state with its whole history takes the same turns (`Steps`), and appends what they did.
+use Rattle.std.specs.Prelude.{◌≡◌, ℕ, zero, suc, ◌+◌, ◌-◌, min, ◌%◌, ◌^◌, Bool, true, false, not, ◌&&◌, Option, Some, None, List, [], ◌∷◌, ◌++◌, take, drop, length}
 use Rattle.std.specs.Prelude.{if◌then◌else◌}
 use Rattle.std.specs.List.{FoldsTo}
 use Rattle.channels.specs.Told.{Sending, SendsOne, ChannelHistory}
 use Rattle.pdi_session.specs.packing.UnitText.{unit_text}
 use Rattle.pdi_session.specs.declared.InitFault.{InitFault}
 use Rattle.pdi_session.specs.declared.PutFault.{PutFault}
-use Rattle.pdi_session.specs.SessionStep.{Closes, InitDone as Completes, Item, Puts, SessionState, init_refusal, put_refusal}
+use Rattle.pdi_session.specs.Histories.{History}
+use Rattle.pdi_session.specs.SessionStep.{Closes, InitDone as Completes, Item, Puts, SessionState, Up as GoesUp, init_refusal, put_refusal}
 use Rattle.red_layer.specs.Parts.{Part, is_nil}
 use Rattle.red_layer.specs.Redundancy.{Datagram, Input, Receiver, Tick as RedTick, after, judge as red_judged, parts_passed}
 use Rattle.red_layer.specs.declared.RedEvent.{RedEvent}
 use Rattle.red_layer.specs.pdu.RedText.{red_text}
 use Rattle.safe_pdu.specs.declared.CodeRule.{CodeRule}
 use Rattle.safe_machine.specs.declared.ConnectionState.{ConnectionState}
+use Rattle.safe_machine.specs.declared.ConnectionState.TheVariants.{Start, Up}
 use Rattle.safe_machine.specs.declared.Step.{Step as Outcome}
 use Rattle.safe_pdu.specs.declared.reasons.Reason.TheVariants.{ClosedByUser}
 use Rattle.safe_pdu.specs.declared.reasons.Detail.TheVariants.{Unspecified}
@@ -34,7 +36,7 @@ use Rattle.stack_end.specs.declared.statistics.MadeCounts.{MadeCounts}
 use Rattle.stack_end.specs.declared.statistics.PartCounts.{PartCounts}
 use Rattle.stack_end.specs.Datagrams.{on_channels}
 use Rattle.stack_end.specs.Dialogue.{Dialogue, Judged, Leaving, judge_units, process_event, session_in}
-use Rattle.stack_end.specs.Ends.{Call, Close, Deliver, InitDone, Put, Tick, comes_up, noted, rises}
+use Rattle.stack_end.specs.Ends.{Call, Close, Deliver, InitDone, Put, Tick}
 
 -- what an end keeps above its redundancy layer
 pub record Fields : Type 0 where
@@ -61,6 +63,9 @@ pub record Turn (V : Type 0) : Type 0 where
   pub left : V  -- what is kept afterwards
   pub sent : List Sending  -- the datagrams sent, with their channels, in order
   pub taken : List Item  -- the commands or status that the application takes, in order
+  pub made : List Made  -- the PDUs that the machine makes, in order
+  pub units : List (List ℕ)  -- the units that the machine delivers, in order
+  pub talks : List History  -- what the session does, in order: each is a history that begins here
 
 -- a turn was taken: it left this, its datagrams were sent or counted as failed, and the taker got what it delivers
 pub record Went {V T : Type 0} (takes : T → Item → T → Type 0) (t : Turn V) (told : ChannelHistory) (taker : T) (now : V) (told_now : ChannelHistory) (taker_now : T) : Type 0 where
@@ -76,11 +81,20 @@ pub record WentAlone {V : Type 0} (t : Turn V) (told : ChannelHistory) (now : V)
 
 -- a turn that does nothing
 abbrev pub still : {V : Type 0} → V → Turn V
-still v = record { left = v; sent = []; taken = [] }
+still v = record { left = v; sent = []; taken = []; made = []; units = []; talks = [] }
 
 -- one turn, and then another
 abbrev pub followed : {V : Type 0} → Turn V → (V → Turn V) → Turn V
-followed t next = record { left = (next t.left).left; sent = t.sent ++ (next t.left).sent; taken = t.taken ++ (next t.left).taken }
+followed t next =
+    let u = next t.left in
+    record {
+      left = u.left;
+      sent = t.sent ++ u.sent;
+      taken = t.taken ++ u.taken;
+      made = t.made ++ u.made;
+      units = t.units ++ u.units;
+      talks = t.talks ++ u.talks;
+    }
 
 -- the redundancy number after this one
 abbrev pub next_number : ℕ → ℕ
@@ -103,7 +117,14 @@ machine_turn t v =
       left = record v { numbers = number_behind v.numbers t.made; machine = t.left; made = with_made t.made v.made };
       sent = datagrams v.machine.settings.rule v.count v.numbers t.made;
       taken = [];
+      made = t.made;
+      units = [];
+      talks = [];
     }
+
+-- a turn that delivers these units
+abbrev pub with_units : {V : Type 0} → List (List ℕ) → Turn V → Turn V
+with_units us t = record t { units = us }
 
 -- a dialogue that begins here, without a past: one with a past goes on in the same way
 abbrev pub from_here : SessionState → List (List ℕ) → Dialogue
@@ -116,7 +137,15 @@ dialogue_of v = from_here v.session v.waiting
 
 -- the session changes to the end of that dialogue, and the application takes what it took there
 abbrev pub session_turn : Dialogue → Fields → Turn Fields
-session_turn d v = record { left = record v { session = session_in d; waiting = d.waiting }; sent = []; taken = d.history.taken }
+session_turn d v =
+    record {
+      left = record v { session = session_in d; waiting = d.waiting };
+      sent = [];
+      taken = d.history.taken;
+      made = [];
+      units = [];
+      talks = d.history ∷ [];
+    }
 
 -- if the machine is closed, the session ends
 abbrev pub settles : Fields → Turn Fields
@@ -161,11 +190,27 @@ judged_at now octets v = judge_units (octets_units octets now v.machine) (dialog
 
 -- the machine processes a part, and the session judges the units that it delivers
 abbrev pub hears : ℕ → List ℕ → Fields → Turn Fields
-hears now octets v = followed (machine_turn (machine_hears octets now v.machine) v) (session_turn (judged_at now octets v).left)
+hears now octets v =
+    followed (with_units (octets_units octets now v.machine) (machine_turn (machine_hears octets now v.machine) v)) (session_turn (judged_at now octets v).left)
+
+-- the bytes of a ConnReq are kept if it was accepted
+abbrev pub noted : Bool → List ℕ → Option (List ℕ) → Option (List ℕ)
+noted true octets before = Some octets
+noted false octets before = before
 
 -- the bytes of an accepted ConnReq are kept, by the state before the part
 abbrev pub notes : ConnectionState → List ℕ → Fields → Turn Fields
 notes before octets v = still (record v { request = noted (is_joining before v.machine.connection) octets v.request })
+
+-- the connection comes up with this step
+abbrev pub comes_up : ConnectionState → ConnectionState → Bool
+comes_up Start Up = true
+comes_up _ _ = false
+
+-- the session goes up if the connection did
+abbrev pub rises : Bool → Dialogue → Dialogue
+rises true d = process_event GoesUp d
+rises false d = d
 
 -- the session goes up with the connection
 abbrev pub goes_up : ConnectionState → Fields → Turn Fields
@@ -188,11 +233,6 @@ part now octets v =
     (departs (closing now octets v)))
     (counts (decoded_answer (safe_seen v.machine.settings.rule octets) now v.machine) (waited now v) now)
 
--- the parts that go up, in order, each wholly before the next
-abbrev pub parts : ℕ → List Part → Fields → Turn Fields
-parts now [] v = still v
-parts now (p ∷ ps) v = followed (part now p.1 v) (parts now ps)
-
 -- a message waits, and the machine may send
 abbrev pub can_pack : Fields → Bool
 can_pack v = not (is_nil v.waiting) && has_room v.machine
@@ -206,14 +246,40 @@ packs now v =
 abbrev pub packs_once : ℕ → Fields → Turn Fields
 packs_once now v = if can_pack v then packs now v else still v
 
+-- how states take turns one after another: of what is kept alone this is a turn, and of a whole history the state afterwards
+pub record Way (V R : Type 0) : Type 0 where
+  pub kept : V → Fields  -- what is kept of a state above the redundancy layer
+  pub stays : V → R  -- nothing happens
+  pub follows : R → (V → R) → R  -- one thing after another
+  pub takes : (Fields → Turn Fields) → V → R  -- a turn of what is kept
+
+-- the turns of what is kept above the redundancy layer
+abbrev pub by_fields : Way Fields (Turn Fields)
+by_fields = record { kept = λ v. v; stays = still; follows = followed; takes = λ next. next }
+
+-- the parts that go up, in order, each wholly before the next
+abbrev pub parts_by : {V R : Type 0} → Way V R → ℕ → List Part → V → R
+parts_by w now [] v = w.stays v
+parts_by w now (p ∷ ps) v = w.follows (w.takes (part now p.1) v) (parts_by w now ps)
+
 -- packing and sending while that is possible, at most this many units
-abbrev pub packs_up_to : ℕ → ℕ → Fields → Turn Fields
-packs_up_to zero now v = still v
-packs_up_to (suc n) now v = if can_pack v then followed (packs now v) (packs_up_to n now) else still v
+abbrev pub packs_by : {V R : Type 0} → Way V R → ℕ → ℕ → V → R
+packs_by w zero now v = w.stays v
+packs_by w (suc n) now v = if can_pack (w.kept v) then w.follows (w.takes (packs now) v) (packs_by w n now) else w.stays v
 
 -- packing and sending until no message waits or the machine may not send: each unit takes at least one message, so this many units suffice
+abbrev pub sends_by : {V R : Type 0} → Way V R → ℕ → V → R
+sends_by w now v = packs_by w (length (w.kept v).waiting) now v
+
+-- these of what is kept
+abbrev pub parts : ℕ → List Part → Fields → Turn Fields
+parts now ps v = parts_by by_fields now ps v
+
+abbrev pub packs_up_to : ℕ → ℕ → Fields → Turn Fields
+packs_up_to n now v = packs_by by_fields n now v
+
 abbrev pub sends : ℕ → Fields → Turn Fields
-sends now v = packs_up_to (length v.waiting) now v
+sends now v = sends_by by_fields now v
 
 -- why a command or status is refused, if it is
 abbrev pub put_answer : (kind : ℕ) → List ℕ → Fields → Option PutFault
@@ -227,25 +293,43 @@ init_answer v = init_refusal v.session (length v.waiting)
 abbrev pub accepts : Dialogue → Fields → Fields
 accepts d v = record v { accepted = min (v.accepted + length d.history.put) (2 ^ 64 - 1) }
 
+-- an accepted command or status is queued and counted
+abbrev pub queues : (kind : ℕ) → List ℕ → Fields → Turn Fields
+queues kind payload v =
+    let d = process_event (Puts kind payload (length v.waiting)) (dialogue_of v) in
+    session_turn d (accepts d v)
+
+-- an accepted end of the initialisation queues its telegram
+abbrev pub finishes : Fields → Turn Fields
+finishes v = session_turn (process_event (Completes (length v.waiting)) (dialogue_of v)) v
+
 -- an accepted command or status is queued and counted, then waiting messages are sent
 abbrev pub puts : (kind : ℕ) → List ℕ → (now : ℕ) → Fields → Turn Fields
-puts kind payload now v =
-    let d = process_event (Puts kind payload (length v.waiting)) (dialogue_of v) in
-    followed (session_turn d (accepts d v)) (sends now)
+puts kind payload now v = followed (queues kind payload v) (sends now)
 
 -- an accepted end of the initialisation queues its telegram, then waiting messages are sent
 abbrev pub completes : ℕ → Fields → Turn Fields
-completes now v = followed (session_turn (process_event (Completes (length v.waiting)) (dialogue_of v)) v) (sends now)
+completes now v = followed (finishes v) (sends now)
+
+-- a turn of the layers above, with this redundancy layer
+abbrev pub with_red : Receiver → Turn Fields → Turn Inside
+with_red r t =
+    record {
+      left = record { red = r; upper = t.left };
+      sent = t.sent;
+      taken = t.taken;
+      made = t.made;
+      units = t.units;
+      talks = t.talks;
+    }
 
 -- a turn above the redundancy layer
 abbrev pub above : (Fields → Turn Fields) → Inside → Turn Inside
-above next v = let t = next v.upper in record { left = record { red = v.red; upper = t.left }; sent = t.sent; taken = t.taken }
+above next v = with_red v.red (next v.upper)
 
 -- the redundancy layer processes an input, and each part that goes up is processed
 abbrev pub receives : ℕ → Input → Inside → Turn Inside
-receives now i v =
-    let t = parts now (parts_passed i v.red) v.upper in
-    record { left = record { red = after i v.red; upper = t.left }; sent = t.sent; taken = t.taken }
+receives now i v = with_red (after i v.red) (parts now (parts_passed i v.red) v.upper)
 
 -- the end is closed
 abbrev pub is_over : Inside → Bool
@@ -255,13 +339,49 @@ is_over v = is_closed v.upper.machine.connection
 abbrev pub is_settled : Inside → Bool
 is_settled v = not (is_over v) && (is_nil v.upper.waiting && is_nil v.upper.machine.ring)
 
--- what follows the machine's timers if they leave the end open: the redundancy layer's input, then sending
-abbrev pub goes_on : ℕ → Input → Inside → Turn Inside
-goes_on now i v = if is_over v then still v else followed (receives now i v) (above (sends now))
+-- all layers take a turn of those above the redundancy layer
+abbrev pub by_layers : Way Inside (Turn Inside)
+by_layers = record { kept = λ v. v.upper; stays = still; follows = followed; takes = above }
 
--- a datagram comes: the timeout check, then the layers, then sending
+-- how a state of all layers takes turns: what comes to its redundancy layer, and what it sends
+pub record WholeWay (V R : Type 0) : Type 0 where
+  pub way : Way V R  -- above the redundancy layer
+  pub receives : ℕ → Input → V → R  -- the redundancy layer processes an input, and each part that goes up is processed
+  pub sends : ℕ → V → R  -- packing and sending
+
+-- what follows the machine's timers if they leave the end open: the redundancy layer's input, then sending
+abbrev pub goes_by : {V R : Type 0} → WholeWay V R → ℕ → Input → V → R
+goes_by w now i v =
+    if is_closed (w.way.kept v).machine.connection then w.way.stays v else w.way.follows (w.receives now i v) (w.sends now)
+
+-- a turn of the machine's timers at an open end, and what follows it
+abbrev pub first_by : {V R : Type 0} → WholeWay V R → (Fields → Turn Fields) → ℕ → Input → V → R
+first_by w timers now i v =
+    if is_closed (w.way.kept v).machine.connection then w.way.stays v else w.way.follows (w.way.takes timers v) (goes_by w now i)
+
+-- each call: a datagram comes after the timeout check, on any channel; time passes for the machine's timers, then for that of the redundancy layer
+abbrev pub call_by : {V R : Type 0} → WholeWay V R → Call → V → R
+call_by w (Close now) v = w.way.takes (closes now) v
+call_by w (Put kind payload now) v = w.way.follows (w.way.takes (queues kind payload) v) (w.sends now)
+call_by w (InitDone now) v = w.way.follows (w.way.takes finishes v) (w.sends now)
+call_by w (Tick now) v = first_by w (ticks now) now (RedTick now) v
+call_by w (Deliver channel octets now) v = first_by w (guards now) now (Datagram octets now) v
+
+-- the turns of all layers that an end keeps
+abbrev pub kept_way : WholeWay Inside (Turn Inside)
+kept_way = record { way = by_layers; receives = receives; sends = λ now. above (sends now) }
+
+-- the same of what is kept
+abbrev pub goes_on : ℕ → Input → Inside → Turn Inside
+goes_on now i v = goes_by kept_way now i v
+
+-- the turn of each call
+abbrev pub turn : Call → Inside → Turn Inside
+turn c v = call_by kept_way c v
+
+-- a datagram comes
 abbrev pub arrives : ℕ → List ℕ → Inside → Turn Inside
-arrives now octets v = if is_over v then still v else followed (above (guards now) v) (goes_on now (Datagram octets now))
+arrives now octets v = first_by kept_way (guards now) now (Datagram octets now) v
 
 -- what the redundancy layer does with a datagram, or None at a closed end
 abbrev pub red_event : (now : ℕ) → List ℕ → Inside → Option RedEvent
@@ -271,14 +391,6 @@ red_event now octets v = if is_over v then None else Some (red_judged now octets
 abbrev pub event_of : (now : ℕ) → List ℕ → Inside → Option RedEvent
 event_of now octets v = if is_over v then None else red_event now octets (above (guards now) v).left
 
--- time passes: the machine's timers, then that of the redundancy layer, then sending
+-- time passes
 abbrev pub passes : ℕ → Inside → Turn Inside
-passes now v = if is_over v then still v else followed (above (ticks now) v) (goes_on now (RedTick now))
-
--- the turn of each call; the channel of a datagram has no effect
-abbrev pub turn : Call → Inside → Turn Inside
-turn (Close now) v = above (closes now) v
-turn (Put kind payload now) v = above (puts kind payload now) v
-turn (InitDone now) v = above (completes now) v
-turn (Tick now) v = passes now v
-turn (Deliver channel octets now) v = arrives now octets v
+passes now v = first_by kept_way (ticks now) now (RedTick now) v

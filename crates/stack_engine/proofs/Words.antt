@@ -95,13 +95,16 @@ pub use Rattle.stack_end.specs.Datagrams.{on_channels, sendings, sent_at_opening
 pub use Rattle.stack_end.specs.Dialogue.{Dialogue, Judged, Leaving, if_ended, judge_messages, judge_read, judge_units, judge_unpacked, judged_as, judged_none}
 pub use Rattle.stack_end.specs.Dialogue.{process_event, phase_in, session_in, unless_leaving}
 pub use Rattle.stack_end.specs.EndValue.{EndStands, EndTurns, EndTurnsAlone, EndValue, channels_of, inside}
-pub use Rattle.stack_end.specs.Ends.{Call, EndState, answered, call, comes_up, did, goes_on, handed_up, heard, is_settled, is_shut, leaves, moved}
-pub use Rattle.stack_end.specs.Ends.{moved as end_moved, new_end, noted, packed, packed_up_to, part, parts, receives, rises, sends, settle, time_of, with_input}
-pub use Rattle.stack_end.specs.Ends.{with_machine, with_session}
+pub use Rattle.stack_end.proofs.Effects.{answered, did, goes_on, handed_up, heard, leaves, moved, moved as end_moved, packed, packed_up_to, put_done, put_in}
+pub use Rattle.stack_end.proofs.Effects.{sends, settle, with_machine, with_session}
+pub use Rattle.stack_end.proofs.Following.{closed-is as closed-step-is, finished-is, guarded-is, may-pack, not-pack, packed-is, part-is, queued-is}
+pub use Rattle.stack_end.proofs.Following.{ticked-is}
+pub use Rattle.stack_end.specs.Ends.{Call, EndState, is_settled, is_shut, new_end, time_of}
+pub use Rattle.stack_end.specs.Steps.{call, guarded, kept_of as fields_kept, part, parts, receives, step, ticked, with_input}
 pub use Rattle.stack_end.specs.Ends.Call.{Close, Deliver, InitDone, Put, Tick}
 pub use Rattle.stack_end.specs.Fields.{BothStand}
 pub use Rattle.stack_end.specs.Turned.{Grew, Turned}
-pub use Rattle.stack_end.specs.Turns.{Inside, Turn, turn}
+pub use Rattle.stack_end.specs.Turns.{Inside, Turn, can_pack, closes, comes_up, finishes, noted, packs, queues, rises, turn}
 pub use Rattle.stack_engine.specs.Bounds.{FewFirst, FewFirstLaw, FewMore, FewMoreLaw, IsSmallItem, IsSmallPdu, QueueLaw, most_pdus, most_taken}
 pub use Rattle.stack_engine.specs.Events.{call_of, doing_of, event_of}
 pub use Rattle.stack_engine.specs.Faithful.{AllArrived, AllFaithful, AllThere, Carries, CarriesAll, Crossed, Faithful, FaithfulCall, FaithfulEvent, GuardsHold}

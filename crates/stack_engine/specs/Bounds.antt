@@ -5,7 +5,8 @@ use Rattle.octets.specs.declared.limits.TheConstants.{PAYLOAD_MAX, SAFE_PDU_MAX}
 use Rattle.safe_machine.specs.Made.{Made}
 use Rattle.pdi_session.specs.SessionStep.{Item}
 use Rattle.end_settings.specs.EndSettings.{EndSettings, are_fit, rule_of}
-use Rattle.stack_end.specs.Ends.{EndState, Call, call, new_end}
+use Rattle.stack_end.specs.Ends.{EndState, Call, new_end}
+use Rattle.stack_end.specs.Steps.{call}
 use Rattle.stack_end.specs.Datagrams.{upper_of}
 use Rattle.stack_engine.specs.Pairs.{Event, start, run, present}
 use Rattle.stack_engine.specs.Pairs.Event.{Calls}

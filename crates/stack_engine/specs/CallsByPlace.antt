@@ -5,11 +5,11 @@ use Rattle.red_layer.specs.Parts.{Part}
 use Rattle.red_layer.specs.Redundancy.{Input, Datagram, Tick as RedTick, parts_passed}
 use Rattle.red_layer.specs.Service.{arrivals_of}
 use Rattle.safe_machine.specs.declared.ConnectionState.TheVariants.{Closed}
-use Rattle.safe_machine.specs.Moves.Move.{Guards, Ticks}
 use Rattle.safe_machine.specs.World.{Side}
 use Rattle.safe_machine.specs.World.Side.{Il, Fe}
-use Rattle.stack_end.specs.Ends.{EndState, moved, parts, with_input, Call, time_of}
+use Rattle.stack_end.specs.Ends.{EndState, Call, time_of}
 use Rattle.stack_end.specs.Ends.Call.{Tick, Deliver}
+use Rattle.stack_end.specs.Steps.{guarded as end_guarded, ticked, parts, with_input}
 use Rattle.stack_engine.specs.Pairs.{World, Event, present, refusal, run}
 use Rattle.stack_engine.specs.Pairs.Event.{Calls}
 
@@ -26,8 +26,8 @@ pub record IsCallAt (es : List Event) (w : World) (n : ℕ) (side : Side) (c : C
 
 -- the end after the timeout check of an arrival, or after the machine's tick
 abbrev pub guard_end : Call → EndState → EndState
-guard_end (Tick now) x = moved (Ticks now) x
-guard_end (Deliver channel octets now) x = moved (Guards now) x
+guard_end (Tick now) x = ticked now x
+guard_end (Deliver channel octets now) x = end_guarded now x
 guard_end _ x = x
 
 -- what a call brings to the redundancy layer

@@ -7,7 +7,8 @@ use Rattle.safe_pdu.specs.Places.{safe_seen}
 use Rattle.safe_machine.specs.Made.{Made}
 use Rattle.safe_machine.specs.World.{Side}
 use Rattle.end_settings.specs.EndSettings.{rule_of}
-use Rattle.stack_end.specs.Ends.{EndState, part, Call, time_of}
+use Rattle.stack_end.specs.Ends.{EndState, Call, time_of}
+use Rattle.stack_end.specs.Steps.{part}
 use Rattle.stack_engine.specs.Pairs.{World, Event, start, run, present, made_of}
 use Rattle.stack_engine.specs.Premise.{AreTyped}
 use Rattle.stack_engine.specs.PremiseByPlace.{GenuineByPlace}

@@ -6,7 +6,8 @@ use Rattle.safe_machine.specs.Made.{Made}
 use Rattle.safe_machine.specs.Law.{Fresh}
 use Rattle.safe_machine.specs.World.Side.{Il, Fe}
 use Rattle.end_settings.specs.EndSettings.{rule_of}
-use Rattle.stack_end.specs.Ends.{EndState, part, Call, time_of}
+use Rattle.stack_end.specs.Ends.{EndState, Call, time_of}
+use Rattle.stack_end.specs.Steps.{part}
 use Rattle.stack_engine.specs.Pairs.{World, Event, start, present, made_of, refusal, apply_event}
 use Rattle.stack_engine.specs.Pairs.Event.{Calls}
 use Rattle.stack_engine.specs.Premise.{AtCall, AtOpened, Genuine, AreTyped}

@@ -8,8 +8,9 @@ use Rattle.pdi_session.specs.SessionStep.{Item}
 use Rattle.end_settings.specs.EndSettings.{EndSettings, rule_of}
 use Rattle.end_settings.specs.Configured.{settings_of}
 use Rattle.stack_end.specs.Datagrams.{upper_of}
-use Rattle.stack_end.specs.Ends.{EndState, Call, call, time_of}
+use Rattle.stack_end.specs.Ends.{EndState, Call, time_of}
 use Rattle.stack_end.specs.Ends.Call.{InitDone, Put}
+use Rattle.stack_end.specs.Steps.{call}
 use Rattle.stack_end.specs.EndValue.{EndStands, EndTurns, channels_of, inside}
 use Rattle.stack_end.specs.Turns.{init_answer, put_answer, turn}
 use Rattle.stack_engine.specs.declared.incarnation.Incarnation.{Incarnation}

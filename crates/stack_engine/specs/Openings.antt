@@ -2,7 +2,8 @@
 use Rattle.std.specs.Prelude.{◌≡◌, ◌≤◌, ◌^◌, MatchOption, ◌==◌, ◌&&◌, not, ℕ, drop, Bool, true, false, Option, Some, None, List, [], ◌∷◌, reverse}
 use Rattle.safe_pdu.specs.SafeText.{code_octets}
 use Rattle.end_settings.specs.EndSettings.{rule_of}
-use Rattle.stack_end.specs.Ends.{EndState, Call, call, is_shut}
+use Rattle.stack_end.specs.Ends.{EndState, Call, is_shut}
+use Rattle.stack_end.specs.Steps.{call}
 use Rattle.std.specs.Borrow.{Bor}
 use Rattle.octets.specs.declared.limits.TheConstants.{TIME_MAX}
 use Rattle.stack_end.specs.EndValue.{EndValue, EndStands, channels_of}

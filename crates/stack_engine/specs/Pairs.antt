@@ -12,8 +12,9 @@ use Rattle.pdi_session.specs.declared.InitFault.{InitFault}
 use Rattle.pdi_session.specs.SessionStep.{put_refusal, init_refusal}
 use Rattle.end_settings.specs.EndSettings.{EndSettings, are_fit, rule_of}
 use Rattle.stack_end.specs.Dialogue.{session_in}
-use Rattle.stack_end.specs.Ends.{EndState, new_end, Call, time_of, call}
+use Rattle.stack_end.specs.Ends.{EndState, new_end, Call, time_of}
 use Rattle.stack_end.specs.Ends.Call.{Put, InitDone}
+use Rattle.stack_end.specs.Steps.{call}
 use Rattle.stack_end.specs.Datagrams.{upper_of}
 
 -- an incarnation of the field element

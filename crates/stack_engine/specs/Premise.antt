@@ -8,12 +8,12 @@ use Rattle.red_layer.specs.Redundancy.{Input, Datagram, Tick as RedTick, decoded
 use Rattle.red_layer.specs.Service.{arrivals_of}
 use Rattle.safe_pdu.specs.SafeText.{code_octets}
 use Rattle.safe_pdu.specs.Places.{is_asked}
-use Rattle.safe_machine.specs.Moves.Move.{Guards, Ticks}
 use Rattle.safe_machine.specs.World.{Side}
 use Rattle.safe_machine.specs.World.Side.{Il, Fe}
 use Rattle.end_settings.specs.EndSettings.{rule_of}
-use Rattle.stack_end.specs.Ends.{EndState, is_shut, moved, part, with_input, Call}
+use Rattle.stack_end.specs.Ends.{EndState, is_shut, Call}
 use Rattle.stack_end.specs.Ends.Call.{Put, Tick, Deliver}
+use Rattle.stack_end.specs.Steps.{guarded, ticked, part, with_input}
 use Rattle.stack_engine.specs.Pairs.{World, Event, present, has_made, refusal, apply_event}
 use Rattle.stack_engine.specs.Pairs.Event.{Calls}
 
@@ -48,8 +48,8 @@ AtInput P now i x = is_shut x ≡ false → AtParts P now (parts_passed i x.red)
 
 -- P holds of each part that goes up in a call, after the timeout check or the machine's tick
 abbrev pub AtCall : (EndState → List ℕ → Type 0) → Call → EndState → Type 0
-AtCall P (Tick now) x = is_shut x ≡ false → AtInput P now (RedTick now) (moved (Ticks now) x)
-AtCall P (Deliver channel octets now) x = is_shut x ≡ false → AtInput P now (Datagram octets now) (moved (Guards now) x)
+AtCall P (Tick now) x = is_shut x ≡ false → AtInput P now (RedTick now) (ticked now x)
+AtCall P (Deliver channel octets now) x = is_shut x ≡ false → AtInput P now (Datagram octets now) (guarded now x)
 AtCall P _ x = Unit {0}
 
 -- each part is genuine when it comes, and when it goes up

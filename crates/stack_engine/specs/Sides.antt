@@ -2,7 +2,8 @@
 use Rattle.std.specs.Prelude.{◌≡◌, List}
 use Rattle.safe_machine.specs.World.{Side}
 use Rattle.safe_machine.specs.World.Side.{Il, Fe}
-use Rattle.stack_end.specs.Ends.{EndState, call}
+use Rattle.stack_end.specs.Ends.{EndState}
+use Rattle.stack_end.specs.Steps.{call}
 use Rattle.stack_engine.specs.declared.sides.Sides.{Sides}
 use Rattle.stack_engine.specs.Bounds.{FewMore}
 use Rattle.stack_engine.specs.Joins.{joins_of, joins_in}

@@ -16,20 +16,18 @@ use Rattle.red_layer.specs.pdu.RedText.{length_field, red_text, reserve_field, s
 use Rattle.safe_pdu.specs.declared.CodeRule.{CodeRule}
 use Rattle.safe_pdu.specs.SafeText.{code_octets}
 use Rattle.safe_machine.specs.Made.{Made}
-use Rattle.safe_machine.specs.Moves.Move.{Guards, Ticks}
 use Rattle.safe_machine.specs.Octets.{arrive_octets}
-use Rattle.safe_machine.specs.Step.{guard, leave, tick}
 use Rattle.end_settings.specs.EndSettings.{EndSettings, rule_of}
 use Rattle.stack_end.specs.Datagrams.{on_channels, sendings, upper_of}
-use Rattle.stack_end.specs.Dialogue.{judge_units, process_event}
-use Rattle.stack_end.specs.Ends.{Call, EndState, answered, call, goes_on, handed_up, is_shut, moved, part, with_input, with_machine, with_session}
+use Rattle.stack_end.specs.Dialogue.{judge_units}
+use Rattle.stack_end.proofs.Effects.{answered, goes_on, handed_up}
+use Rattle.stack_end.specs.Ends.{Call, EndState, is_shut}
+use Rattle.stack_end.specs.Steps.{call, guarded, part, step, ticked, with_input}
+use Rattle.stack_end.specs.Turns.{finishes, queues}
 use Rattle.stack_end.specs.Ends.Call.{Close, Put, InitDone, Tick, Deliver}
-use Rattle.pdi_session.specs.SessionStep.{Puts, InitDone as Completes}
-use Rattle.safe_pdu.specs.declared.reasons.Reason.TheVariants.{ClosedByUser}
-use Rattle.safe_pdu.specs.declared.reasons.Detail.TheVariants.{Unspecified}
 use Rattle.stack_engine.specs.Pairs.{has_made}
 use Rattle.stack_engine.specs.Premise.{AtParts, GenuineCall, IsGenuine, is_live}
-use Rattle.stack_engine.proofs.one.Speaking.{AnyPart, Goes, all-append, any-parts, keep-goes_on, keep-packed, keep-part, keep-settle, leaves-same}
+use Rattle.stack_engine.proofs.one.Speaking.{AnyPart, Goes, all-append, any-parts, keep-goes_on, keep-closed, keep-guarded, keep-packed, keep-part, keep-ticked, leaves-same}
 
 -- the peer made a PDU of the bytes of the part
 abbrev pub Known : EndState → Part → Type 0
@@ -99,15 +97,15 @@ genuine-call origin peer (Put kind payload now) x code all comes = (tt, tt)
 genuine-call origin peer (InitDone now) x code all comes = (tt, tt)
 genuine-call origin peer (Tick now) x code all comes =
     let K = Known peer in
-    let y = moved (Ticks now) x in
-    let near = keep-settle now AnyPart (Near x.settings K) (near-goes x.settings K now) (with_machine (tick now x.machine) x) (refl, all) in
+    let y = ticked now x in
+    let near = keep-ticked now AnyPart (Near x.settings K) (near-goes x.settings K now) x (refl, all) in
     let came = near-input origin x.settings K (RedTick now) y tt near in
     (tt, λ _ _. parts-genuine peer x.settings now (parts_passed (RedTick now) y.red) (with_input (RedTick now) y) code came.0 came.1)
 genuine-call origin peer (Deliver channel octets now) x code all comes =
     let K = Known peer in
     let i = Datagram octets now in
-    let y = moved (Guards now) x in
-    let near = keep-settle now AnyPart (Near x.settings K) (near-goes x.settings K now) (with_machine (guard now x.machine) x) (refl, all) in
+    let y = guarded now x in
+    let near = keep-guarded now AnyPart (Near x.settings K) (near-goes x.settings K now) x (refl, all) in
     let came = near-input origin x.settings K i y comes near in (
       arrivals-genuine peer x (arrivals_of i) code comes,
       λ _ _. parts-genuine peer x.settings now (parts_passed i y.red) (with_input i y) code came.0 came.1,
@@ -120,24 +118,24 @@ by-shut P false x y h k = k
 -- and so is what waits after it
 pub near-call : OriginLaw → (s : EndSettings) (K : Part → Type 0) (c : Call) (x : EndState) → Comes K c → Near s K x → Near s K (call c x)
 near-call origin s K (Close now) x comes h =
-    keep-settle now AnyPart (Near s K) (near-goes s K now) (with_machine (leave ClosedByUser Unspecified now x.machine) x) h
+    keep-closed now AnyPart (Near s K) (near-goes s K now) x h
 near-call origin s K (Put kind payload now) x comes h =
-    let y : EndState = with_session (process_event (Puts kind payload (length x.session.waiting)) x.session) x in
+    let y : EndState = step (queues kind payload) x in
     keep-packed now AnyPart (Near s K) (near-goes s K now) (length y.session.waiting) y h
 near-call origin s K (InitDone now) x comes h =
-    let y : EndState = with_session (process_event (Completes (length x.session.waiting)) x.session) x in
+    let y : EndState = step finishes x in
     keep-packed now AnyPart (Near s K) (near-goes s K now) (length y.session.waiting) y h
 near-call origin s K (Tick now) x comes h =
     let i = RedTick now in
-    let y = moved (Ticks now) x in
-    let near = keep-settle now AnyPart (Near s K) (near-goes s K now) (with_machine (tick now x.machine) x) h in
+    let y = ticked now x in
+    let near = keep-ticked now AnyPart (Near s K) (near-goes s K now) x h in
     by-shut (Near s K) (is_shut x) x (goes_on now i y) h
     (keep-goes_on now AnyPart (Near s K) (near-goes s K now) i y (λ _. any-parts now (parts_passed i y.red) (with_input i y))
     (near-input origin s K i y tt near).0 near)
 near-call origin s K (Deliver channel octets now) x comes h =
     let i = Datagram octets now in
-    let y = moved (Guards now) x in
-    let near = keep-settle now AnyPart (Near s K) (near-goes s K now) (with_machine (guard now x.machine) x) h in
+    let y = guarded now x in
+    let near = keep-guarded now AnyPart (Near s K) (near-goes s K now) x h in
     by-shut (Near s K) (is_shut x) x (goes_on now i y) h
     (keep-goes_on now AnyPart (Near s K) (near-goes s K now) i y (λ _. any-parts now (parts_passed i y.red) (with_input i y))
     (near-input origin s K i y comes near).0 near)

@@ -10,7 +10,8 @@ use Rattle.end_settings.specs.Configured.{settings_of}
 use Rattle.end_settings.specs.EndSettings.{EndSettings, rule_of}
 use Rattle.end_settings.specs.declared.Side.TheVariants.{Interlocking, FieldElement}
 use Rattle.stack_end.specs.Datagrams.{sendings}
-use Rattle.stack_end.specs.Ends.{Call, EndState, call, opened_end}
+use Rattle.stack_end.specs.Ends.{Call, EndState, opened_end}
+use Rattle.stack_end.specs.Steps.{call}
 use Rattle.stack_end.specs.Ends.Call.{Close, Put, InitDone, Tick, Deliver}
 use Rattle.stack_end.specs.EndValue.{inside}
 use Rattle.stack_end.specs.Turned.{Turned, TurnsLaw}

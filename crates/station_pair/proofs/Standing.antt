@@ -12,7 +12,8 @@ use Rattle.end_settings.specs.declared.EndConfig.{EndConfig}
 use Rattle.end_settings.specs.declared.Side.{Side}
 use Rattle.end_settings.specs.declared.Side.TheVariants.{Interlocking, FieldElement}
 use Rattle.safe_machine.specs.World.Side.{Il, Fe}
-use Rattle.stack_end.specs.Ends.{Call, EndState, call, opened_end, time_of}
+use Rattle.stack_end.specs.Ends.{Call, EndState, opened_end, time_of}
+use Rattle.stack_end.specs.Steps.{call}
 use Rattle.stack_end.specs.EndValue.{EndStands, EndValue, channels_of, inside}
 use Rattle.stack_end.specs.Fields.{BothStand}
 use Rattle.stack_end.specs.Turned.{Turned, TurnsLaw}

@@ -15,6 +15,7 @@ use Rattle.stack_engine.proofs.Words.{run_from, seen_by, Sends, sends, SessionEv
 use Rattle.stack_engine.proofs.Words.{taken_as, taken_by, Takes, Tele, tele_seen, TeleFault, Tick, tick, Ticks, time_of, true, unconfirmed, unit_seen}
 use Rattle.stack_engine.proofs.Words.{unit_text, unless_leaving, Unspecified, Verdict, with_input, with_machine, with_session, World, Zero, zero, ℕ, ◌*◌, ◌++◌}
 use Rattle.stack_engine.proofs.Words.{◌+◌, ◌∙◌, ◌∷◌, ◌≡◌, ◌≤◌}
+use Rattle.stack_engine.proofs.Words.{can_pack, closed-step-is, fields_kept, finished-is, guarded, guarded-is, may-pack, packed-is, packs, part-is, put_done, queued-is, step, ticked, ticked-is}
 use Rattle.red_layer.specs.Redundancy.{step_decoded as red_heard}
 use Rattle.stack_engine.proofs.one.Heeding.{legal-role, machined-texts, OctetPart, OctetsUp, read-heard, red-keeps, Whole, whole-keeps}
 use Rattle.stack_engine.proofs.one.Speaking.{all-append, call-keeps, goes-of, IsTypedCall, IsTypedInput, keep-part, keep-settle, Keeps, Laws, leaves-same}
@@ -277,8 +278,10 @@ module _ (laws : Laws) (side : Side) (now : ℕ) where
 
   grows-part : (octets : List ℕ) (x : EndState) → AreOctets octets → Sized side x → Grows 37 3 x (part now octets x)
   grows-part octets x octs h =
-      grows-more (37 + 0) 37 (3 + 0) 3 x (part now octets x) (omega arith) (omega arith)
-      (grows-then 37 0 3 0 x (heard now octets x) (part now octets x) (grows-heard laws side now octets x octs h) (grows-settle (heard now octets x)))
+      let y = settle (heard now octets x) in
+      subst (Grows 37 3 x) (sym (part-is now octets x))
+      (grows-more (37 + 0) 37 (3 + 0) 3 x y (omega arith) (omega arith)
+      (grows-then 37 0 3 0 x (heard now octets x) y (grows-heard laws side now octets x octs h) (grows-settle (heard now octets x))))
 
   grows-parts : (ps : List Part) (x : EndState) → AllByRecursion OctetPart ps → Sized side x
       → Grows (37 * length ps) (3 * length ps) x (parts now ps x) × Sized side (parts now ps x)
@@ -301,16 +304,18 @@ module _ (laws : Laws) (side : Side) (now : ℕ) where
       let few = few-made laws.few side (Guards now) x tt h in
       let P : EndState → Type 0 = λ y. (length y.machine.made + length (unconfirmed x.machine) ≤ length x.machine.made + 32) × Takes_ 0 x.session y.session in
       let same : P x = (omega (arith, few.few), takes-same x.session x.session refl) in
-      by_cond P (is_nil x.session.waiting) x (cond (may_send x.machine) (packed_up_to n now (packed now x)) x) (λ _. same) (λ some.
-      by_cond P (may_send x.machine) (packed_up_to n now (packed now x)) x (λ may.
+      by_cond P (can_pack (fields_kept x)) (packed_up_to n now (step (packs now) x)) x (λ can.
+      let is = may-pack x can in
+      let may = is.0 in
       let y = packed now x in
       let unit = unit_text (take x.settings.n_maxpacket x.session.waiting) in
-      let rest = packs-few n y (k.sends x may some h) in
+      let rest = packs-few n y (k.sends x may is.1 h) in
       let one : length y.machine.made ≤ length x.machine.made + 1 =
       subst (λ (t : State). length t.made ≤ length x.machine.made + 1) (sym (send-is unit now x.machine))
       (by_cond (λ (t : State). length t.made ≤ length x.machine.made + 1) (may_send x.machine) (make Data unit now x.machine) x.machine
       (λ _. omega (arith, length-append x.machine.made (next_made x.machine Data unit now ∷ []))) (λ _. omega arith)) in
-      (omega (arith, rest.0, few.sending unit now may, one), record { few = rest.1.few; small = rest.1.small })) (λ _. same))
+      subst (λ (z : EndState). P (packed_up_to n now z)) (sym (packed-is now x))
+      (omega (arith, rest.0, few.sending unit now may, one), record { few = rest.1.few; small = rest.1.small })) (λ _. same)
 
   grows-sends : (x : EndState) → Sized side x → Grows 32 0 x (sends now x)
   grows-sends x h =
@@ -341,11 +346,11 @@ module _ (laws : Laws) (side : Side) (now : ℕ) where
       let one : Grows 36 0 x y = record { made = few.made; takes = takes-same x.session y.session refl } in
       grows-more (36 + 0) 36 (0 + 0) 0 x (moved m x) (omega arith) (omega arith) (grows-then 36 0 0 0 x y (moved m x) one (grows-settle y))
 
-  grows-on : (m : Move) (i : Input) (x : EndState) → IsRead m → IsTypedInput i → Sized side x → Sized side (moved m x)
-      → Grows 401 27 x (goes_on now i (moved m x))
-  grows-on m i x read t h after =
-      grows-more (36 + 365) 401 (0 + 27) 27 x (goes_on now i (moved m x)) (omega arith) (omega arith)
-      (grows-then 36 365 0 27 x (moved m x) (goes_on now i (moved m x)) (grows-moved m x read h) (grows-goes_on i (moved m x) t after))
+  grows-on : (m : Move) (i : Input) (x y : EndState) → y ≡ moved m x → IsRead m → IsTypedInput i → Sized side x → Sized side y
+      → Grows 401 27 x (goes_on now i y)
+  grows-on m i x y is read t h after =
+      grows-more (36 + 365) 401 (0 + 27) 27 x (goes_on now i y) (omega arith) (omega arith)
+      (grows-then 36 365 0 27 x y (goes_on now i y) (subst (Grows 36 0 x) (sym is) (grows-moved m x read h)) (grows-goes_on i y t after))
 
   -- an event of the session that is no arrival
   grows-meets : (e : SessionEvent) (x : EndState) → taken_by e x.session.history.state ≡ [] → Sized side (with_session (process_event e x.session) x)
@@ -363,29 +368,32 @@ grows-time n j now x y g = record { made = g.made; takes = g.takes }
 
 pub grows-call : Laws → (side : Side) (c : Call) (x : EndState) → IsTypedCall c → Sized side x → Grows 401 27 x (call c x)
 grows-call laws side (Close now) x t h =
-    grows-time 401 27 now x (moved (Leaves ClosedByUser Unspecified now) x)
+    subst (λ (y : EndState). Grows 401 27 x (record y { time = now })) (sym (closed-step-is now x))
+    (grows-time 401 27 now x (moved (Leaves ClosedByUser Unspecified now) x)
     (grows-more 36 401 0 27 x (moved (Leaves ClosedByUser Unspecified now) x) (omega arith) (omega arith)
-    (grows-moved laws side now (Leaves ClosedByUser Unspecified now) x tt h))
+    (grows-moved laws side now (Leaves ClosedByUser Unspecified now) x tt h)))
 grows-call laws side (Put kind payload now) x t h =
-    grows-time 401 27 now x (did (Put kind payload now) x)
-    (grows-meets laws side now (Puts kind payload (length x.session.waiting)) x refl ((sized-keeps laws side now).puts kind payload x t h))
+    subst (λ (y : EndState). Grows 401 27 x (record (sends now y) { time = now })) (sym (queued-is kind payload x))
+    (grows-time 401 27 now x (sends now (put_in kind payload x))
+    (grows-meets laws side now (Puts kind payload (length x.session.waiting)) x refl ((sized-keeps laws side now).puts kind payload x t h)))
 grows-call laws side (InitDone now) x t h =
-    grows-time 401 27 now x (did (InitDone now) x)
-    (grows-meets laws side now (Completes (length x.session.waiting)) x refl ((sized-keeps laws side now).dones x h))
+    subst (λ (y : EndState). Grows 401 27 x (record (sends now y) { time = now })) (sym (finished-is x))
+    (grows-time 401 27 now x (sends now (put_done x))
+    (grows-meets laws side now (Completes (length x.session.waiting)) x refl ((sized-keeps laws side now).dones x h)))
 grows-call laws side (Tick now) x t h =
     let k = sized-keeps laws side now in
     grows-time 401 27 now x (did (Tick now) x)
-    (by_cond (Grows 401 27 x) (is_shut x) x (goes_on now (RedTick now) (moved (Ticks now) x))
+    (by_cond (Grows 401 27 x) (is_shut x) x (goes_on now (RedTick now) (ticked now x))
     (λ _. grows-more 0 401 0 27 x x (omega arith) (omega arith) (grows-same x)) (λ _.
-    grows-on laws side now (Ticks now) (RedTick now) x tt tt h
-    (keep-settle now OctetsUp (Sized side) (goes-of now OctetsUp (Sized side) k) (with_machine (tick now x.machine) x) (k.ticks x h))))
+    grows-on laws side now (Ticks now) (RedTick now) x (ticked now x) (ticked-is now x) tt tt h
+    (keep-ticked now OctetsUp (Sized side) (goes-of now OctetsUp (Sized side) k) x (k.ticks x h))))
 grows-call laws side (Deliver channel octets now) x t h =
     let k = sized-keeps laws side now in
     grows-time 401 27 now x (did (Deliver channel octets now) x)
-    (by_cond (Grows 401 27 x) (is_shut x) x (goes_on now (Datagram octets now) (moved (Guards now) x))
+    (by_cond (Grows 401 27 x) (is_shut x) x (goes_on now (Datagram octets now) (guarded now x))
     (λ _. grows-more 0 401 0 27 x x (omega arith) (omega arith) (grows-same x)) (λ _.
-    grows-on laws side now (Guards now) (Datagram octets now) x tt t h
-    (keep-settle now OctetsUp (Sized side) (goes-of now OctetsUp (Sized side) k) (with_machine (guard now x.machine) x) (k.guards x h))))
+    grows-on laws side now (Guards now) (Datagram octets now) x (guarded now x) (guarded-is now x) tt t h
+    (keep-guarded now OctetsUp (Sized side) (goes-of now OctetsUp (Sized side) k) x (k.guards x h))))
 
 pub sized-call : Laws → (side : Side) (c : Call) (x : EndState) → IsTypedCall c → Sized side x → Sized side (call c x)
 sized-call laws side c x t h =

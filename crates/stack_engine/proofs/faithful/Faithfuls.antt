@@ -10,6 +10,7 @@ use Rattle.stack_engine.proofs.Words.{Option, packed, Part, parts_passed_along, 
 use Rattle.stack_engine.proofs.Words.{run, safe_seen, safe_text, SafeText, SameRule, seen_by, Sends, sends, Settings, settle, Side, Some, start, State, subst}
 use Rattle.stack_engine.proofs.Words.{suc, sym, Tick, tick, Ticks, time_of, true, Unspecified, upper_of, with_input, with_joined, with_machine, with_session}
 use Rattle.stack_engine.proofs.Words.{World, zero, ℕ, ⊎_elim, ◌++◌, ◌∙◌, ◌∷◌, ◌≡◌, ◌≢◌, ◌≤◌, ◌⊎◌}
+use Rattle.stack_engine.proofs.Words.{guarded, ticked}
 use Rattle.stack_engine.proofs.faithful.Ordering.{arrivals-push, bear-nth, Carry, IsNth, Left, near-front, Next, Numbered, ord-deliver, ord-done, ord-put}
 use Rattle.stack_engine.proofs.faithful.Ordering.{ord-tick, OrdEnd, Ordered, ordered, peer_dead, peer_made, red-numbered, timely-front, WasOpened}
 use Rattle.stack_engine.proofs.one.Heeding.{FailsAt, Machined, machined-texts, Whole}
@@ -87,17 +88,14 @@ on-inputs now i x on =
     ∙ (keep-parts now AnyPart (Steady (with_input i x)) (steady-goes now (with_input i x)) ps (with_input i x) (any-parts now ps (with_input i x))
     (record { set = refl; inputs = refl })).inputs
 
-settled-inputs : (now : ℕ) (s : State) (x : EndState) → (settle (with_machine s x)).inputs ≡ x.inputs
-settled-inputs now s x = (keep-settle now AnyPart (Steady x) (steady-goes now x) (with_machine s x) (record { set = refl; inputs = refl })).inputs
+tick-inputs : (now : ℕ) (x : EndState) → is_shut x ≡ false → is_shut (ticked now x) ≡ false → (call (Tick now) x).inputs ≡ x.inputs ++ RedTick now ∷ []
+tick-inputs now x a b =
+    ap (λ (q : Bool). (cond q x (goes_on now (RedTick now) (ticked now x))).inputs) a ∙ on-inputs now (RedTick now) (ticked now x) b
 
-tick-inputs : (now : ℕ) (x : EndState) → is_shut x ≡ false → is_shut (end_moved (Ticks now) x) ≡ false → (call (Tick now) x).inputs ≡ x.inputs
-    ++ RedTick now ∷ []
-tick-inputs now x a b = grind (arith, on-inputs now (RedTick now) (end_moved (Ticks now) x) b, settled-inputs now (tick now x.machine) x)
-
-deliver-inputs : (channel : ℕ) (octets : List ℕ) (now : ℕ) (x : EndState) → is_shut x ≡ false → is_shut (end_moved (Guards now) x) ≡ false
+deliver-inputs : (channel : ℕ) (octets : List ℕ) (now : ℕ) (x : EndState) → is_shut x ≡ false → is_shut (guarded now x) ≡ false
     → (call (Deliver channel octets now) x).inputs ≡ x.inputs ++ Datagram octets now ∷ []
 deliver-inputs channel octets now x a b =
-    grind (arith, on-inputs now (Datagram octets now) (end_moved (Guards now) x) b, settled-inputs now (guard now x.machine) x)
+    ap (λ (q : Bool). (cond q x (goes_on now (Datagram octets now) (guarded now x))).inputs) a ∙ on-inputs now (Datagram octets now) (guarded now x) b
 
 -- what an end knows of what came
 pub record Known (peer : Option EndState) (x : EndState) : Type 0 where

@@ -13,6 +13,7 @@ use Rattle.stack_engine.proofs.Words.{Open, Option, OrderlyLaw, Pdu, Phase, phas
 use Rattle.stack_engine.proofs.Words.{SafeFault, seen_by, server_state, session_of, session_refusal, Settings, Side, Some, start, State, StaysOpen}
 use Rattle.stack_engine.proofs.Words.{subst, suc, sym, taken_at, telegrams_in, Tick, Ticks, time_of, true, unconfirmed, units, UnitsThere, WaitsForWindow}
 use Rattle.stack_engine.proofs.Words.{with_machine, World, zero, ℕ, ⊎_elim, ◌++◌, ◌+◌, ◌<◌, ◌==◌, ◌∙◌, ◌∷◌, ◌≡◌, ◌≢◌, ◌≤◌, ◌⊎◌}
+use Rattle.stack_engine.proofs.Words.{guarded, guarded-is, ticked, ticked-is}
 use Rattle.stack_engine.proofs.faithful.Faithfuls.{AheadOf, back-run, bears, crossed-fe, crossed-il, Grown, grown-call, Known, not-empty, ord-run, ord-start}
 use Rattle.stack_engine.proofs.faithful.Faithfuls.{OrdAt, OrdWorld, passed_count}
 use Rattle.stack_engine.proofs.faithful.Ordering.{found, IsNth, length-first}
@@ -422,8 +423,10 @@ module _ (now : ℕ) (Q : EndState → List ℕ → Type 0) (x : EndState) (earl
         sends = λ y may some h. absurd (false≢true (sym some ∙ ap (λ (d : Dialogue). is_nil d.waiting) h.session ∙ ap is_nil none));
       }
 
-  pub i-moved : (m : Move) → move m x.machine ≡ x.machine → Idles x (moved m x)
-  i-moved m still = keep-settle now Q (Idles x) i-goes (with_machine (move m x.machine) x) (record { machine = still; set = refl; session = refl })
+  pub i-moved : (m : Move) (y : EndState) → y ≡ moved m x → move m x.machine ≡ x.machine → Idles x y
+  i-moved m y is still =
+      subst (Idles x) (sym is)
+      (keep-settle now Q (Idles x) i-goes (with_machine (move m x.machine) x) (record { machine = still; set = refl; session = refl }))
 
   pub i-goes_on : (i : Input) (y : EndState) → AtInput Q now i y → Idles x y → Idles x (goes_on now i y)
   i-goes_on i y q h = keep-goes_on now Q (Idles x) i-goes i y q (record { machine = h.machine; set = h.set; session = h.session }) h
@@ -474,21 +477,21 @@ calm-call l side x peer dead (Put kind payload t) w texts deaf ok f q h = grind 
 calm-call l side x peer dead (InitDone t) w texts deaf ok f q h = grind (arith, nat_tests, idle-done, not-refused, h.phase)
 calm-call l side x peer dead (Tick t) w texts deaf ok f q h =
     let Q : EndState → List ℕ → Type 0 = λ y o. GuardHolds y.machine t × Comes peer dead y o in
-    by_test (λ b. is_shut x ≡ b → Calm (record (cond b x (goes_on t (RedTick t) (moved (Ticks t) x))) { time = t })) (is_shut x) (λ _ _. h)
+    by_test (λ b. is_shut x ≡ b → Calm (record (cond b x (goes_on t (RedTick t) (ticked t x))) { time = t })) (is_shut x) (λ _ _. h)
     (λ on _.
-    calm-idles x (goes_on t (RedTick t) (moved (Ticks t) x))
-    (i-goes_on t Q x h.early h.waiting f.2.0 (deaf-of l side x peer dead t w texts deaf h.early) (RedTick t) (moved (Ticks t) x)
+    calm-idles x (goes_on t (RedTick t) (ticked t x))
+    (i-goes_on t Q x h.early h.waiting f.2.0 (deaf-of l side x peer dead t w texts deaf h.early) (RedTick t) (ticked t x)
     (both-call (λ y o. GuardHolds y.machine t) (Comes peer dead) (Tick t) x f.2.1 q on)
-    (i-moved t Q x h.early h.waiting f.2.0 (deaf-of l side x peer dead t w texts deaf h.early) (Ticks t) (still-tick t x.machine h.early f.2.0))) h)
+    (i-moved t Q x h.early h.waiting f.2.0 (deaf-of l side x peer dead t w texts deaf h.early) (Ticks t) (ticked t x) (ticked-is t x) (still-tick t x.machine h.early f.2.0))) h)
     refl
 calm-call l side x peer dead (Deliver channel octets t) w texts deaf ok f q h =
     let Q : EndState → List ℕ → Type 0 = λ y o. GuardHolds y.machine t × Comes peer dead y o in
-    by_test (λ b. is_shut x ≡ b → Calm (record (cond b x (goes_on t (Datagram octets t) (moved (Guards t) x))) { time = t })) (is_shut x) (λ _ _. h)
+    by_test (λ b. is_shut x ≡ b → Calm (record (cond b x (goes_on t (Datagram octets t) (guarded t x))) { time = t })) (is_shut x) (λ _ _. h)
     (λ on _.
-    calm-idles x (goes_on t (Datagram octets t) (moved (Guards t) x))
-    (i-goes_on t Q x h.early h.waiting f.2.0 (deaf-of l side x peer dead t w texts deaf h.early) (Datagram octets t) (moved (Guards t) x)
+    calm-idles x (goes_on t (Datagram octets t) (guarded t x))
+    (i-goes_on t Q x h.early h.waiting f.2.0 (deaf-of l side x peer dead t w texts deaf h.early) (Datagram octets t) (guarded t x)
     (both-call (λ y o. GuardHolds y.machine t) (Comes peer dead) (Deliver channel octets t) x f.2.1 q on)
-    (i-moved t Q x h.early h.waiting f.2.0 (deaf-of l side x peer dead t w texts deaf h.early) (Guards t) f.2.0)) h) refl
+    (i-moved t Q x h.early h.waiting f.2.0 (deaf-of l side x peer dead t w texts deaf h.early) (Guards t) (guarded t x) (guarded-is t x) f.2.0)) h) refl
 
 -- ends that are not crossed
 abbrev Unmet : EndState → EndState → Type 0

@@ -10,6 +10,7 @@ use Rattle.stack_engine.proofs.Words.{Option, packed, packed_up_to, Part, part, 
 use Rattle.stack_engine.proofs.Words.{red_opened, RedTick, refl, rule_of, safe_seen, seen_by, Send, Sends, sends, Settings, settle, Side, Some, State, subst}
 use Rattle.stack_engine.proofs.Words.{suc, sym, take, Tick, tick, Ticks, true, unit_text, unwrap_or, upper_of, Wait, wait_after, with_input, with_machine}
 use Rattle.stack_engine.proofs.Words.{with_session, zero, ℕ, ⊎_elim, ◌&&◌, ◌++◌, ◌+◌, ◌<◌, ◌==◌, ◌^◌, ◌||◌, ◌∙◌, ◌∷◌, ◌≡◌, ◌≢◌, ◌≤◌, ◌⊎◌}
+use Rattle.stack_engine.proofs.Words.{can_pack, fields_kept, finished-is, finishes, guarded, guarded-is, may-pack, packed-is, packs, part-is, put_done, put_in, queued-is, queues, step, ticked, ticked-is}
 use Rattle.safe_machine.specs.World.Event.{Close, Tick as TickMachine}
 use Rattle.stack_engine.proofs.one.Heeding.{Fails, fails-more, fails-move, fates, OctetsUp, Whole, whole-keeps}
 use Rattle.stack_engine.proofs.one.Speaking.{IsTypedInput, Keeps, Laws}
@@ -341,8 +342,8 @@ module _ (laws : Laws) (side : Side) (m : M.World) (k : ℕ) (s : EndSettings) (
 
   p-part : (ins : List Input) (n : ℕ) (octets : List ℕ) (x : EndState) → Faithfully peer dead now x octets → IsNth r ms n octets → P ins n x
       → P ins (n + 1) (part now octets x)
-  p-part ins n octets x q nth h = p-settle ins (n + 1) (heard now octets x)
-      (p-answered ins n octets x q nth h (kw.hears octets x q.1.0 h.whole))
+  p-part ins n octets x q nth h = subst (P ins (n + 1)) (sym (part-is now octets x)) (p-settle ins (n + 1) (heard now octets x)
+      (p-answered ins n octets x q nth h (kw.hears octets x q.1.0 h.whole)))
 
   p-parts : (ins : List Input) (n : ℕ) (ps : List Part) (x : EndState) → AtParts (Faithfully peer dead now) now ps x → Numbered r ms n ps → P ins n x
       → P ins (n + length ps) (parts now ps x)
@@ -354,12 +355,13 @@ module _ (laws : Laws) (side : Side) (m : M.World) (k : ℕ) (s : EndSettings) (
   p-packed : (ins : List Input) (n fuel : ℕ) (x : EndState) → P ins n x → P ins n (packed_up_to fuel now x)
   p-packed ins n zero x h = h
   p-packed ins n (suc fuel) x h =
-      by_cond (P ins n) (is_nil x.session.waiting) x (cond (may_send x.machine) (packed_up_to fuel now (packed now x)) x) (λ _. h) (λ some.
-      by_cond (P ins n) (may_send x.machine) (packed_up_to fuel now (packed now x)) x
-      (λ may. p-packed ins n fuel (packed now x)
+      by_cond (P ins n) (can_pack (fields_kept x)) (packed_up_to fuel now (step (packs now) x)) x (λ can.
+      let may = may-pack x can in
+      subst (λ (z : EndState). P ins n (packed_up_to fuel now z)) (sym (packed-is now x))
+      (p-packed ins n fuel (packed now x)
       (p-move ins n (Sends (unit_text (take x.settings.n_maxpacket x.session.waiting)) now) x (packed now x) refl refl (λ c. refl) tt tt
-      (kw.sends x may some h.whole) refl refl refl refl refl h))
-      (λ _. h))
+      (kw.sends x may.0 may.1 h.whole) refl refl refl refl refl h)))
+      (λ _. h)
 
   -- one input more
   p-input : (ins : List Input) (n : ℕ) (i : Input) (x : EndState) → IsTypedInput i → P ins n x → P (ins ++ i ∷ []) n (with_input i x)
@@ -425,45 +427,39 @@ module _ (laws : Laws) (side : Side) (m : M.World) (k : ℕ) (s : EndSettings) (
 
   -- what a call requires of the numbers of its parts
   abbrev pub Counts : List Input → Call → EndState → Type 0
-  Counts ins (Tick t) x = is_shut x ≡ false → is_shut (end_moved (Ticks t) x) ≡ false → Numbers ins (RedTick t)
+  Counts ins (Tick t) x = is_shut x ≡ false → is_shut (ticked t x) ≡ false → Numbers ins (RedTick t)
   Counts ins (Deliver channel octets t) x =
-      is_shut x ≡ false → is_shut (end_moved (Guards t) x) ≡ false → Numbers ins (Datagram octets t)
+      is_shut x ≡ false → is_shut (guarded t x) ≡ false → Numbers ins (Datagram octets t)
   Counts ins c x = Unit {0}
 
   pub ord-put : (kind : ℕ) (payload : List ℕ) (ins : List Input) (x : EndState) → kind < 256 ^ 2 → AllByRecursion (Carry r ms) (arrivals ins)
       → P ins (passed ins) x → Left (call (Put kind payload now) x)
   ord-put kind payload ins x fits carry h =
-      let y : EndState = with_session (process_event (Puts kind payload (length x.session.waiting)) x.session) x in
+      let y : EndState = step (queues kind payload) x in
+      let queued : P ins (passed ins) y = subst (P ins (passed ins)) (sym (queued-is kind payload x))
+      (p-same ins (passed ins) x (put_in kind payload x) (kw.puts kind payload x fits h.whole) refl refl refl refl refl h) in
       p-timed (sends now y)
-      (record {
-        ins = ins;
-        carry = carry;
-        there = p-packed ins (passed ins) (length y.session.waiting) y
-            (p-same ins (passed ins) x y (kw.puts kind payload x fits h.whole) refl refl refl refl refl h);
-      })
+      (record { ins = ins; carry = carry; there = p-packed ins (passed ins) (length y.session.waiting) y queued })
 
   pub ord-done : (ins : List Input) (x : EndState) → AllByRecursion (Carry r ms) (arrivals ins) → P ins (passed ins) x → Left (call (InitDone now) x)
   ord-done ins x carry h =
-      let y : EndState = with_session (process_event (Completes (length x.session.waiting)) x.session) x in
+      let y : EndState = step finishes x in
+      let queued : P ins (passed ins) y = subst (P ins (passed ins)) (sym (finished-is x))
+      (p-same ins (passed ins) x (put_done x) (kw.dones x h.whole) refl refl refl refl refl h) in
       p-timed (sends now y)
-      (record {
-        ins = ins;
-        carry = carry;
-        there = p-packed ins (passed ins) (length y.session.waiting) y
-            (p-same ins (passed ins) x y (kw.dones x h.whole) refl refl refl refl refl h);
-      })
+      (record { ins = ins; carry = carry; there = p-packed ins (passed ins) (length y.session.waiting) y queued })
 
   pub ord-tick : (ins : List Input) (x : EndState) → GuardHolds x.machine now → AtCall (Faithfully peer dead now) (Tick now) x → Counts ins (Tick now) x
       → AllByRecursion (Carry r ms) (arrivals ins) → P ins (passed ins) x → Left (call (Tick now) x)
   ord-tick ins x g q num carry h =
       p-timed (did (Tick now) x)
-      (by_test (λ b. is_shut x ≡ b → Left (cond b x (goes_on now (RedTick now) (end_moved (Ticks now) x)))) (is_shut x)
+      (by_test (λ b. is_shut x ≡ b → Left (cond b x (goes_on now (RedTick now) (ticked now x)))) (is_shut x)
       (λ _ _. record { ins = ins; there = h; carry = carry })
       (λ on _.
-      p-goes_on ins (RedTick now) (end_moved (Ticks now) x) tt (q on) (num on) carry
-      (p-settle ins (passed ins) (with_machine (tick now x.machine) x)
+      p-goes_on ins (RedTick now) (ticked now x) tt (q on) (num on) carry
+      (subst (P ins (passed ins)) (sym (ticked-is now x)) (p-settle ins (passed ins) (with_machine (tick now x.machine) x)
       (p-move ins (passed ins) (Ticks now) x (with_machine (tick now x.machine) x) refl refl (λ c. refl) tt g (kw.ticks x h.whole) refl
-      refl refl refl refl h)))
+      refl refl refl refl h))))
       refl)
 
   pub ord-deliver : (channel : ℕ) (octets : List ℕ) (ins : List Input) (x : EndState) → IsTypedInput (Datagram octets now) → GuardHolds x.machine now
@@ -472,11 +468,11 @@ module _ (laws : Laws) (side : Side) (m : M.World) (k : ℕ) (s : EndSettings) (
       → Left (call (Deliver channel octets now) x)
   ord-deliver channel octets ins x typed g q num carry h =
       p-timed (did (Deliver channel octets now) x)
-      (by_test (λ b. is_shut x ≡ b → Left (cond b x (goes_on now (Datagram octets now) (end_moved (Guards now) x)))) (is_shut x)
+      (by_test (λ b. is_shut x ≡ b → Left (cond b x (goes_on now (Datagram octets now) (guarded now x)))) (is_shut x)
       (λ _ _. record { ins = ins; there = h; carry = carry })
       (λ on _.
-      p-goes_on ins (Datagram octets now) (end_moved (Guards now) x) typed (q on) (num on) carry
-      (p-settle ins (passed ins) (with_machine (guard now x.machine) x)
+      p-goes_on ins (Datagram octets now) (guarded now x) typed (q on) (num on) carry
+      (subst (P ins (passed ins)) (sym (guarded-is now x)) (p-settle ins (passed ins) (with_machine (guard now x.machine) x)
       (p-move ins (passed ins) (Guards now) x (with_machine (guard now x.machine) x) refl refl (λ c. refl) tt g (kw.guards x h.whole) refl
-      refl refl refl refl h)))
+      refl refl refl refl h))))
       refl)

@@ -12,6 +12,8 @@ use Rattle.stack_engine.proofs.Words.{process_event, MessageLaw, messages_in, Mo
 use Rattle.stack_engine.proofs.Words.{OverLaw, OwnEarlyLaw, packed, packed_up_to, PackFault, Part, part, parts, PartsLaw, parts_passed, Pdu, PduReadLaw, PhaseLaw}
 use Rattle.stack_engine.proofs.Words.{piece, Put, put_by, Puts, ReachedLaw, ReadAlikeLaw, ReadAskedLaw, receives, RedTick, refl, Result, rises, Role, safe_seen}
 use Rattle.stack_engine.proofs.Words.{SafeFault, SafeText, seen_by, send, Sends, sends, sent_by, session_of, SettingsLaw, settle, Side, Some, State, StaysLaw}
+use Rattle.stack_engine.proofs.Words.{can_pack, closed-step-is, closes, fields_kept, finished-is, finishes, guarded, guarded-is, may-pack, not-pack, packed-is}
+use Rattle.stack_engine.proofs.Words.{packs, part-is, queued-is, queues, step, ticked, ticked-is, ⊎_elim}
 use Rattle.stack_engine.proofs.Words.{StrangersLaw, subst, suc, sym, take, take-append-drop, TakenLaw, TakesFrontLaw, Tele, tele_seen, tele_text, TeleFault}
 use Rattle.stack_engine.proofs.Words.{telegrams_in, texts, TextsLaw, Tick, tick, Ticks, time_of, true, unconfirmed, UNIT_MESSAGES, unit_seen, unit_text, units}
 use Rattle.stack_engine.proofs.Words.{UnitText, unless_leaving, Unspecified, WaitsLaw, with_input, with_machine, with_session, zero, ℕ, ◌&&◌, ◌*◌, ◌++◌, ◌<◌}
@@ -108,7 +110,7 @@ module _ (now : ℕ) (Q : EndState → List ℕ → Type 0) (P : EndState → Ty
   keep-settle x h = by_cond P (is_shut x) (with_session (process_event Closes x.session) x) x (λ shut. k.ends x shut h) (λ _. h)
 
   pub keep-part : (octets : List ℕ) (x : EndState) → Q x octets → P x → P (part now octets x)
-  keep-part octets x q h = keep-settle (heard now octets x) (k.hears octets x q h)
+  keep-part octets x q h = subst P (sym (part-is now octets x)) (keep-settle (heard now octets x) (k.hears octets x q h))
 
   pub keep-parts : (ps : List Part) (x : EndState) → AtParts Q now ps x → P x → P (parts now ps x)
   keep-parts [] x q h = h
@@ -117,8 +119,20 @@ module _ (now : ℕ) (Q : EndState → List ℕ → Type 0) (P : EndState → Ty
   pub keep-packed : (n : ℕ) (x : EndState) → P x → P (packed_up_to n now x)
   keep-packed zero x h = h
   keep-packed (suc n) x h =
-      by_cond P (is_nil x.session.waiting) x (cond (may_send x.machine) (packed_up_to n now (packed now x)) x) (λ _. h) (λ some.
-      by_cond P (may_send x.machine) (packed_up_to n now (packed now x)) x (λ may. keep-packed n (packed now x) (k.sends x may some h)) (λ _. h))
+      let y = step (packs now) x in
+      by_cond P (can_pack (fields_kept x)) (packed_up_to n now y) x (λ can.
+      let may = may-pack x can in
+      keep-packed n y (subst P (sym (packed-is now x)) (k.sends x may.0 may.1 h))) (λ _. h)
+
+  -- the moves of the machine that a call begins with
+  pub keep-guarded : (x : EndState) → P (with_machine (guard now x.machine) x) → P (guarded now x)
+  keep-guarded x h = subst P (sym (guarded-is now x)) (keep-settle (with_machine (guard now x.machine) x) h)
+
+  pub keep-ticked : (x : EndState) → P (with_machine (tick now x.machine) x) → P (ticked now x)
+  keep-ticked x h = subst P (sym (ticked-is now x)) (keep-settle (with_machine (tick now x.machine) x) h)
+
+  pub keep-closed : (x : EndState) → P (with_machine (leave ClosedByUser Unspecified now x.machine) x) → P (step (closes now) x)
+  keep-closed x h = subst P (sym (closed-step-is now x)) (keep-settle (with_machine (leave ClosedByUser Unspecified now x.machine) x) h)
 
   pub keep-goes_on : (i : Input) (x : EndState) → AtInput Q now i x → P (with_input i x) → P x → P (goes_on now i x)
   keep-goes_on i x q came h =
@@ -137,25 +151,26 @@ any-parts now (p ∷ ps) x = (tt, any-parts now ps (part now p.1 x))
 -- the call's own time
 pub call-keeps : (c : Call) (Q : EndState → List ℕ → Type 0) (P : EndState → Type 0) (x : EndState) → Keeps (time_of c) Q P → IsTypedCall c → AtCall Q c x → P x
     → P (call c x)
-call-keeps (Close now) Q P x k t q h =
-    k.times (did (Close now) x) (keep-settle now Q P (goes-of now Q P k) (with_machine (leave ClosedByUser Unspecified now x.machine) x) (k.closes x h))
+call-keeps (Close now) Q P x k t q h = k.times (did (Close now) x) (keep-closed now Q P (goes-of now Q P k) x (k.closes x h))
 call-keeps (Put kind payload now) Q P x k t q h =
-    let y : EndState = with_session (process_event (Puts kind payload (length x.session.waiting)) x.session) x in
-    k.times (sends now y) (keep-packed now Q P (goes-of now Q P k) (length y.session.waiting) y (k.puts kind payload x t h))
+    let y : EndState = step (queues kind payload) x in
+    let queued = subst P (sym (queued-is kind payload x)) (k.puts kind payload x t h) in
+    k.times (sends now y) (keep-packed now Q P (goes-of now Q P k) (length y.session.waiting) y queued)
 call-keeps (InitDone now) Q P x k t q h =
-    let y : EndState = with_session (process_event (Completes (length x.session.waiting)) x.session) x in
-    k.times (sends now y) (keep-packed now Q P (goes-of now Q P k) (length y.session.waiting) y (k.dones x h))
+    let y : EndState = step finishes x in
+    let queued = subst P (sym (finished-is x)) (k.dones x h) in
+    k.times (sends now y) (keep-packed now Q P (goes-of now Q P k) (length y.session.waiting) y queued)
 call-keeps (Tick now) Q P x k t q h =
     k.times (did (Tick now) x)
-    (by_cond P (is_shut x) x (goes_on now (RedTick now) (moved (Ticks now) x)) (λ _. h) (λ open-still.
-    let y = keep-settle now Q P (goes-of now Q P k) (with_machine (tick now x.machine) x) (k.ticks x h) in
-    keep-goes_on now Q P (goes-of now Q P k) (RedTick now) (moved (Ticks now) x) (q open-still) (k.inputs (RedTick now) (moved (Ticks now) x) tt y) y))
+    (by_cond P (is_shut x) x (goes_on now (RedTick now) (ticked now x)) (λ _. h) (λ open-still.
+    let y = keep-ticked now Q P (goes-of now Q P k) x (k.ticks x h) in
+    keep-goes_on now Q P (goes-of now Q P k) (RedTick now) (ticked now x) (q open-still) (k.inputs (RedTick now) (ticked now x) tt y) y))
 call-keeps (Deliver channel octets now) Q P x k t q h =
     k.times (did (Deliver channel octets now) x)
-    (by_cond P (is_shut x) x (goes_on now (Datagram octets now) (moved (Guards now) x)) (λ _. h) (λ open-still.
-    let y = keep-settle now Q P (goes-of now Q P k) (with_machine (guard now x.machine) x) (k.guards x h) in
-    keep-goes_on now Q P (goes-of now Q P k) (Datagram octets now) (moved (Guards now) x) (q open-still)
-    (k.inputs (Datagram octets now) (moved (Guards now) x) t y) y))
+    (by_cond P (is_shut x) x (goes_on now (Datagram octets now) (guarded now x)) (λ _. h) (λ open-still.
+    let y = keep-guarded now Q P (goes-of now Q P k) x (k.guards x h) in
+    keep-goes_on now Q P (goes-of now Q P k) (Datagram octets now) (guarded now x) (q open-still)
+    (k.inputs (Datagram octets now) (guarded now x) t y) y))
 
 -- what an end that may disconnect keeps
 pub leaves-same : (now : ℕ) (why : Option Leaving) (y : EndState) → ((leaves now why y).settings ≡ y.settings) × ((leaves now why y).request ≡ y.request)
@@ -594,7 +609,10 @@ nil-short ms h = grind (arith, nat_tests)
 packed-all : (n now : ℕ) (x : EndState) → 1 ≤ x.settings.n_maxpacket → length x.session.waiting ≤ n → Packs (packed_up_to n now x)
 packed-all zero now x some le = inl (nil-short x.session.waiting le)
 packed-all (suc n) now x some le =
-    grind (arith, nat_tests, dropped-shorter, packed-all n now (packed now x) some (dropped-shorter x.settings.n_maxpacket n x.session.waiting some le))
+    let y = step (packs now) x in
+    by_cond Packs (can_pack (fields_kept x)) (packed_up_to n now y) x
+    (λ _. packed-all n now y some (dropped-shorter x.settings.n_maxpacket n x.session.waiting some le))
+    (λ none. ⊎_elim (λ may. inr may) (λ nil. inl nil) (not-pack x none))
 
 -- settings stay, and so the packing
 abbrev pub PacksSome : EndState → Type 0
@@ -609,11 +627,8 @@ goes-packs now i x some = by_cond Packs (is_shut x) x (sends now (receives now i
 settle-shut : (x : EndState) → is_shut x ≡ true → is_shut (settle x) ≡ true
 settle-shut x shut = by_cond (λ (y : EndState). is_shut y ≡ true) (is_shut x) (with_session (process_event Closes x.session) x) x (λ _. shut) (λ _. shut)
 
-receives-some : (now : ℕ) (i : Input) (m : Move) (x : EndState) → PacksSome x → PacksSome (receives now i (end_moved m x))
-receives-some now i m x some =
-    let y = end_moved m x in
-    let moved-on : Steady x y =
-    keep-settle now AnyPart (Steady x) (steady-goes now x) (with_machine (move m x.machine) x) (record { set = refl; inputs = refl }) in
+receives-some : (now : ℕ) (i : Input) (x y : EndState) → Steady x y → PacksSome x → PacksSome (receives now i y)
+receives-some now i x y moved-on some =
     let heard-on : Steady (with_input i y) (receives now i y) =
     keep-parts now AnyPart (Steady (with_input i y)) (steady-goes now (with_input i y)) (parts_passed i y.red) (with_input i y)
     (any-parts now (parts_passed i y.red) (with_input i y)) (record { set = refl; inputs = refl })
@@ -621,15 +636,18 @@ receives-some now i m x some =
     subst (λ (s : EndSettings). 1 ≤ s.n_maxpacket) (sym (heard-on.set ∙ moved-on.set)) some
 
 pub call-packs : (c : Call) (x : EndState) → PacksSome x → Packs (call c x)
-call-packs (Close now) x some = shut-packs (call (Close now) x) (settle-shut (with_machine (leave ClosedByUser Unspecified now x.machine) x) refl)
-call-packs (Put kind payload now) x some = sends-packs now (with_session (process_event (Puts kind payload (length x.session.waiting)) x.session) x) some
-call-packs (InitDone now) x some = sends-packs now (with_session (process_event (Completes (length x.session.waiting)) x.session) x) some
+call-packs (Close now) x some =
+    shut-packs (call (Close now) x) (subst (λ (y : EndState). is_shut y ≡ true) (sym (closed-step-is now x))
+    (settle-shut (with_machine (leave ClosedByUser Unspecified now x.machine) x) refl))
+call-packs (Put kind payload now) x some = sends-packs now (step (queues kind payload) x) some
+call-packs (InitDone now) x some = sends-packs now (step finishes x) some
 call-packs (Tick now) x some =
-    by_cond Packs (is_shut x) x (goes_on now (RedTick now) (end_moved (Ticks now) x)) (λ shut. shut-packs x shut)
-    (λ _. goes-packs now (RedTick now) (end_moved (Ticks now) x) (receives-some now (RedTick now) (Ticks now) x some))
+    by_cond Packs (is_shut x) x (goes_on now (RedTick now) (ticked now x)) (λ shut. shut-packs x shut)
+    (λ _. goes-packs now (RedTick now) (ticked now x) (receives-some now (RedTick now) x (ticked now x) (record { set = refl; inputs = refl }) some))
 call-packs (Deliver channel octets now) x some =
-    by_cond Packs (is_shut x) x (goes_on now (Datagram octets now) (end_moved (Guards now) x)) (λ shut. shut-packs x shut)
-    (λ _. goes-packs now (Datagram octets now) (end_moved (Guards now) x) (receives-some now (Datagram octets now) (Guards now) x some))
+    by_cond Packs (is_shut x) x (goes_on now (Datagram octets now) (guarded now x)) (λ shut. shut-packs x shut)
+    (λ _. goes-packs now (Datagram octets now) (guarded now x)
+    (receives-some now (Datagram octets now) x (guarded now x) (record { set = refl; inputs = refl }) some))
 
 -- of all ends of a world: by the settings, which an end keeps
 abbrev pub PacksAt : EndState → Type 0
@@ -661,13 +679,9 @@ same-goes now x =
       sends = λ y may some h. h;
     }
 
-same-moved : (now : ℕ) (m : Move) (x : EndState) → Same x (moved m x)
-same-moved now m x = keep-settle now AnyPart (Same x) (same-goes now x) (with_machine (move m x.machine) x) refl
-
-same-on : (now : ℕ) (i : Input) (m : Move) (x : EndState) → Same x (goes_on now i (moved m x))
-same-on now i m x =
-    let y = moved m x in
-    keep-goes_on now AnyPart (Same x) (same-goes now x) i y (λ _. any-parts now (parts_passed i y.red) (with_input i y)) (same-moved now m x) (same-moved now m x)
+same-on : (now : ℕ) (i : Input) (x y : EndState) → Same x y → Same x (goes_on now i y)
+same-on now i x y h =
+    keep-goes_on now AnyPart (Same x) (same-goes now x) i y (λ _. any-parts now (parts_passed i y.red) (with_input i y)) h h
 
 -- what a call puts in
 abbrev pub put_in_by : Call → EndState → List Item
@@ -675,16 +689,18 @@ put_in_by (Put kind payload now) x = put_by (Puts kind payload (length x.session
 put_in_by c x = []
 
 pub call-put : (c : Call) (x : EndState) → (call c x).session.history.put ≡ x.session.history.put ++ put_in_by c x
-call-put (Close now) x = same-moved now (Leaves ClosedByUser Unspecified now) x ∙ sym (append-nil x.session.history.put)
+call-put (Close now) x = keep-closed now AnyPart (Same x) (same-goes now x) x refl ∙ sym (append-nil x.session.history.put)
 call-put (Put kind payload now) x =
-    let y = with_session (process_event (Puts kind payload (length x.session.waiting)) x.session) x in
+    let y = step (queues kind payload) x in
     keep-packed now AnyPart (Same y) (same-goes now y) (length y.session.waiting) y refl
 call-put (InitDone now) x =
-    let y = with_session (process_event (Completes (length x.session.waiting)) x.session) x in
+    let y = step finishes x in
     keep-packed now AnyPart (Same y) (same-goes now y) (length y.session.waiting) y refl
 call-put (Tick now) x =
-    by_cond (Same x) (is_shut x) x (goes_on now (RedTick now) (moved (Ticks now) x)) (λ _. refl) (λ _. same-on now (RedTick now) (Ticks now) x)
+    by_cond (Same x) (is_shut x) x (goes_on now (RedTick now) (ticked now x)) (λ _. refl)
+    (λ _. same-on now (RedTick now) x (ticked now x) (keep-ticked now AnyPart (Same x) (same-goes now x) x refl))
     ∙ sym (append-nil x.session.history.put)
 call-put (Deliver channel octets now) x =
-    by_cond (Same x) (is_shut x) x (goes_on now (Datagram octets now) (moved (Guards now) x)) (λ _. refl)
-    (λ _. same-on now (Datagram octets now) (Guards now) x) ∙ sym (append-nil x.session.history.put)
+    by_cond (Same x) (is_shut x) x (goes_on now (Datagram octets now) (guarded now x)) (λ _. refl)
+    (λ _. same-on now (Datagram octets now) x (guarded now x) (keep-guarded now AnyPart (Same x) (same-goes now x) x refl))
+    ∙ sym (append-nil x.session.history.put)

@@ -9,6 +9,7 @@ use Rattle.stack_engine.proofs.Words.{nat_tests, no_wait, NoDeadlineFalls, None,
 use Rattle.stack_engine.proofs.Words.{ProtocolError, Put, QNear, RedTick, refl, refusal, rule_of, run, SameRule, Some, State, subst, suc, sym, taken_at, Tick}
 use Rattle.stack_engine.proofs.Words.{Ticks, Timeout, true, Unspecified, upper_of, Wait, wait_after, with_input, World, zero, ℕ, ◌&&◌, ◌++◌, ◌+◌, ◌<◌, ◌==◌}
 use Rattle.stack_engine.proofs.Words.{◌^◌, ◌||◌, ◌∙◌, ◌∷◌, ◌≡◌, ◌≢◌, ◌≤◌}
+use Rattle.stack_engine.proofs.Words.{guarded, ticked}
 use Rattle.stack_engine.proofs.one.Speaking.{and-parts, came}
 use Rattle.stack_engine.proofs.two.Confirmed.{nil-is, not-true}
 
@@ -48,8 +49,8 @@ abbrev at_input : (EndState → List ℕ → Bool) → ℕ → Input → EndStat
 at_input t now i x = at_parts t now (parts_passed i x.red) (with_input i x)
 
 abbrev at_call : (EndState → List ℕ → Bool) → Call → EndState → Bool
-at_call t (Tick now) x = at_input t now (RedTick now) (moved (Ticks now) x)
-at_call t (Deliver channel octets now) x = at_input t now (Datagram octets now) (moved (Guards now) x)
+at_call t (Tick now) x = at_input t now (RedTick now) (ticked now x)
+at_call t (Deliver channel octets now) x = at_input t now (Datagram octets now) (guarded now x)
 at_call t _ x = true
 
 module _ (t : EndState → List ℕ → Bool) (P : EndState → List ℕ → Type 0) (tells : TellsUp t P) where

@@ -4,6 +4,7 @@ use Rattle.stack_engine.proofs.Words.{EndState, Event, false, Fe, four_steps, Fr
 use Rattle.stack_engine.proofs.Words.{length, List, Made, made_of, moved, None, not, Open, Option, Part, part, parts_passed, pieces_seen, present, refl, refusal}
 use Rattle.stack_engine.proofs.Words.{run, sn_of, Some, start, subst, taken_at, TakesFresh, tele_seen, true, unit_seen, with_input, World, ℕ, ◌&&◌, ◌++◌, ◌==◌}
 use Rattle.stack_engine.proofs.Words.{◌∷◌, ◌≡◌}
+use Rattle.stack_engine.proofs.Words.{guarded}
 use Rattle.stack_engine.proofs.one.Speaking.{and-parts, came}
 use Rattle.stack_engine.proofs.rows.Drops.{differ, none-found}
 use Rattle.stack_engine.proofs.rows.GenuineRow.{i0b, i1b, i2b, i3b, i4b}
@@ -18,8 +19,8 @@ takes_first now (p ∷ ps) x = not (length (taken_at (part now p.1 x)) == length
 abbrev takes_at : ℕ → List ℕ → Option EndState → Bool
 takes_at now octets None = false
 takes_at now octets (Some x) =
-    let guarded = moved (Guards now) x in
-    not (is_shut x) && (not (is_shut guarded) && takes_first now (parts_passed (Datagram octets now) guarded.red) (with_input (Datagram octets now) guarded))
+    let y = guarded now x in
+    not (is_shut x) && (not (is_shut y) && takes_first now (parts_passed (Datagram octets now) y.red) (with_input (Datagram octets now) y))
 
 -- and no interlocking made anything
 abbrev takes_unmade : Event → World → Bool
@@ -44,11 +45,11 @@ call-unmade : (now channel : ℕ) (octets : List ℕ) (x : Option EndState) → 
     → ⊥
 call-unmade now channel octets None h fresh = not-so h
 call-unmade now channel octets (Some x) h fresh =
-    let guarded = moved (Guards now) x in
+    let y = guarded now x in
     let one = and-parts _ _ h in
     let two = and-parts _ _ one.1 in
-    first-unmade now (parts_passed (Datagram octets now) guarded.red) (with_input (Datagram octets now) guarded) two.1
-    (fresh (not-true (is_shut x) one.0) (not-true (is_shut guarded) two.0))
+    first-unmade now (parts_passed (Datagram octets now) y.red) (with_input (Datagram octets now) y) two.1
+    (fresh (not-true (is_shut x) one.0) (not-true (is_shut y) two.0))
 
 event-unmade : (e : Event) (w : World) → takes_unmade e w ≡ true → (refusal e w ≡ None → FreshEvent e w) → ⊥
 event-unmade (Calls Fe (Deliver channel octets now)) w h fresh =

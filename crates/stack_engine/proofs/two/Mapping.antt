@@ -8,6 +8,7 @@ use Rattle.stack_engine.proofs.Words.{length, List, Made, made_of, Move, move, M
 use Rattle.stack_engine.proofs.Words.{Receiver, RedTick, refl, Result, rule_of, safe_seen, safe_text, SafeFault, seen_by, Send, Sends, Settings, settle, Side}
 use Rattle.stack_engine.proofs.Words.{Some, Start, State, subst, suc, sym, take, Tick, Ticks, Timely, TimelyEvent, true, unit_text, Unspecified, upper_of}
 use Rattle.stack_engine.proofs.Words.{with_input, with_machine, zero, ℕ, ◌&&◌, ◌++◌, ◌+◌, ◌==◌, ◌∙◌, ◌∷◌, ◌≡◌, ◌≢◌, ◌≤◌}
+use Rattle.stack_engine.proofs.Words.{guarded, ticked}
 use Rattle.safe_machine.specs.World.{Event, Genuine, GenuineEvent, apply_event, run, start, World}
 use Rattle.safe_machine.specs.World.Event.{Close as CloseMachine, Tick as TickMachine}
 use Rattle.stack_engine.proofs.one.Heeding.{OctetPart, OctetsUp, red-keeps, Whole, whole-keeps}
@@ -406,20 +407,12 @@ octets-parts : (now : ℕ) (ps : List Part) (x : EndState) → AllByRecursion Oc
 octets-parts now [] x h = tt
 octets-parts now (p ∷ ps) x h = (h.0, octets-parts now ps (part now p.1 x) h.1)
 
-settled-red : (x : EndState) → (settle x).red ≡ x.red
-settled-red x = by_cond (λ (y : EndState). y.red ≡ x.red) (is_shut x) _ x (λ _. refl) (λ _. refl)
-
-octets-input : Laws → (now : ℕ) (i : Input) (m : Move) (x : EndState) → IsTypedInput i → AllByRecursion OctetPart x.red.waiting
-    → AtInput OctetsUp now i (end_moved m x)
-octets-input law now i m x t h = λ _.
-    let y = end_moved m x in
-    let same : y.red ≡ x.red = settled-red (with_machine (move m x.machine) x) in
-    octets-parts now (parts_passed i y.red) (with_input i y)
-    (red-keeps law i y.red t (subst (λ (r : Receiver). AllByRecursion OctetPart r.waiting) (sym same) h)).0
+octets-input : Laws → (now : ℕ) (i : Input) (y : EndState) → IsTypedInput i → AllByRecursion OctetPart y.red.waiting → AtInput OctetsUp now i y
+octets-input law now i y t h = λ _. octets-parts now (parts_passed i y.red) (with_input i y) (red-keeps law i y.red t h).0
 
 pub octets-call : Laws → (c : Call) (x : EndState) → IsTypedCall c → AllByRecursion OctetPart x.red.waiting → AtCall OctetsUp c x
-octets-call law (Tick now) x t h = λ _. octets-input law now (RedTick now) (Ticks now) x tt h
-octets-call law (Deliver channel octets now) x t h = λ _. octets-input law now (Datagram octets now) (Guards now) x t h
+octets-call law (Tick now) x t h = λ _. octets-input law now (RedTick now) (ticked now x) tt h
+octets-call law (Deliver channel octets now) x t h = λ _. octets-input law now (Datagram octets now) (guarded now x) t h
 octets-call law _ x t h = tt
 
 -- two things that hold of each part
@@ -429,6 +422,6 @@ both-parts P Q now [] x h k = tt
 both-parts P Q now (p ∷ ps) x h k = ((h.0, k.0), both-parts P Q now ps (part now p.1 x) h.1 k.1)
 
 pub both-call : (P Q : EndState → List ℕ → Type 0) (c : Call) (x : EndState) → AtCall P c x → AtCall Q c x → AtCall (λ y o. P y o × Q y o) c x
-both-call P Q (Tick now) x h k = grind (arith, nat_tests, both-parts)
-both-call P Q (Deliver channel octets now) x h k = grind (arith, nat_tests, both-parts)
+both-call P Q (Tick now) x h k = λ on up. both-parts P Q now (parts_passed (RedTick now) (ticked now x).red) (with_input (RedTick now) (ticked now x)) (h on up) (k on up)
+both-call P Q (Deliver channel octets now) x h k = λ on up. both-parts P Q now (parts_passed (Datagram octets now) (guarded now x).red) (with_input (Datagram octets now) (guarded now x)) (h on up) (k on up)
 both-call P Q _ x h k = tt

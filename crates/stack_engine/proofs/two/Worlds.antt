@@ -10,6 +10,7 @@ use Rattle.stack_engine.proofs.Words.{Part, part, parts_passed, Pdu, Put, put_at
 use Rattle.stack_engine.proofs.Words.{Settings, settle, Side, Some, start, State, subst, suc, sym, take, taken_at, TakesBeginnings, TakesFresh, Tele}
 use Rattle.stack_engine.proofs.Words.{telegrams_in, texts, TextsLaw, Tick, tick, Ticks, time_of, true, units, unless_refused, with_input, with_joined}
 use Rattle.stack_engine.proofs.Words.{with_machine, World, ℕ, ◌++◌, ◌+◌, ◌==◌, ◌^◌, ◌||◌, ◌∙◌, ◌∷◌, ◌≡◌, ◌≢◌, ◌≤◌}
+use Rattle.stack_engine.proofs.Words.{guarded, heard, part-is, ticked}
 use Rattle.stack_engine.proofs.one.Heeding.{machined-texts, OctetsUp, Whole}
 use Rattle.stack_engine.proofs.one.Speaking.{and-parts, came, goes-of, handed-none, IsTypedCall, IsTypedInput, keep-part, keep-settle, Keeps, Laws, leaves-same}
 use Rattle.stack_engine.proofs.one.Speaking.{legal-of, messages-append, nil-front, queue-read, rises-same, Spoken, telegrams-append}
@@ -416,11 +417,11 @@ pub call-at : (c : Call) (Q R : EndState → List ℕ → Type 0) (P : EndState 
     → ((y : EndState) (octets : List ℕ) → P y → Q y octets → R y octets)
     → IsTypedCall c → AtCall Q c x → P x → AtCall R c x
 call-at (Tick now) Q R P x k each t q h = λ on.
-    at-input now Q R P k each (RedTick now) (end_moved (Ticks now) x) tt (q on)
-    (keep-settle now Q P (goes-of now Q P k) (with_machine (tick now x.machine) x) (k.ticks x h))
+    at-input now Q R P k each (RedTick now) (ticked now x) tt (q on)
+    (keep-ticked now Q P (goes-of now Q P k) x (k.ticks x h))
 call-at (Deliver channel octets now) Q R P x k each t q h = λ on.
-    at-input now Q R P k each (Datagram octets now) (end_moved (Guards now) x) t (q on)
-    (keep-settle now Q P (goes-of now Q P k) (with_machine (guard now x.machine) x) (k.guards x h))
+    at-input now Q R P k each (Datagram octets now) (guarded now x) t (q on)
+    (keep-guarded now Q P (goes-of now Q P k) x (k.guards x h))
 call-at _ Q R P x k each t q h = tt
 
 settle-taken : (y : EndState) → taken_at (settle y) ≡ taken_at y
@@ -428,7 +429,11 @@ settle-taken y = grind (arith, append-nil)
 
 pub nothing-taken : (now : ℕ) (octets : List ℕ) (x : EndState) → (arrive_octets octets now x.machine).taken ≡ x.machine.taken
     → taken_at (part now octets x) ≡ taken_at x
-nothing-taken now octets x e = grind (arith, nat_tests, handed-none, leaves-same, rises-same, settle-taken)
+nothing-taken now octets x e =
+    subst (λ (y : EndState). taken_at y ≡ taken_at x) (sym (part-is now octets x)) settled
+  where
+    settled : taken_at (settle (heard now octets x)) ≡ taken_at x
+    settled = grind (arith, nat_tests, handed-none, leaves-same, rises-same, settle-taken)
 
 guard-takes : MovesLaw → (now : ℕ) (s : State) → (guard now s).taken ≡ s.taken
 guard-takes law now s = let one = law (Guards now) s in one.taken ∙ ap (λ us. s.taken ++ us) one.one_taken ∙ append-nil s.taken

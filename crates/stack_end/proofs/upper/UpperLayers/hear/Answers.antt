@@ -1,4 +1,5 @@
-use Rattle.stack_end.proofs.Words.{dialogue_of, fields_of, FoldsTo-keeps, judged_at, machine_hears, machine_turn, refl, rules, session_turn, talk}
+use Rattle.stack_end.proofs.Words.{dialogue_of, fields_of, FoldsTo-keeps, octets_units, judged_at, machine_hears, machine_turn, refl, rules, session_turn, talk}
+use Rattle.stack_end.specs.Turns.{with_units}
 use Rattle.stack_end.proofs.Going.{judges-units, machine-went, session-went, went-alone, went-then}
 use Rattle.stack_end.proofs.upper.UpperLayers.hear.Goals as goal
 
@@ -35,6 +36,8 @@ returns-clause-does g c =
     let dialogue = (judged_at c.args.now c.args.octets.now v).left in
     let two = session-went takes (dialogue_of v) dialogue (record v { numbers = c.arrive-step.new.out.numbers.now; machine = c.arrive-step.new.self; made = c.arrive-step.new.out.made.now }) _ _ _
     refl judged.0 in
-    let went = went-then takes (machine_turn t v) (session_turn dialogue) _ _ _ _ _ _ _ _ (went-alone takes (machine_turn t v) _ _ _ _ one) two in
+    let t0 = with_units (octets_units c.args.octets.now c.args.now v.machine) (machine_turn t v) in
+    let went = went-then takes t0 (session_turn dialogue) _ _ _ _ _ _ _ _
+    (went-alone takes t0 _ _ _ _ record { left = one.left; sent = one.sent; none = one.none }) two in
     let same = FoldsTo-keeps (λ s. s.taker.ghost_name) _ (λ s x t h. h.2) _ _ _ c.arrive-step.ensures.taken in
     search (rules, went, same)
