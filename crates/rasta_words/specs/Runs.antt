@@ -26,8 +26,8 @@ ends_word Il = codes "il"
 ends_word Fe = codes "fe"
 ends_word Pair = codes "pair"
 
--- `--turns N` of il FILE (--turns N | --until-end) [--log off|state|all] [--time utc|run] [--expect up|settled] [--keep] [--stats text|json|prometheus
--- [--every N]]; fe and pair have the same
+-- `--turns N` of il FILE (--turns N | --until-end) [--log off|state|all] [--time utc|run] [--stamp] [--expect up|settled] [--keep]
+-- [--stats text|json|prometheus [--every N]]; fe and pair have the same
 abbrev pub turns_rule : Rule
 turns_rule = record (new_rule (codes "turns")) { long = Some (codes "turns") }
 
@@ -42,6 +42,10 @@ log_rule = record (new_rule (codes "log")) { long = Some (codes "log") }
 -- `--time`
 abbrev pub time_rule : Rule
 time_rule = record (new_rule (codes "time")) { long = Some (codes "time") }
+
+-- `--stamp`, a flag
+abbrev pub stamp_rule : Rule
+stamp_rule = record (new_rule (codes "stamp")) { long = Some (codes "stamp"); action = Some SetTrue }
 
 -- `--expect`
 abbrev pub expect_rule : Rule
@@ -75,9 +79,13 @@ logged_app name = with_rule (ending_app name) log_rule
 abbrev pub timed_app : Text → App
 timed_app name = with_rule (logged_app name) time_rule
 
+-- with `--stamp`, too
+abbrev pub stamping_app : Text → App
+stamping_app name = with_rule (timed_app name) stamp_rule
+
 -- with `--expect`, too
 abbrev pub expecting_app : Text → App
-expecting_app name = with_rule (timed_app name) expect_rule
+expecting_app name = with_rule (stamping_app name) expect_rule
 
 -- with `--keep`, too
 abbrev pub keeping_app : Text → App
@@ -168,7 +176,7 @@ IsRun rows r =
     (first_of (codes "file") rows ≡ Some r.file.now)
     × IsLengthChosen (first_of (codes "turns") rows) (is_flagged (first_of (codes "until-end") rows)) r.length
     × IsLogChosen (first_of (codes "log") rows) r.log × IsTimeChosen (first_of (codes "time") rows) r.time
-    × IsEndChosen (first_of (codes "expect") rows) r.expected × (is_flagged (first_of (codes "keep") rows) ≡ r.keep)
+    × (is_flagged (first_of (codes "stamp") rows) ≡ r.stamp) × IsEndChosen (first_of (codes "expect") rows) r.expected × (is_flagged (first_of (codes "keep") rows) ≡ r.keep)
     × AreCountsChosen (first_of (codes "stats") rows) (first_of (codes "every") rows) r.counts
 
 -- no run has the values of these entries

@@ -3,7 +3,7 @@
 ghost use Rattle.std.specs.Prelude.{◌≡◌, IfOk, false};
 ghost use Rattle.clap.specs.declared.Command.TheViews.{out-Command};
 ghost use Rattle.clap.specs.Words.{app_of};
-ghost use Rattle.rasta_words.specs.Runs.{counting_app, ending_app, expecting_app, keeping_app, logged_app, net_app, repeating_app, timed_app, turns_app};
+ghost use Rattle.rasta_words.specs.Runs.{counting_app, ending_app, expecting_app, keeping_app, logged_app, net_app, repeating_app, stamping_app, timed_app, turns_app};
 
 use clap::{Arg, ArgAction, Command};
 use std::alloc::{AllocError, Global};
@@ -68,7 +68,7 @@ fn counting_command<'a>(
     command.arg(stats)
 }
 
-/// Declares a command of ends over sockets with `--turns`, `--until-end`, `--log`, `--time`, `--expect`
+/// Declares a command of ends over sockets with `--turns`, `--until-end`, `--log`, `--time`, `--stamp`, `--expect`
 /// and `--keep`.
 #[inline(never)]
 fn keeping_command<'a>(
@@ -90,23 +90,44 @@ fn keeping_command<'a>(
     command.arg(keep)
 }
 
-/// Declares a command of ends over sockets with `--turns`, `--until-end`, `--log`, `--time` and `--expect`.
+/// Declares a command of ends over sockets with `--turns`, `--until-end`, `--log`, `--time`, `--stamp` and `--expect`.
 #[inline(never)]
 fn expecting_command<'a>(
     alloc: Global,
     name: &'a str,
     about: &'a str,
 ) -> Result<Command<'a>, AllocError>
-    // `expecting_command` declares a subcommand of this `name` with the options of `timed_app` and `--expect`.
+    // `expecting_command` declares a subcommand of this `name` with the options of `stamping_app` and `--expect`.
     ensures app { IfOk result (λ command. app_of command ≡ expecting_app name.entry.now) }
     // No argument that `expecting_command` declares is global.
     ensures local { IfOk result (λ command. (out-Command command).has_globals ≡ false) }
 {
-    let command = timed_command(alloc, name, about)?;
+    let command = stamping_command(alloc, name, about)?;
     let expect = Arg::new(alloc, "expect").long("expect").help(
         "Exit with status 4 unless, at the end, the session is established (up), or every telegram to be put is also confirmed (settled) [default: nothing is expected]",
     );
     command.arg(expect)
+}
+
+/// Declares a command of ends over sockets with `--turns`, `--until-end`, `--log`, `--time` and `--stamp`.
+#[inline(never)]
+fn stamping_command<'a>(
+    alloc: Global,
+    name: &'a str,
+    about: &'a str,
+) -> Result<Command<'a>, AllocError>
+    // `stamping_command` declares a subcommand of this `name` with the options of `timed_app` and the flag
+    // `--stamp`.
+    ensures app { IfOk result (λ command. app_of command ≡ stamping_app name.entry.now) }
+    // No argument that `stamping_command` declares is global.
+    ensures local { IfOk result (λ command. (out-Command command).has_globals ≡ false) }
+{
+    let command = timed_command(alloc, name, about)?;
+    let stamp = Arg::new(alloc, "stamp")
+        .long("stamp")
+        .action(ArgAction::SetTrue)
+        .help("Begin each line of a telegram taken with a time as in the log [default: no time]");
+    command.arg(stamp)
 }
 
 /// Declares a command of ends over sockets with `--turns`, `--until-end`, `--log` and `--time`.
