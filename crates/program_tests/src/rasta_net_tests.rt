@@ -1,6 +1,6 @@
 use crate::assertions::{assert_equal, assert_true};
-use rasta_run::{Run, run_net};
-use rasta_words::{LogLevel, LogTime, RunLength, Status};
+use rasta_run::run_net;
+use rasta_words::{LogLevel, LogTime, RunLength, RunRequest, Status};
 use settings_file::Subcommand;
 use std::io;
 use std::io::{ErrorKind, Write};
@@ -60,11 +60,13 @@ impl Write for Counted {
     }
 }
 
-fn run_of(turns: u32) -> Run {
-    Run {
+fn run_of(turns: u32) -> RunRequest<'static> {
+    RunRequest {
         word: Subcommand::Pair,
+        file: "pair.toml",
         length: RunLength::Turns(turns),
         time: LogTime::Run,
+        stamp: false,
         log: LogLevel::Off,
         expected: None,
         keep: false,
@@ -81,15 +83,7 @@ fn writes_the_lines_of_each_turn(rt: HostRuntime) -> Result<(), Fail> {
         lines: 0,
         is_lost: false,
     };
-    let ended = run_net(
-        &rt,
-        rt.alloc(),
-        &run_of(100),
-        "pair.toml",
-        PAIR,
-        &mut out,
-        &mut err,
-    );
+    let ended = run_net(&rt, rt.alloc(), &run_of(100), PAIR, &mut out, &mut err);
     assert_equal(&rt, ended, Status::Done);
     assert_equal(&rt, out.lines, 5);
     assert_true(&rt, out.writes > 1);
@@ -106,15 +100,7 @@ fn reports_lines_that_are_lost(rt: HostRuntime) -> Result<(), Fail> {
         lines: 0,
         is_lost: true,
     };
-    let ended = run_net(
-        &rt,
-        rt.alloc(),
-        &run_of(1),
-        "pair.toml",
-        PAIR,
-        &mut out,
-        &mut err,
-    );
+    let ended = run_net(&rt, rt.alloc(), &run_of(1), PAIR, &mut out, &mut err);
     assert_equal(&rt, ended, Status::Failed);
     assert_equal(&rt, err.as_slice(), b"fault: output\n".as_slice());
     Ok(())

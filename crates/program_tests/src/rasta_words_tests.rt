@@ -190,6 +190,7 @@ fn accepts_the_words_of_the_ends(rt: HostRuntime) -> Result<(), Fail> {
                 length: RunLength::Turns(turns),
                 log: LogLevel::Off,
                 time: LogTime::Utc,
+                stamp: false,
                 expected: None,
                 keep: false,
                 counts: None,
@@ -211,6 +212,7 @@ fn accepts_the_words_of_the_ends(rt: HostRuntime) -> Result<(), Fail> {
         length: RunLength::UntilEnd,
         log: LogLevel::Off,
         time: LogTime::Utc,
+        stamp: false,
         expected: None,
         keep: false,
         counts: None,
@@ -223,6 +225,12 @@ fn accepts_the_words_of_the_ends(rt: HostRuntime) -> Result<(), Fail> {
         };
         assert_equal(&rt, found, Request::Net(RunRequest { time, ..running }));
     }
+    let stamped = ["rasta", "fe", "--until-end", "--stamp", "ends.toml"];
+    let Ok(found) = command(rt.alloc(), &stamped) else {
+        return Err(Fail::from("refused"));
+    };
+    let stamp = true;
+    assert_equal(&rt, found, Request::Net(RunRequest { stamp, ..running }));
     let no_turns = Rejection::Value {
         option: Choice::Turns,
         value: "0",
@@ -356,6 +364,7 @@ fn kept_until_end(keep: bool, counts: Option<CountsRequest>) -> RunRequest<'stat
         length: RunLength::UntilEnd,
         log: LogLevel::Off,
         time: LogTime::Utc,
+        stamp: false,
         expected: None,
         keep,
         counts,

@@ -44,12 +44,22 @@ code_after size (Some body) = if nat_lt size (36 + body) then None else if_code 
 abbrev pub code_seen : List ℕ → Option ℕ
 code_seen octets = code_after (length octets) (body_of_kind (kind_seen octets))
 
--- the redundancy number, the identifiers of the safety PDU after the eight bytes of the redundancy layer, and the length of the safety code, if there are
--- enough bytes
+-- the four bytes where a ConnReq or ConnResp has its version, if there are enough bytes
+abbrev pub version_seen : List ℕ → Option ℕ
+version_seen octets = if nat_lt (length octets) 40 then None else Some (number_at 4 36 octets)
+
+-- the redundancy number, the identifiers of the safety PDU after the eight bytes of the redundancy layer, the length of the safety code, and the version,
+-- if there are enough bytes
 abbrev pub header_seen : List ℕ → Option Header
 header_seen octets =
     if nat_lt (length octets) 20 then None
-    else Some record { number = number_at 4 4 octets; receiver = number_at 4 12 octets; sender = number_at 4 16 octets; code = code_seen octets }
+    else Some record {
+      number = number_at 4 4 octets;
+      receiver = number_at 4 12 octets;
+      sender = number_at 4 16 octets;
+      code = code_seen octets;
+      version = version_seen octets;
+    }
 
 -- the bytes between the headers of both layers and a safety code of this length, if there are enough
 abbrev pub body_seen : List ℕ → (code : ℕ) → List ℕ

@@ -8,7 +8,7 @@ use Rattle.pdu_text.specs.Pieces.{three_digits}
 use Rattle.rasta_run.specs.declared.failing.Call.{Call}
 use Rattle.rasta_run.specs.declared.failing.Call.TheVariants.{Send, Receive}
 use Rattle.rasta_run.specs.declared.noticing.Notice.{Notice}
-use Rattle.rasta_run.specs.declared.noticing.Notice.TheVariants.{CallsFail, CallsSucceed, Unanswered, Drops, WrongRequest, InDoubt, NoTurn, Fruitless, Session, Unread}
+use Rattle.rasta_run.specs.declared.noticing.Notice.TheVariants.{CallsFail, CallsSucceed, Unanswered, Drops, WrongRequest, OtherVersion, InDoubt, NoTurn, Fruitless, Session, Unread}
 
 -- the connection is lost, and this many telegrams were put and not confirmed
 unfoldable pub in_doubt_text : ℕ → List ℕ
@@ -63,6 +63,14 @@ unanswered_text milliseconds =
 unfoldable pub drops_text : ℕ → List ℕ
 drops_text count = join_pieces (codes "dropped " ∷ decimal count ∷ codes " more datagrams, for causes that are logged" ∷ [])
 
+-- the four bytes of a version, the least significant one of its number first
+abbrev pub version_bytes : ℕ → List ℕ
+version_bytes n = n / 1 % 256 ∷ n / 256 % 256 ∷ n / 65_536 % 256 ∷ n / 16_777_216 % 256 ∷ []
+
+-- the peer has this version of RaSTA
+unfoldable pub other_version_text : ℕ → List ℕ
+other_version_text version = join_pieces (codes "the peer has another version of RaSTA: " ∷ version_bytes version ∷ codes ", not 0303" ∷ [])
+
 -- the text of a notice
 abbrev pub notice_text : Notice → List ℕ
 notice_text (CallsFail call channel error) = calls_fail_text call channel error
@@ -70,6 +78,7 @@ notice_text (CallsSucceed call channel failed) = calls_succeed_text call channel
 notice_text (Unanswered milliseconds) = unanswered_text milliseconds
 notice_text (Drops count) = drops_text count
 notice_text WrongRequest = codes "a connection request came, which only an interlocking makes: the peer is one, too"
+notice_text (OtherVersion version) = other_version_text version
 notice_text (InDoubt count) = in_doubt_text count
 notice_text (NoTurn milliseconds) = no_turn_text milliseconds
 notice_text (Fruitless count) = fruitless_text count

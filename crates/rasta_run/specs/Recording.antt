@@ -7,6 +7,8 @@ use Rattle.red_layer.specs.declared.RedEvent.{RedEvent}
 use Rattle.safe_machine.specs.declared.DropCause.{DropCause}
 use Rattle.safe_pdu.specs.declared.Kind.{Kind}
 use Rattle.safe_pdu.specs.declared.Kind.TheVariants.{ConnReq, ConnResp, RetrReq, RetrResp, DiscReq, Heartbeat, Data, RetrData}
+use Rattle.safe_pdu.specs.declared.reasons.Reason.{Reason}
+use Rattle.safe_pdu.specs.declared.reasons.Reason.TheVariants as reason
 use Rattle.safe_machine.specs.declared.Step.{Step}
 use Rattle.safe_machine.specs.declared.Step.TheVariants as step
 use Rattle.rasta_run.specs.Counting.{channel_under, closing_after, dropped_on, one_more, sent_on}
@@ -86,10 +88,26 @@ after_part number cause r =
     let channel = channel_under number r.came.0 r.came.1 in
     after_drop channel (drop_cause cause (header_under number r.came.1) r.wanted) (record r { channels = dropped_on channel cause r.channels })
 
+-- the version for which the end last disconnected, after it disconnected for this reason because of a part with this header
+abbrev pub version_after : Reason → Option Header → (before : Option ℕ) → Option ℕ
+version_after reason.WrongVersion (Some header) before = header.version
+version_after reason.WrongVersion None before = before
+version_after reason.ClosedByUser header before = before
+version_after reason.UnexpectedPdu header before = before
+version_after reason.SequenceError header before = before
+version_after reason.Timeout header before = before
+version_after reason.ServiceNotAllowed header before = before
+version_after reason.RetransmissionImpossible header before = before
+version_after reason.ProtocolError header before = before
+
+-- the end disconnected because of the part with this number
+abbrev pub after_left : (number : ℕ) → Reason → Recorder → Recorder
+after_left number why r = record r { closing = one_more r.closing; version = version_after why (header_under number r.came.1) r.version }
+
 -- the safety machine handled the part with this number
 abbrev pub after_step : (number : ℕ) → Step → Recorder → Recorder
 after_step number (step.Dropped cause) r = after_part number cause r
-after_step number (step.Left reason detail) r = record r { closing = one_more r.closing }
+after_step number (step.Left why detail) r = after_left number why r
 after_step number step.Nothing r = record r { closing = one_more r.closing }
 after_step number step.Taken r = r
 after_step number step.Gap r = r

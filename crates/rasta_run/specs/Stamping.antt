@@ -1,5 +1,6 @@
 -- The time at the start of a line of the log: that of the run, or UTC.
 use Rattle.std.specs.Prelude.{◌≡◌, ◌⊎◌, ℕ, ◌+◌, ◌/◌, ◌%◌, ◌≤◌, ◌++◌, ◌-◌, ◌^◌, ◌==◌, min, drop, List, [], ◌∷◌, codes, not, Bool, true, false, Option, Some, None}
+use Rattle.std.specs.Fmt.{decimal}
 use Rattle.std.specs.List.{position}
 use Rattle.std.specs.Io.KnownBytes.{Appends}
 use Rattle.pdu_text.specs.Lines.{join_pieces}
@@ -14,6 +15,7 @@ use Rattle.rasta_run.specs.declared.calendar.Date.{Date}
 use Rattle.rasta_run.specs.declared.logging.Log.{Log}
 use Rattle.rasta_run.specs.declared.logging.SilenceChange.{SilenceChange}
 use Rattle.rasta_run.specs.declared.noticing.Notice.{Notice}
+use Rattle.rasta_run.specs.declared.stamping.Stamp.{Stamp}
 use Rattle.rasta_words.specs.declared.status.LogTime.{LogTime}
 use Rattle.rasta_words.specs.declared.status.LogTime.TheVariants.{Utc, Run}
 
@@ -72,6 +74,24 @@ Stamps Utc at line written = StampsUtc at line written
 -- the time in UTC, in milliseconds since 1970, at a time of the run
 abbrev pub utc_at : Log → ℕ → ℕ
 utc_at log now = min (log.zero + now) (2 ^ 64 - 1)
+
+-- the time for the lines of telegrams taken at a time of the run, if they have one
+abbrev pub stamp_if : Bool → Log → ℕ → Option Stamp
+stamp_if true log now = Some (record { time = log.time; at = utc_at log now; now = now })
+stamp_if false log now = None
+
+-- the same, as the log has it
+abbrev pub stamp_of : Log → ℕ → Option Stamp
+stamp_of log now = stamp_if log.stamps log now
+
+-- SECONDS.MILLISECONDS of the run, and a blank
+unfoldable pub run_text : ℕ → List ℕ
+run_text now = join_pieces (decimal (now / 1000) ∷ codes "." ∷ three_digits (now % 1000) ∷ codes " " ∷ [])
+
+-- the line of a telegram is written as it is, or after the time that a line of the log has
+abbrev pub StampsTake : Option Stamp → (line written : List ℕ) → Type 0
+StampsTake None line written = written ≡ line
+StampsTake (Some s) line written = Stamps s.time s.at (run_text s.now ++ line) written
 
 -- a line was written to the log at this time of the run
 abbrev pub Logs : Log → ℕ → List ℕ → Option (List ℕ) → Option (List ℕ) → Type 0

@@ -32,7 +32,7 @@ use Rattle.stack_end.specs.declared.departure.Leaver.TheVariants as by
 use Rattle.rasta_run.specs.declared.header.Header.{Header}
 use Rattle.rasta_run.specs.declared.noticing.Notice.{Notice}
 use Rattle.rasta_run.specs.declared.recorder.ExpectedHeader.{ExpectedHeader}
-use Rattle.rasta_run.specs.declared.noticing.Notice.TheVariants.{Drops, Unanswered, WrongRequest}
+use Rattle.rasta_run.specs.declared.noticing.Notice.TheVariants.{Drops, OtherVersion, Unanswered, WrongRequest}
 
 -- why the redundancy layer dropped a datagram; none if it did not
 abbrev pub event_cause : RedEvent → Option Cause
@@ -259,6 +259,16 @@ is_wrong_request FieldElement came = false
 abbrev pub wrong_request_notice : (first : Bool) → Option Notice
 wrong_request_notice true = Some WrongRequest
 wrong_request_notice false = None
+
+-- a version of the peer is the one that was told
+abbrev pub is_told_version : (told : Option ℕ) → (found : ℕ) → Bool
+is_told_version None found = false
+is_told_version (Some told) found = nat_eq told found
+
+-- the notice of a version of the peer for which the end disconnected, if one was found that was not told
+abbrev pub version_notice : (told found : Option ℕ) → Option Notice
+version_notice told None = None
+version_notice told (Some found) = if is_told_version told found then None else Some (OtherVersion found)
 
 -- the end itself disconnects for a fault of the session
 abbrev pub is_session_fault : EndEvent → Bool

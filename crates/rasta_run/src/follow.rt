@@ -5,6 +5,7 @@ ghost use Rattle.std.specs.Option.{option_copied};
 ghost use Rattle.pdu_text.specs.HexText.{initial_value_of};
 ghost use Rattle.rasta_run.specs.Following.{asked_under, end_of, form_of};
 
+use crate::program::report_file;
 use capture_text::{FollowOptions, FollowStatus, OutputForm};
 use pdu_text::initial_value;
 use rasta_words::{Fault, FollowRequest, Status, report};
@@ -34,8 +35,10 @@ pub fn run_follow<R: Read + Drop, O: Write, E: Write>(
     let Some(asked) = ask_for(following) else {
         return report(err, Fault::Hex);
     };
-    let ended = capture_text::run(alloc, reader, &asked, out, err);
-    end(err, ended)
+    match capture_text::run(alloc, reader, &asked, out, err) {
+        FollowStatus::File => report_file(following.file, "it cannot be read", err),
+        ended => end(err, ended),
+    }
 }
 
 /// Returns the choices of `follow` in the form that `capture_text` expects; `None` if the initial value is not 32

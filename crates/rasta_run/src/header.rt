@@ -1,7 +1,7 @@
 //! The fields of datagrams that the log names. The end itself tests whether a datagram is a PDU; this does not.
 
 ghost use Rattle.std.specs.Prelude.{◌≡◌};
-ghost use Rattle.rasta_run.specs.Headers.{body_length, body_seen, code_seen, header_seen, kind_seen};
+ghost use Rattle.rasta_run.specs.Headers.{body_length, body_seen, code_seen, header_seen, kind_seen, version_seen};
 
 use octets::limits::{LEAVING_BODY, OPENING_BODY};
 use octets::places::{u16_at, u32_at};
@@ -16,7 +16,10 @@ const SENDER_END: usize = 20;
 /// Where the body of the safety PDU begins.
 const BODY: usize = 36;
 
-/// The number and the identifiers in a datagram, and the length of its safety code.
+/// Where the version of RaSTA in the body of a ConnReq or ConnResp ends.
+const VERSION_END: usize = 40;
+
+/// The number and the identifiers in a datagram, the length of its safety code, and its version of RaSTA.
 #[derive(Clone, Copy, Debug, PartialEq, Eq)]
 pub struct Header {
     /// The redundancy number.
@@ -27,12 +30,14 @@ pub struct Header {
     pub sender: u32,
     /// The length of the safety code in bytes, if type and length of the datagram tell it.
     pub code: Option<u64>,
+    /// The four bytes where a ConnReq or ConnResp has its version of RaSTA, as a little-endian number.
+    pub version: Option<u32>,
 }
 
 /// Reads the number and the identifiers; `None` if there are too few bytes.
 pub fn header_of(datagram: &[u8]) -> Option<Header>
-    // `header_of` returns the little-endian numbers at the places of the fields and the length of the safety code,
-    // and `None` for fewer than 20 bytes.
+    // `header_of` returns the little-endian numbers at the places of the fields, the length of the safety code and the
+    // version, and `None` for fewer than 20 bytes.
     ensures { result ≡ header_seen datagram.now }
 {
     if datagram.len() < SENDER_END {
@@ -43,7 +48,19 @@ pub fn header_of(datagram: &[u8]) -> Option<Header>
         receiver: u32_at(datagram, 12),
         sender: u32_at(datagram, 16),
         code: code_of(datagram),
+        version: version_of(datagram),
     })
+}
+
+/// Reads the four bytes where a ConnReq or ConnResp has its version of RaSTA; `None` if there are too few bytes.
+fn version_of(datagram: &[u8]) -> Option<u32>
+    // `version_of` returns the little-endian number of the bytes 36 to 39, and `None` for fewer than 40 bytes.
+    ensures { result ≡ version_seen datagram.now }
+{
+    if datagram.len() < VERSION_END {
+        return None;
+    }
+    Some(u32_at(datagram, BODY))
 }
 
 /// Returns the length of the safety code in bytes, if type and length of the datagram tell it.

@@ -49,7 +49,7 @@ pub use check::run_check;
 pub use counts::{ChannelCounts, RunCounts};
 pub use follow::run_follow;
 pub use header::{Header, header_of};
-pub use net::{Run, run_net};
+pub use net::run_net;
 pub use program::{run, run_words};
 pub use recorded_channels::RecordedChannels;
 pub use recorder::{ExpectedHeader, Recorder};

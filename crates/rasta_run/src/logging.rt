@@ -7,7 +7,7 @@ ghost use Rattle.std.specs.Prelude.{◌≡◌, ◌+◌, ◌<◌, ◌&&◌, ◌||
 ghost use Rattle.octets.specs.declared.limits.TheConstants.{CHANNELS_MAX};
 ghost use Rattle.std.specs.Io.KnownBytes.{Appends};
 ghost use Rattle.rasta_run.specs.Silence.{heard_now, look_at_channel, hears_all, hears_at, said_of, new_listening};
-ghost use Rattle.rasta_run.specs.Stamping.{Logs, LogsChange, LogsEvent, LogsNotice};
+ghost use Rattle.rasta_run.specs.Stamping.{Logs, LogsChange, LogsEvent, LogsNotice, stamp_of};
 ghost use Rattle.pdu_text.specs.Endings.{ending_text};
 ghost use Rattle.pdu_text.specs.LogLines.{channel_text, missed_text};
 ghost use Rattle.pdu_text.specs.Pieces.{log_line};
@@ -25,10 +25,10 @@ use crate::events::{
 use crate::failing::{Call, CallFailures};
 use crate::header::body_of;
 use crate::noticing::{
-    Notice, are_drops_due, asked_by, drops_notice, is_wrong_request, request_notice, write_notice,
-    wrong_request_notice,
+    Notice, are_drops_due, asked_by, drops_notice, is_wrong_request, request_notice,
+    version_notice, write_notice, wrong_request_notice,
 };
-use crate::stamping::{write_stamped, zero_of};
+use crate::stamping::{Stamp, write_stamped, zero_of};
 use crate::{Recorder, RunCounts};
 use arrayvec::ArrayVec;
 use channels::Channels;
@@ -115,6 +115,8 @@ pub struct Log {
     level: LogLevel,
     /// The time at the start of its lines.
     time: LogTime,
+    /// Whether the lines of telegrams have that time, too.
+    stamps: bool,
     /// The time in UTC at which the clock of the run was 0, in milliseconds since 1970; 0 if the system gives none.
     zero: Milliseconds,
     /// T_max of the end, in milliseconds.
@@ -143,6 +145,8 @@ pub struct Log {
     asked: Option<u64>,
     /// Whether it was logged that a connection request came at an interlocking.
     has_request: bool,
+    /// The version of RaSTA of the peer that was last logged.
+    version: Option<u32>,
     /// The length of the safety code, in bytes.
     code: usize,
 }
@@ -153,14 +157,15 @@ impl Log {
         side: Side,
         level: LogLevel,
         time: LogTime,
+        stamps: bool,
         settings: &Settings,
         now: Milliseconds,
     ) -> Self
         // A new log is of this end, with this level, this time in its lines and the T_max of the settings.
-        ensures { (result.side ≡ side) × (result.level ≡ level) × (result.time ≡ time)
+        ensures { (result.side ≡ side) × (result.level ≡ level) × (result.time ≡ time) × (result.stamps ≡ stamps)
             × (result.t_max ≡ settings.now.config.t_max) × (result.told ≡ 0) × (result.is_quiet ≡ false)
             × (result.drops ≡ 0) × (result.drops_at ≡ now) × (result.asked ≡ None)
-            × (result.has_request ≡ false) × (result.code ≡ settings.now.config.code) }
+            × (result.has_request ≡ false) × (result.version ≡ None) × (result.code ≡ settings.now.config.code) }
     {
         let unheard = ChannelSilence {
             came: 0,
@@ -171,6 +176,7 @@ impl Log {
             side,
             level,
             time,
+            stamps,
             zero: 0,
             t_max: settings.config.t_max,
             told: 0,
@@ -185,6 +191,7 @@ impl Log {
             receptions: [CallFailures::none(now); CHANNELS_MAX],
             asked: None,
             has_request: false,
+            version: None,
             code: settings.config.code as usize,
         }
     }
@@ -377,12 +384,32 @@ impl Log {
         write_stamped(err, self.time, at, line)
     }
 
+    /// Returns the time for the lines of telegrams that are taken now, if they have one.
+    pub fn stamp(&self, now: Milliseconds) -> Option<Stamp>
+        // `stamp` returns the time that lines of the log have now if lines of telegrams have it, too, and else `None`.
+        ensures { result ≡ stamp_of self.now now }
+    {
+        match self.stamps {
+            true => Some(Stamp {
+                time: self.time,
+                at: self.zero.saturating_add(now),
+                now,
+            }),
+            false => None,
+        }
+    }
+
+    /// Returns whether there are no lines that have a time.
+    fn is_timeless(&self) -> bool {
+        self.is_off() && !self.stamps
+    }
+
     /// Reads the system's clock, if lines have the time in UTC.
     pub fn look_at_clock<K: Clock>(&mut self, system: &K, now: Milliseconds)
         // `look_at_clock` changes nothing but the time in UTC at which the clock of the run was 0.
         ensures { self.new ≡ record self.old { zero = self.new.zero } }
     {
-        if self.time == LogTime::Run || self.is_off() {
+        if self.time == LogTime::Run || self.is_timeless() {
             return;
         }
         if let Some(zero) = zero_of(system, now) {
@@ -686,6 +713,29 @@ impl Log {
         let is_wrong = is_wrong_request(self.side, came);
         let notice = wrong_request_notice(!self.has_request && is_wrong);
         self.has_request = self.has_request || is_wrong;
+        self.notice(notice, now, err)
+    }
+
+    /// Logs a version of the peer for which the end disconnected, once for each version in a row.
+    ///
+    /// # Errors
+    ///
+    /// - The error of the writer; what it wrote before stays written.
+    pub fn look_for_version<E: Write>(
+        &mut self,
+        found: Option<u32>,
+        now: Milliseconds,
+        err: &mut E,
+    ) -> io::Result<()>
+        // `look_for_version` records the version found; it changes nothing else.
+        ensures kept { self.new ≡ record self.old { version = found } }
+        // If `look_for_version` succeeds, it has appended the line of the version, if it is not the one recorded before, or
+        // nothing.
+        ensures told { OnOk result (LogsNotice (telling.version_notice self.old.version found) self.new now
+            (E.contents err.old) (E.contents err.new)) }
+    {
+        let notice = version_notice(self.version, found);
+        self.version = found;
         self.notice(notice, now, err)
     }
 

@@ -29,8 +29,8 @@ use crate::undone::{Outcome, run_status};
 use crate::unopened::{StopCause, Unopened, fault_of, fault_of_end};
 use end_settings::Side;
 use octets::Milliseconds;
-use rasta_words::{CountsRequest, Expected, Fault, LogLevel, LogTime, RunLength, Status, report};
-use settings_file::{Ends, Settings, Subcommand};
+use rasta_words::{Fault, LogLevel, RunLength, RunRequest, Status, report};
+use settings_file::{Ends, Settings};
 use stack_end::End;
 use std::alloc::Global;
 use std::io::{Input, Write};
@@ -39,27 +39,8 @@ use std::rt::Files;
 use std::time::Clock;
 use udp_channels::{UdpChannels, Watch, open_udp};
 
-/// How ends are run.
-#[derive(Clone, Copy, Debug, PartialEq, Eq)]
-pub struct Run {
-    /// The ends that run.
-    pub word: Subcommand,
-    /// How long they run.
-    pub length: RunLength,
-    /// The level of the log.
-    pub log: LogLevel,
-    /// The time at the start of its lines.
-    pub time: LogTime,
-    /// The state that is expected at the end.
-    pub expected: Option<Expected>,
-    /// Whether an end that has lost its connection is opened again.
-    pub keep: bool,
-    /// The form and times of counts on standard error, if they are printed.
-    pub counts: Option<CountsRequest>,
-}
-
 /// Runs `il`, `fe` or `pair` for its turns, or until standard input ends, over the sockets that the text of a
-/// settings file names; `file` is its name in faults. It prints each telegram that an end takes, and at last the state of each end. The log goes
+/// settings file names. It prints each telegram that an end takes, and at last the state of each end. The log goes
 /// to `err`.
 ///
 /// A text that is not a settings file is `fault: settings`, followed by its faults. The same holds for a text of
@@ -70,8 +51,7 @@ pub struct Run {
 pub fn run_net<R: Net + Clock + Input + Files, O: Write, E: Write>(
     rt: &R,
     alloc: Global,
-    run: &Run,
-    file: &str,
+    run: &RunRequest<'_>,
     text: &str,
     out: &mut O,
     err: &mut E,
@@ -85,11 +65,11 @@ pub fn run_net<R: Net + Clock + Input + Files, O: Write, E: Write>(
     // If no state is expected, `run_net` does not return `Unexpected`.
     ensures expected { run.now.expected ≡ None → result ≢ Status.Unexpected }
 {
-    let ends = match read_ends(alloc, run.word, file, text, err) {
+    let ends = match read_ends(alloc, run.word, run.file, text, err) {
         Ok(ends) => ends,
         Err(status) => return status,
     };
-    match run_streamed(rt, alloc, &ends, run, file, out, err) {
+    match run_streamed(rt, alloc, &ends, run, out, err) {
         Ok(status) => status,
         Err(fault) => report(err, fault),
     }
@@ -100,8 +80,7 @@ fn run_streamed<R: Net + Clock + Input + Files, O: Write, E: Write>(
     rt: &R,
     alloc: Global,
     ends: &Ends,
-    run: &Run,
-    file: &str,
+    run: &RunRequest<'_>,
     out: &mut O,
     err: &mut E,
 ) -> Result<Status, Fault>
@@ -111,7 +90,7 @@ fn run_streamed<R: Net + Clock + Input + Files, O: Write, E: Write>(
     ensures expected { run.now.expected ≡ None → IfOk result (λ status. status ≢ Status.Unexpected) }
 {
     let mut streams = Streams::open(alloc, rt, patience(ends), &mut *out, &mut *err)?;
-    Ok(run_over(rt, alloc, ends, run, file, &mut streams))
+    Ok(run_over(rt, alloc, ends, run, &mut streams))
 }
 
 /// Runs ends over these streams, and writes what is left of them.
@@ -119,8 +98,7 @@ fn run_over<R: Net + Clock + Input + Files, O: Write, E: Write>(
     rt: &R,
     alloc: Global,
     ends: &Ends,
-    run: &Run,
-    file: &str,
+    run: &RunRequest<'_>,
     streams: &mut Streams<O, E>,
 ) -> Status
     // `run_over` never returns `WrongWords`.
@@ -132,7 +110,7 @@ fn run_over<R: Net + Clock + Input + Files, O: Write, E: Write>(
         Ok(outcome) => run_status(outcome),
         Err(stopped) => {
             streams.give_up(stopped.fault());
-            stop(stopped, ends, file, &mut streams.err)
+            stop(stopped, ends, run.file, &mut streams.err)
         }
     };
     streams.log_rest();
@@ -156,7 +134,7 @@ fn run_ends<R: Net + Clock + Input + Files, O: Write, E: Write>(
     rt: &R,
     alloc: Global,
     ends: &Ends,
-    run: &Run,
+    run: &RunRequest<'_>,
     streams: &mut Streams<O, E>,
 ) -> Result<Outcome, StopCause>
     // If no state is expected, each end was in it when `run_ends` succeeds.
@@ -194,7 +172,7 @@ fn run_sides<R: Net + Clock + Input + Files, O: Write, E: Write>(
     side: Side,
     first: &Settings,
     second: Option<&Settings>,
-    run: &Run,
+    run: &RunRequest<'_>,
     streams: &mut Streams<O, E>,
 ) -> Result<Outcome, StopCause>
     // If no state is expected, each end was in it when `run_sides` succeeds.
@@ -248,7 +226,7 @@ fn open_second<'a, R: Net + Clock + Files, E: Write>(
     alloc: Global,
     watch: &Watch,
     second: Option<&'a Settings>,
-    run: &Run,
+    run: &RunRequest<'_>,
     now: Milliseconds,
     err: &mut E,
 ) -> Result<Option<Actor<'a, UdpChannels>>, StopCause>
@@ -277,7 +255,7 @@ fn open_side<'a, R: Net + Clock + Files, E: Write>(
     watch: &Watch,
     side: Side,
     settings: &'a Settings,
-    run: &Run,
+    run: &RunRequest<'_>,
     now: Milliseconds,
     err: &mut E,
 ) -> Result<Actor<'a, UdpChannels>, StopCause>
@@ -331,7 +309,7 @@ fn open_end<'a, D: Draw>(
     channels: UdpChannels,
     side: Side,
     settings: &'a Settings,
-    run: &Run,
+    run: &RunRequest<'_>,
     now: Milliseconds,
 ) -> Result<Actor<'a, UdpChannels>, Fault>
     requires { now ≤ TIME_MAX }
@@ -349,6 +327,7 @@ fn open_end<'a, D: Draw>(
         × (actor.keeper.opened ≡ now)) }
     // The log and the counts of the end that `open_end` returns are those of the run, with T_max of the file.
     ensures outputs { IfOk result (λ actor. (actor.log.side ≡ side) × (actor.log.level ≡ run.now.log) × (actor.log.time ≡ run.now.time)
+        × (actor.log.stamps ≡ run.now.stamp)
         × (actor.log.t_max ≡ settings.now.config.t_max) × (actor.teller.side ≡ side)
         × (actor.teller.telling ≡ run.now.counts) × (actor.teller.t_max ≡ settings.now.config.t_max)
         × (actor.teller.count ≡ length settings.now.local.items)) }
@@ -364,7 +343,7 @@ fn open_end<'a, D: Draw>(
     let Ok(recorded) = RecordedChannels::over(alloc, channels, listens, wanted) else {
         return Err(Fault::Memory);
     };
-    let log = Log::new(side, run.log, run.time, settings, now);
+    let log = Log::new(side, run.log, run.time, run.stamp, settings, now);
     let first_sn = first_number(source, settings.first_sn)?;
     match End::open(alloc, recorded, settings.config, side, first_sn, now) {
         Ok(end) => Ok(Actor::new(

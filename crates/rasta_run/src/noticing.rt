@@ -30,6 +30,8 @@ pub enum Notice {
     Drops(u64),
     /// A connection request came at an interlocking.
     WrongRequest,
+    /// The peer has this version of RaSTA, another one: its four bytes, as a little-endian number.
+    OtherVersion(u32),
     /// The connection is lost, and this many telegrams were put and not confirmed.
     InDoubt(u64),
     /// The end took no turn for this many milliseconds.
@@ -93,6 +95,7 @@ fn write_what<W: Write>(writer: &mut W, notice: Notice) -> io::Result<()>
             writer,
             "a connection request came, which only an interlocking makes: the peer is one, too",
         ),
+        Notice::OtherVersion(version) => write_other_version(writer, version),
         Notice::InDoubt(count) => write_in_doubt(writer, count),
         Notice::NoTurn(milliseconds) => write_no_turn(writer, milliseconds),
         Notice::Fruitless(count) => write_fruitless(writer, count),
@@ -207,6 +210,30 @@ fn write_drops<W: Write>(writer: &mut W, count: u64) -> io::Result<()>
     )
 }
 
+/// Writes that the peer has another version of RaSTA.
+#[tactic(auto, unfolding(crate::specs::Noticing::other_version_text))]
+fn write_other_version<W: Write>(writer: &mut W, version: u32) -> io::Result<()>
+    // If `write_other_version` succeeds, it has appended the version of the peer and that of this end.
+    ensures { OnOk result (Appends (W.contents writer.old) (W.contents writer.new) (noticing.other_version_text version)) }
+{
+    write_text(writer, "the peer has another version of RaSTA: ")?;
+    writer.write_all(&bytes_of(version))?;
+    write_text(writer, ", not 0303")
+}
+
+/// Returns the four bytes of a version, from its little-endian number.
+fn bytes_of(version: u32) -> [u8; 4]
+    // `bytes_of` returns the four bytes of the number, the least significant byte first.
+    ensures { result ≡ noticing.version_bytes version }
+{
+    [
+        (version / 1 % 256) as u8,
+        (version / 256 % 256) as u8,
+        (version / 65_536 % 256) as u8,
+        (version / 16_777_216 % 256) as u8,
+    ]
+}
+
 /// Writes how many telegrams are in doubt.
 #[tactic(auto, unfolding(crate::specs::Noticing::in_doubt_text))]
 fn write_in_doubt<W: Write>(writer: &mut W, count: u64) -> io::Result<()>
@@ -294,6 +321,18 @@ pub fn wrong_request_notice(is_first: bool) -> Option<Notice>
     match is_first {
         true => Some(Notice::WrongRequest),
         false => None,
+    }
+}
+
+/// Returns the notice of a version of the peer for which the end disconnected, if one was found that was not `told`.
+pub fn version_notice(told: Option<u32>, found: Option<u32>) -> Option<Notice>
+    // `version_notice` returns the version found, unless it is the one that was told, and else `None`.
+    ensures { result ≡ telling.version_notice told found }
+{
+    match (told, found) {
+        (_, None) => None,
+        (Some(told), Some(found)) if told == found => None,
+        (_, Some(found)) => Some(Notice::OtherVersion(found)),
     }
 }
 

@@ -4,7 +4,9 @@ ghost use Rattle.std.specs.Prelude.{◌≡◌, ℕ, Bool, List, false, OnOk};
 ghost use Rattle.std.specs.Io.KnownBytes.{Appends};
 ghost use Rattle.pdu_text.specs.Reports.{take_line};
 ghost use Rattle.rasta_run.specs.Printing.{Prints, PrintsRefusal};
+ghost use Rattle.rasta_run.specs.Stamping.{StampsTake};
 
+use crate::stamping::{Stamp, write_with_time};
 use arrayvec::ArrayVec;
 use end_settings::Side;
 use pdi_session::Taker;
@@ -44,6 +46,8 @@ pub trait Application: Taker {
 pub struct Printer<'a, W> {
     /// The end whose telegrams are printed.
     pub side: Side,
+    /// The time at the start of their lines, if they have one.
+    pub stamp: Option<Stamp>,
     /// Where they are printed.
     pub writer: &'a mut W,
     /// The number of telegrams taken.
@@ -54,12 +58,13 @@ pub struct Printer<'a, W> {
 
 impl<'a, W> Printer<'a, W> {
     /// Returns a printer that has printed nothing.
-    pub fn new(side: Side, writer: &'a mut W) -> Self
-        // A new printer is of this end, has counted no telegram and has not failed.
-        ensures { (result.side ≡ side) × (result.taken ≡ 0) × (result.failed ≡ false) }
+    pub fn new(side: Side, stamp: Option<Stamp>, writer: &'a mut W) -> Self
+        // A new printer is of this end, prints with this time, has counted no telegram and has not failed.
+        ensures { (result.side ≡ side) × (result.stamp ≡ stamp) × (result.taken ≡ 0) × (result.failed ≡ false) }
     {
         Printer {
             side,
+            stamp,
             writer,
             taken: 0,
             failed: false,
@@ -69,12 +74,12 @@ impl<'a, W> Printer<'a, W> {
 
 impl<W: Write> Taker for Printer<'_, W> {
     ghost takes = { λ p item q. (q.writer.ghost_name ≡ p.writer.ghost_name)
-        × Prints (record { side = p.side; taken = p.taken; failed = p.failed; text = W.contents p.writer.now }) item
-        (record { side = q.side; taken = q.taken; failed = q.failed; text = W.contents q.writer.now }) };
+        × Prints (record { side = p.side; stamp = p.stamp; taken = p.taken; failed = p.failed; text = W.contents p.writer.now }) item
+        (record { side = q.side; stamp = q.stamp; taken = q.taken; failed = q.failed; text = W.contents q.writer.now }) };
 
     fn take(&mut self, kind: u16, payload: &[u8]) {
         self.taken = self.taken.wrapping_add(1);
-        if print_take(self.writer, self.side, kind, payload).is_err() {
+        if print_take(self.writer, self.stamp, self.side, kind, payload).is_err() {
             self.failed = true;
         }
     }
@@ -82,8 +87,8 @@ impl<W: Write> Taker for Printer<'_, W> {
 
 impl<W: Write> Application for Printer<'_, W> {
     ghost refuses = { λ p name q. (q.writer.ghost_name ≡ p.writer.ghost_name)
-        × PrintsRefusal (record { side = p.side; taken = p.taken; failed = p.failed; text = W.contents p.writer.now }) name
-        (record { side = q.side; taken = q.taken; failed = q.failed; text = W.contents q.writer.now }) };
+        × PrintsRefusal (record { side = p.side; stamp = p.stamp; taken = p.taken; failed = p.failed; text = W.contents p.writer.now }) name
+        (record { side = q.side; stamp = q.stamp; taken = q.taken; failed = q.failed; text = W.contents q.writer.now }) };
 
     ghost has_lost = { λ p. p.failed };
 
@@ -99,12 +104,20 @@ impl<W: Write> Application for Printer<'_, W> {
     }
 }
 
-/// Prints the line of a telegram in one write.
-fn print_take<W: Write>(writer: &mut W, side: Side, kind: u16, payload: &[u8]) -> io::Result<()>
-    // If `print_take` succeeds, it has appended the line of the telegram.
-    ensures { OnOk result (Appends (W.contents writer.old) (W.contents writer.new) (take_line side kind payload.now)) }
+/// Prints the line of a telegram, after a time if there is one. Without a time it is one write.
+fn print_take<W: Write>(
+    writer: &mut W,
+    stamp: Option<Stamp>,
+    side: Side,
+    kind: u16,
+    payload: &[u8],
+) -> io::Result<()>
+    // If `print_take` succeeds, it has appended the line of the telegram, after the time that a line of the log has if
+    // there is one.
+    ensures { OnOk result ((written : List ℕ) × StampsTake stamp (take_line side kind payload.now) written
+        × Appends (W.contents writer.old) (W.contents writer.new) written) }
 {
     let mut line = ArrayVec::<u8, LINE_MAX>::new();
     write_take(&mut line, side, kind, payload)?;
-    writer.write_all(line.as_slice())
+    write_with_time(writer, stamp, line.as_slice())
 }

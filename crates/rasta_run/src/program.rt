@@ -6,13 +6,13 @@ ghost use Rattle.rasta_words.specs.CommandLine.{rasta_app};
 ghost use Rattle.rasta_run.specs.Checked.{HasCheckedSome};
 ghost use Rattle.rasta_run.specs.Done.{DoneAs};
 ghost use Rattle.rasta_run.specs.Refusal.{EndsBy};
-ghost use Rattle.rasta_run.specs.Starting.{path_to, run_under};
+ghost use Rattle.rasta_run.specs.Starting.{path_to};
 
 use crate::beside::run_beside;
 use crate::check::run_check;
 use crate::follow::run_follow;
 use crate::scripts::run_sim;
-use crate::{Run, SETTINGS_MAX, refuse_long, run_md4, run_net, run_show};
+use crate::{SETTINGS_MAX, refuse_long, run_md4, run_net, run_show};
 use clap::error::ErrorKind;
 use rasta_words::{Fault, FollowRequest, Request, RunRequest, Status, WordsFault, command, report};
 use std::alloc::{AllocError, Global};
@@ -128,10 +128,7 @@ fn run_file<R: AllocGlobal + Files + Net + Clock + Input, O: Write, E: Write>(
     err: &mut E,
 ) -> Status {
     match file_text(rt, running.file, err) {
-        Ok(text) => {
-            let run = run_under(running);
-            run_net(rt, rt.alloc(), &run, running.file, text.as_str(), out, err)
-        }
+        Ok(text) => run_net(rt, rt.alloc(), running, text.as_str(), out, err),
         Err(status) => status,
     }
 }
@@ -176,22 +173,6 @@ fn file_text<R: AllocGlobal + Files, E: Write>(
     }
 }
 
-/// Returns how ends run for this request.
-fn run_under(running: &RunRequest<'_>) -> Run
-    // `run_under` passes each choice of the request on.
-    ensures { result ≡ run_under running.now }
-{
-    Run {
-        word: running.word,
-        length: running.length,
-        log: running.log,
-        time: running.time,
-        expected: running.expected,
-        keep: running.keep,
-        counts: running.counts,
-    }
-}
-
 /// Reads a settings file; of one that is too long, one byte more than is allowed.
 fn file_octets<R: AllocGlobal + Files>(rt: &R, path: &str) -> io::Result<Vec<u8>> {
     let mut octets = Vec::new(rt.alloc());
@@ -212,7 +193,7 @@ fn refuse_file<E: Write>(path: &str, error: &io::Error, err: &mut E) -> Status
 }
 
 /// Prints the fault of a file, followed by its name and the reason.
-fn report_file<D: Display + Drop, E: Write>(path: &str, why: D, err: &mut E) -> Status
+pub(crate) fn report_file<D: Display + Drop, E: Write>(path: &str, why: D, err: &mut E) -> Status
     // `report_file` returns `Refused`, whatever the reason.
     ensures { result ≡ Status.Refused }
 {

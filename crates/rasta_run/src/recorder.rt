@@ -22,7 +22,7 @@ use octets::limits::CHANNELS_MAX;
 use pdu_text::{Cause, EndEvent};
 use red_layer::RedEvent;
 use safe_machine::{DropCause, Step};
-use safe_pdu::{Kind, SafeFault};
+use safe_pdu::{Kind, Reason, SafeFault};
 
 /// The greatest number of events that are kept. A turn receives at most 64 datagrams, and few of them make more
 /// than two events.
@@ -73,6 +73,8 @@ pub struct Recorder {
     came: (usize, Option<Header>),
     /// Whether a datagram with the type of a ConnReq came.
     pub has_request: bool,
+    /// The version of RaSTA in the last ConnReq or ConnResp for whose version the end disconnected.
+    pub version: Option<u32>,
     /// The last datagram with the type of a Data.
     pub last_data: ArrayVec<u8, DATAGRAM_MAX>,
     /// The events, each at the place of its number.
@@ -98,6 +100,8 @@ impl Recorder {
         ensures last_cause { result.last_cause ≡ None }
         // In a new recorder no ConnReq has come.
         ensures request { result.has_request ≡ false }
+        // In a new recorder no version of a peer was refused.
+        ensures version { result.version ≡ None }
     {
         Recorder {
             listens,
@@ -107,6 +111,7 @@ impl Recorder {
             last_cause: None,
             came: (0, None),
             has_request: false,
+            version: None,
             last_data: ArrayVec::new(),
             kept: [EndEvent::Asked; KEPT],
             happened: 0,
@@ -220,14 +225,29 @@ impl Recorder {
             ≡ counting.stepped_on step number self.old.came.0 self.old.came.1 self.old.channels }
         // A part that ended the connection or came after its end is counted, and no other.
         ensures closing { self.new.closing ≡ counting.closing_after step self.old.closing }
-        // `hear_step` also keeps that a part was dropped and why; it changes nothing else.
+        // `hear_step` also keeps that a part was dropped and why, and a version for which the end disconnected; it changes
+        // nothing else.
         ensures kept { self.new ≡ recording.after_step number step self.old }
     {
         match step {
             Step::Dropped(cause) => self.hear_dropped(number, cause),
-            Step::Left(_, _) | Step::Nothing => self.closing = self.closing.wrapping_add(1),
+            Step::Left(reason, _) => self.hear_left(number, reason),
+            Step::Nothing => self.closing = self.closing.wrapping_add(1),
             Step::Taken | Step::Gap => {}
         }
+    }
+
+    /// Records that the end disconnected because of a part.
+    fn hear_left(&mut self, number: u32, reason: Reason)
+        // `hear_left` counts the part, and keeps its version if that is the reason; it changes nothing else.
+        ensures { self.new ≡ record self.old {
+          closing = counting.one_more self.old.closing;
+          version = recording.version_after reason (recording.header_under number self.old.came.1) self.old.version;
+        } }
+    {
+        let (_, header) = under(self.came, number);
+        self.closing = self.closing.wrapping_add(1);
+        self.version = version_after(reason, header, self.version);
     }
 
     /// Records a part that was dropped. If it is not that of the last datagram, it was deferred, and its channel
@@ -328,6 +348,19 @@ fn under(came: (usize, Option<Header>), number: u32) -> (usize, Option<Header>)
     match came {
         (channel, Some(header)) if header.number == number => (channel, Some(header)),
         _ => (0, None),
+    }
+}
+
+/// Returns the version for which the end last disconnected, after it disconnected for this reason because of a part
+/// with this header.
+fn version_after(reason: Reason, header: Option<Header>, before: Option<u32>) -> Option<u32>
+    // `version_after` returns the version in the header if that is the reason and the header is known, and else what was
+    // `before`.
+    ensures { result ≡ recording.version_after reason header before }
+{
+    match (reason, header) {
+        (Reason::WrongVersion, Some(header)) => header.version,
+        _ => before,
     }
 }
 

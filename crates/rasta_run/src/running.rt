@@ -14,7 +14,7 @@ ghost use Rattle.stack_end.specs.EndValue.{channels_of, statistics_of};
 use crate::drawing::Random;
 use crate::input::Feed;
 use crate::metrics::{Samples, write_block};
-use crate::net::{Run, unless_unread};
+use crate::net::unless_unread;
 use crate::printing::Printer;
 use crate::streams::Streams;
 use crate::ticking::RunClock;
@@ -22,7 +22,7 @@ use crate::turns::Actor;
 use crate::undone::{Outcome, Undone};
 use crate::waiting::{earlier, take_rest};
 use octets::Milliseconds;
-use rasta_words::{Fault, RunLength};
+use rasta_words::{Fault, RunLength, RunRequest};
 use std::alloc::Global;
 use std::io;
 use std::io::{Input, Read, Write};
@@ -201,7 +201,8 @@ impl Runner<'_> {
         // `put_lines` does not change the second end.
         ensures kept { self.new ≡ record self.old { first = self.new.first } }
     {
-        let mut printer = Printer::new(self.first.side, out);
+        let stamp = self.first.log.stamp(now);
+        let mut printer = Printer::new(self.first.side, stamp, out);
         self.first.put_lines(alloc, feed, now, &mut printer, err)
     }
 
@@ -318,7 +319,7 @@ impl Runner<'_> {
     /// - `Output` if a line cannot be printed.
     pub fn finish<O: Write, E: Write>(
         &mut self,
-        run: &Run,
+        run: &RunRequest<'_>,
         lines: u64,
         now: Milliseconds,
         streams: &mut Streams<O, E>,
@@ -430,7 +431,8 @@ fn turn_of<O: Write, E: Write>(
     // After `turn_of` the calls that failed so far are noted.
     ensures noted { actor.new.failures ≡ all_failures (channels_of actor.new.end).inner.channels }
 {
-    let mut printer = Printer::new(actor.side, out);
+    let stamp = actor.log.stamp(now);
+    let mut printer = Printer::new(actor.side, stamp, out);
     let ran = actor.turn(now, &mut printer, err);
     actor.note_taken(printer.taken);
     actor.note_failures();
@@ -493,7 +495,7 @@ fn undone_of(second: &Option<Actor<'_, UdpChannels>>) -> Undone
 }
 
 /// Returns whether the second end is in the expected state, if there is one.
-fn is_met(second: &Option<Actor<'_, UdpChannels>>, run: &Run, undone: Undone) -> bool
+fn is_met(second: &Option<Actor<'_, UdpChannels>>, run: &RunRequest<'_>, undone: Undone) -> bool
     // `is_met` is true without a second end, and else if that is in the expected state.
     ensures met { IfSome second.now (λ a. undone ≡ acting.left_by a 0) → result ≡ acting.is_second_as_expected run.now.expected second.now }
     // If no state is expected, `is_met` returns true.

@@ -5,9 +5,10 @@ ghost use Rattle.std.specs.List.{position};
 ghost use Rattle.std.specs.Io.KnownBytes.{Appends};
 ghost use Rattle.pdu_text.specs.Pieces.{three_digits};
 ghost use Rattle.rasta_run.specs.Calendar.{years_most};
-ghost use Rattle.rasta_run.specs.Stamping.{Stamps, StampsUtc, after_time, clock_text, date_text, four_digits, from_place, pair_text, two_digits, utc_text};
+ghost use Rattle.rasta_run.specs.Stamping.{Stamps, StampsTake, StampsUtc, after_time, clock_text, date_text, four_digits, from_place, pair_text, run_text, two_digits, utc_text};
 
 use crate::calendar::{Date, date_of};
+use arrayvec::ArrayVec;
 use octets::Milliseconds;
 use pdu_text::write_text;
 use rasta_words::LogTime;
@@ -20,6 +21,66 @@ const DAY: u64 = 86_400_000;
 
 /// The byte after the time of a line.
 const BLANK: u8 = 32;
+
+/// The room for a line of a telegram with a time before it, in bytes: 729 of the line, and at most 25 of the time.
+type TimedLine = ArrayVec<u8, 768>;
+
+/// The time for the lines of telegrams.
+#[derive(Clone, Copy, Debug, PartialEq, Eq)]
+pub struct Stamp {
+    /// Which time the lines have.
+    pub time: LogTime,
+    /// That time in UTC, in milliseconds since 1970.
+    pub at: Milliseconds,
+    /// That time of the run, in milliseconds.
+    pub now: Milliseconds,
+}
+
+/// Writes a line with a time before it, if there is one.
+///
+/// # Errors
+///
+/// - The error of the writer; what it wrote before stays written.
+pub fn write_with_time<W: Write>(
+    writer: &mut W,
+    stamp: Option<Stamp>,
+    line: &[u8],
+) -> io::Result<()>
+    // If `write_with_time` succeeds, it has appended the line as it is, or after the time that a line of the log has.
+    ensures { OnOk result ((written : List ℕ) × StampsTake stamp line.now written
+        × Appends (W.contents writer.old) (W.contents writer.new) written) }
+{
+    match stamp {
+        None => writer.write_all(line),
+        Some(stamp) => {
+            let mut timed = TimedLine::new();
+            write_after_time(&mut timed, stamp.now, line)?;
+            write_stamped(writer, stamp.time, stamp.at, timed.as_slice())
+        }
+    }
+}
+
+/// Writes a line after a time of the run.
+fn write_after_time<W: Write>(writer: &mut W, now: Milliseconds, line: &[u8]) -> io::Result<()>
+    // If `write_after_time` succeeds, it has appended the time of the run, a blank and the line.
+    ensures { OnOk result (Appends (W.contents writer.old) (W.contents writer.new) (run_text now ++ line.now)) }
+{
+    write_run_time(writer, now)?;
+    writer.write_all(line)
+}
+
+/// Writes a time of the run, and a blank.
+#[tactic(auto, unfolding(crate::specs::Stamping::run_text))]
+fn write_run_time<W: Write>(writer: &mut W, now: Milliseconds) -> io::Result<()>
+    // If `write_run_time` succeeds, it has appended the whole seconds, a point, three digits of milliseconds, and a blank.
+    ensures { OnOk result (Appends (W.contents writer.old) (W.contents writer.new) (run_text now)) }
+{
+    let seconds = now / 1_000;
+    write!(writer, "{seconds}.")?;
+    let digits = spell(now % 1_000);
+    writer.write_all(&digits)?;
+    write_text(writer, " ")
+}
 
 /// Writes a line that begins with the time of the run, with the time that the log has: `at` is that time in UTC, in
 /// milliseconds since 1970.

@@ -187,6 +187,7 @@ impl<'a, C: Channels, A: Allocator + Copy> Actor<'a, C, A> {
         self.log.look_at_calls(&counted, now, err);
         let _ = self.log.look_at_request(self.end.state(), now, err);
         let _ = self.log.look_for_request(recorder.has_request, now, err);
+        let _ = self.log.look_for_version(recorder.version, now, err);
         let _ = self.log.tell_drops(now, err);
     }
 

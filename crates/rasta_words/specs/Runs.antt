@@ -26,16 +26,16 @@ ends_word Il = codes "il"
 ends_word Fe = codes "fe"
 ends_word Pair = codes "pair"
 
--- The command is il FILE (--turns N | --until-end) [--log off|state|all] [--time utc|run] [--expect up|settled] [--keep]
--- [--stats text|json|prometheus [--every N]]; fe and pair have the same.
+-- The command is il FILE (--turns N | --until-end) [--log off|state|all] [--time utc|run] [--stamp] [--expect up|settled]
+-- [--keep] [--stats text|json|prometheus [--every N]]; fe and pair have the same.
 
 -- the command with `--turns` and the flag `--until-end`
 abbrev pub with_length : App → App
 with_length app = with_flag (with_option app (codes "turns")) (codes "until-end")
 
--- the command with `--log` and `--time`
+-- the command with `--log`, `--time` and the flag `--stamp`
 abbrev pub with_log : App → App
-with_log app = with_option (with_option app (codes "log")) (codes "time")
+with_log app = with_flag (with_option (with_option app (codes "log")) (codes "time")) (codes "stamp")
 
 -- the command with `--expect` and the flag `--keep`
 abbrev pub with_expected : App → App
@@ -122,7 +122,7 @@ IsRun rows r =
     (first_of (codes "file") rows ≡ Some r.file.now)
     × IsLengthChosen (first_of (codes "turns") rows) (is_flagged (first_of (codes "until-end") rows)) r.length
     × IsLogChosen (first_of (codes "log") rows) r.log × IsTimeChosen (first_of (codes "time") rows) r.time
-    × IsEndChosen (first_of (codes "expect") rows) r.expected × (is_flagged (first_of (codes "keep") rows) ≡ r.keep)
+    × (is_flagged (first_of (codes "stamp") rows) ≡ r.stamp) × IsEndChosen (first_of (codes "expect") rows) r.expected × (is_flagged (first_of (codes "keep") rows) ≡ r.keep)
     × AreCountsChosen (first_of (codes "stats") rows) (first_of (codes "every") rows) r.counts
 
 -- no run has the values of these entries

@@ -67,6 +67,8 @@ pub struct RunRequest<'a> {
     pub log: LogLevel,
     /// `--time`: the times of the log; `Utc` by default.
     pub time: LogTime,
+    /// `--stamp`: the lines of telegrams taken begin with that time.
+    pub stamp: bool,
     /// `--expect`: the state in which each end must be when the run is over.
     pub expected: Option<Expected>,
     /// `--keep`: an end that has lost its connection is opened again.

@@ -55,11 +55,11 @@ fn with_length<'a>(alloc: Global, command: Command<'a>) -> Result<Command<'a>, A
     )
 }
 
-/// Adds `--log` and `--time`.
+/// Adds `--log`, `--time` and `--stamp`.
 #[inline(never)]
 fn with_log<'a>(alloc: Global, command: Command<'a>) -> Result<Command<'a>, AllocError>
     requires { (fields_of command).has_globals ≡ false }
-    // The command that `with_log` returns has `--log` and `--time` after its other arguments.
+    // The command that `with_log` returns has `--log`, `--time` and `--stamp` after its other arguments.
     ensures app { IfOk result (λ made. app_of made ≡ spec.with_log (app_of command.entry)) }
     // No argument of the command that `with_log` returns is global.
     ensures local { IfOk result (λ made. (fields_of made).has_globals ≡ false) }
@@ -70,11 +70,17 @@ fn with_log<'a>(alloc: Global, command: Command<'a>) -> Result<Command<'a>, Allo
         "log",
         "Log to standard error: off, state (changes of state and the reason of the last one) or all (dropped datagrams too) [default: off]",
     )?;
-    with_option(
+    let command = with_option(
         alloc,
         command,
         "time",
         "Times of the log: utc, or run (milliseconds since the start of the run) [default: utc]",
+    )?;
+    with_flag(
+        alloc,
+        command,
+        "stamp",
+        "Begin each line of a telegram taken with a time as in the log [default: no time]",
     )
 }
 

@@ -45,6 +45,7 @@ pub fn ends_run<'a>(
         length,
         log,
         time,
+        stamp: is_chosen(entry(entries, "stamp")),
         expected,
         keep: is_chosen(entry(entries, "keep")),
         counts,
