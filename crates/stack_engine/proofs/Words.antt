@@ -95,7 +95,7 @@ pub use Rattle.stack_end.specs.Datagrams.{on_channels, sendings, sent_at_opening
 pub use Rattle.stack_end.specs.Dialogue.{Dialogue, Judged, Leaving, if_ended, judge_messages, judge_read, judge_units, judge_unpacked, judged_as, judged_none}
 pub use Rattle.stack_end.specs.Dialogue.{process_event, phase_in, session_in, unless_leaving}
 pub use Rattle.stack_end.specs.EndValue.{EndStands, EndTurns, EndTurnsAlone, EndValue, channels_of, inside}
-pub use Rattle.stack_end.proofs.Effects.{answered, did, goes_on, handed_up, heard, leaves, moved, moved as end_moved, packed, packed_up_to, put_done, put_in}
+pub use Rattle.stack_end.proofs.Effects.{answered, did, goes_on, handed_up, heard, leaves, moved, packed, packed_up_to, put_done, put_in as put_into}
 pub use Rattle.stack_end.proofs.Effects.{sends, settle, with_machine, with_session}
 pub use Rattle.stack_end.proofs.Following.{closed-is as closed-step-is, finished-is, guarded-is, may-pack, not-pack, packed-is, part-is, queued-is}
 pub use Rattle.stack_end.proofs.Following.{ticked-is}

@@ -4,21 +4,21 @@ use Rattle.stack_engine.proofs.Words.{[], after, after_read, after_release, afte
 use Rattle.stack_engine.proofs.Words.{arith, arrival, arrive_octets, Arrives, AtOpened, Bool, by_cond, Call, call, call_fe, call_il, Calls, change_world, Close}
 use Rattle.stack_engine.proofs.Words.{ClosedByUser, code_octets, CodeLength, CodeRule, comes_up, Completes, cond, connection_of, Data, Datagram, defer}
 use Rattle.stack_engine.proofs.Words.{Deliver, Detail, Dialogue, did, drop, drop-append_seam, Eight, ends_of, EndSettings, EndState, Err, Event, false, Fe}
-use Rattle.stack_engine.proofs.Words.{FewFirstLaw, FewLaw, FewMade, FewMore, FewMoreLaw, follow, goes_on, GoesUp, guard, Guards, handed_up, apply_event, HaveTexts}
-use Rattle.stack_engine.proofs.Words.{heard, heard_as, Hears, Il, InitDone, inl, Input, inr, is_due, is_nil, is_shut, IsRead, IsSmallItem, IsSmallPdu}
+use Rattle.stack_engine.proofs.Words.{FewFirstLaw, FewLaw, FewMade, FewMore, FewMoreLaw, follow, goes_on, GoesUp, Guards, handed_up, apply_event, HaveTexts}
+use Rattle.stack_engine.proofs.Words.{heard, heard_as, Hears, Il, InitDone, inl, Input, inr, is_due, is_shut, IsRead, IsSmallItem, IsSmallPdu}
 use Rattle.stack_engine.proofs.Words.{IsTakenBy, IsTyped, Item, JoinedEnd, judge_messages, judge_read, judge_units, judge_unpacked, Judged, judge_telegram, latest}
 use Rattle.stack_engine.proofs.Words.{least_waiting, leave, Leaves, leaves, Leaving, length, length-append, length-drop, List, Made, make, may_send, process_event}
 use Rattle.stack_engine.proofs.Words.{MESSAGE_MAX, MESSAGE_MIN, most_pdus, Move, move, moved, MovesLaw, nat_tests, new_end, next_made, None, Ok, Open, Option}
-use Rattle.stack_engine.proofs.Words.{packed, packed_up_to, PackFault, Part, part, parts, parts_passed, PAYLOAD_MAX, pieces_seen, present, Put, put_in, Puts}
+use Rattle.stack_engine.proofs.Words.{packed, packed_up_to, PackFault, Part, part, parts, parts_passed, PAYLOAD_MAX, pieces_seen, present, Put, put_in, put_into, Puts}
 use Rattle.stack_engine.proofs.Words.{QueueLaw, read_named, Reason, Receiver, receives, RedFault, RedTick, refl, refusal, parts_due, Result, rises, rule_of, run}
 use Rattle.stack_engine.proofs.Words.{run_from, seen_by, Sends, sends, SessionEvent, settle, Side, Sixteen, Some, start, State, ReceiverStep, subst, suc, sym, take}
-use Rattle.stack_engine.proofs.Words.{taken_as, taken_by, Takes, Tele, tele_seen, TeleFault, Tick, tick, Ticks, time_of, true, unconfirmed, unit_seen}
+use Rattle.stack_engine.proofs.Words.{taken_as, taken_by, Takes, Tele, tele_seen, TeleFault, Tick, Ticks, time_of, true, unconfirmed, unit_seen}
 use Rattle.stack_engine.proofs.Words.{unit_text, unless_leaving, Unspecified, Verdict, with_input, with_machine, with_session, World, Zero, zero, ℕ, ◌*◌, ◌++◌}
 use Rattle.stack_engine.proofs.Words.{◌+◌, ◌∙◌, ◌∷◌, ◌≡◌, ◌≤◌}
 use Rattle.stack_engine.proofs.Words.{can_pack, closed-step-is, fields_kept, finished-is, guarded, guarded-is, may-pack, packed-is, packs, part-is, put_done, queued-is, step, ticked, ticked-is}
 use Rattle.red_layer.specs.Redundancy.{step_decoded as red_heard}
 use Rattle.stack_engine.proofs.one.Heeding.{legal-role, machined-texts, OctetPart, OctetsUp, read-heard, red-keeps, Whole, whole-keeps}
-use Rattle.stack_engine.proofs.one.Speaking.{all-append, call-keeps, goes-of, IsTypedCall, IsTypedInput, keep-part, keep-settle, Keeps, Laws, leaves-same}
+use Rattle.stack_engine.proofs.one.Speaking.{all-append, call-keeps, goes-of, IsTypedCall, IsTypedInput, keep-part, Keeps, Laws, leaves-same, keep-guarded, keep-ticked}
 use Rattle.stack_engine.proofs.one.Speaking.{legal-of, limits-of}
 use Rattle.stack_engine.proofs.two.Mapping.{octets-call}
 use Rattle.stack_engine.proofs.two.Worlds.{new-whole, opens, typed-call, unless}
@@ -374,7 +374,7 @@ grows-call laws side (Close now) x t h =
     (grows-moved laws side now (Leaves ClosedByUser Unspecified now) x tt h)))
 grows-call laws side (Put kind payload now) x t h =
     subst (λ (y : EndState). Grows 401 27 x (record (sends now y) { time = now })) (sym (queued-is kind payload x))
-    (grows-time 401 27 now x (sends now (put_in kind payload x))
+    (grows-time 401 27 now x (sends now (put_into kind payload x))
     (grows-meets laws side now (Puts kind payload (length x.session.waiting)) x refl ((sized-keeps laws side now).puts kind payload x t h)))
 grows-call laws side (InitDone now) x t h =
     subst (λ (y : EndState). Grows 401 27 x (record (sends now y) { time = now })) (sym (finished-is x))

@@ -1,20 +1,20 @@
 -- Over every faithful list of crossed ends the machines receive each other's PDUs in order.
 use Rattle.stack_engine.proofs.Words.{[], after_along, AllByRecursion, AllFaithful, answered, ap, append-nil, append_assoc, AreFrom, AreTyped, arith, arrivals}
 use Rattle.stack_engine.proofs.Words.{arrivals_of, arrive_octets, AtCall, AtOpened, Bool, Call, call, call_fe, call_il, call_refusal, Calls, Carries, change_world}
-use Rattle.stack_engine.proofs.Words.{Close, ClosedByUser, Closes, CodeRule, Completes, cond, Crossed, Datagram, Deliver, drop, end_moved, ends_of, EndSettings}
+use Rattle.stack_engine.proofs.Words.{Close, ClosedByUser, Closes, CodeRule, Completes, cond, Crossed, Datagram, Deliver, drop, ends_of, EndSettings}
 use Rattle.stack_engine.proofs.Words.{EndState, Event, EventsLaw, FaithfulCall, FaithfulEvent, false, Fe, Genuine, GenuineCall, GenuineEvent, goes_on, guard}
 use Rattle.stack_engine.proofs.Words.{GuardHolds, Guards, handed_up, apply_event, HaveTexts, heard_as, IdentifiedLaw, Il, InitDone, inl, Input, inr, is_shut}
 use Rattle.stack_engine.proofs.Words.{IsGenuine, IsNear, IsTyped, JoinedEnd, judge_units, last_time, latest, leave, Leaves, leaves, Leaving, length, List, Made}
 use Rattle.stack_engine.proofs.Words.{made_of, process_event, Move, move, MovesLaw, nat_tests, new_end, no_wait, NoDeadlineFalls, None, OfBoth, Open, OpenMachine}
 use Rattle.stack_engine.proofs.Words.{Option, packed, Part, parts_passed_along, parts_passed, Put, Puts, QNear, receives, red_opened, RedTick, refl, refusal, rule_of}
-use Rattle.stack_engine.proofs.Words.{run, safe_seen, safe_text, SafeText, SameRule, seen_by, Sends, sends, Settings, settle, Side, Some, start, State, subst}
+use Rattle.stack_engine.proofs.Words.{run, safe_seen, safe_text, SafeText, SameRule, seen_by, Sends, sends, Settings, Side, Some, start, State, subst}
 use Rattle.stack_engine.proofs.Words.{suc, sym, Tick, tick, Ticks, time_of, true, Unspecified, upper_of, with_input, with_joined, with_machine, with_session}
 use Rattle.stack_engine.proofs.Words.{World, zero, ℕ, ⊎_elim, ◌++◌, ◌∙◌, ◌∷◌, ◌≡◌, ◌≢◌, ◌≤◌, ◌⊎◌}
 use Rattle.stack_engine.proofs.Words.{guarded, ticked}
 use Rattle.stack_engine.proofs.faithful.Ordering.{arrivals-push, bear-nth, Carry, IsNth, Left, near-front, Next, Numbered, ord-deliver, ord-done, ord-put}
 use Rattle.stack_engine.proofs.faithful.Ordering.{ord-tick, OrdEnd, Ordered, ordered, peer_dead, peer_made, red-numbered, timely-front, WasOpened}
 use Rattle.stack_engine.proofs.one.Heeding.{FailsAt, Machined, machined-texts, Whole}
-use Rattle.stack_engine.proofs.one.Speaking.{all-append, all-map, any-parts, AnyPart, call-keeps, came, IsTypedCall, keep-packed, keep-parts, keep-settle}
+use Rattle.stack_engine.proofs.one.Speaking.{all-append, all-map, any-parts, AnyPart, call-keeps, came, IsTypedCall, keep-packed, keep-parts}
 use Rattle.stack_engine.proofs.one.Speaking.{Keeps, Laws, legal-of, Steady, steady-goes}
 use Rattle.stack_engine.proofs.two.Mapping.{both-call, Comes, own-same, peer-same, TextsOf}
 use Rattle.stack_engine.proofs.two.Pairing.{Paired, paired-event, PairedWorld}

@@ -1,16 +1,16 @@
 -- Machines that receive each other's PDUs in order, and an end during a call in which it does.
 use Rattle.stack_engine.proofs.Words.{[], after, after_along, all_heard_by_fe, all_heard_by_il, AllByRecursion, answered, ap, append-nil, append_assoc, AreFrom}
 use Rattle.stack_engine.proofs.Words.{arith, arrivals, arrivals_of, Arrive, arrive_octets, AtCall, AtInput, AtParts, Bool, by_cond, by_test, Call, call, Closes}
-use Rattle.stack_engine.proofs.Words.{CodeRule, Completes, cond, connection_of, Datagram, Deliver, did, drop, end_moved, EndSettings, EndState, eqb-true}
+use Rattle.stack_engine.proofs.Words.{CodeRule, cond, connection_of, Datagram, Deliver, did, drop, EndSettings, EndState, eqb-true}
 use Rattle.stack_engine.proofs.Words.{EventsLaw, false, Fe, first_missing, first_parts, FirstMissingLaw, goes_on, Guard, guard, GuardHolds, Guards, handed_up}
 use Rattle.stack_engine.proofs.Words.{has_close, has_number, heard, heard_as, heard_by_fe, heard_by_il, Hears, Il, InitDone, inl, InOrder, InOrderEvent, Input}
-use Rattle.stack_engine.proofs.Words.{inr, is_close, is_nil, is_shut, is_stranger, judge_units, Leaves, leaves, Leaving, length, length-append, List, Made}
-use Rattle.stack_engine.proofs.Words.{made_of, Masking, may_send, process_event, Move, move, nat_tests, NextArrival, no_wait, NoDeadlineFalls, None, Ok, OneMoreLaw}
-use Rattle.stack_engine.proofs.Words.{Option, packed, packed_up_to, Part, part, part_under, parts, parts_passed_along, parts_passed, Put, Puts, QNear, receives}
+use Rattle.stack_engine.proofs.Words.{inr, is_close, is_shut, is_stranger, judge_units, Leaves, leaves, Leaving, length, length-append, List, Made}
+use Rattle.stack_engine.proofs.Words.{made_of, Masking, process_event, Move, move, nat_tests, NextArrival, no_wait, NoDeadlineFalls, None, Ok, OneMoreLaw}
+use Rattle.stack_engine.proofs.Words.{Option, packed, packed_up_to, Part, part, part_under, parts, parts_passed_along, parts_passed, Put, QNear, receives}
 use Rattle.stack_engine.proofs.Words.{red_opened, RedTick, refl, rule_of, safe_seen, seen_by, Send, Sends, sends, Settings, settle, Side, Some, State, subst}
 use Rattle.stack_engine.proofs.Words.{suc, sym, take, Tick, tick, Ticks, true, unit_text, unwrap_or, upper_of, Wait, wait_after, with_input, with_machine}
 use Rattle.stack_engine.proofs.Words.{with_session, zero, ℕ, ⊎_elim, ◌&&◌, ◌++◌, ◌+◌, ◌<◌, ◌==◌, ◌^◌, ◌||◌, ◌∙◌, ◌∷◌, ◌≡◌, ◌≢◌, ◌≤◌, ◌⊎◌}
-use Rattle.stack_engine.proofs.Words.{can_pack, fields_kept, finished-is, finishes, guarded, guarded-is, may-pack, packed-is, packs, part-is, put_done, put_in, queued-is, queues, step, ticked, ticked-is}
+use Rattle.stack_engine.proofs.Words.{can_pack, fields_kept, finished-is, finishes, guarded, guarded-is, may-pack, packed-is, packs, part-is, put_done, put_into, queued-is, queues, step, ticked, ticked-is}
 use Rattle.safe_machine.specs.World.Event.{Close, Tick as TickMachine}
 use Rattle.stack_engine.proofs.one.Heeding.{Fails, fails-more, fails-move, fates, OctetsUp, Whole, whole-keeps}
 use Rattle.stack_engine.proofs.one.Speaking.{IsTypedInput, Keeps, Laws}
@@ -437,7 +437,7 @@ module _ (laws : Laws) (side : Side) (m : M.World) (k : ℕ) (s : EndSettings) (
   ord-put kind payload ins x fits carry h =
       let y : EndState = step (queues kind payload) x in
       let queued : P ins (passed ins) y = subst (P ins (passed ins)) (sym (queued-is kind payload x))
-      (p-same ins (passed ins) x (put_in kind payload x) (kw.puts kind payload x fits h.whole) refl refl refl refl refl h) in
+      (p-same ins (passed ins) x (put_into kind payload x) (kw.puts kind payload x fits h.whole) refl refl refl refl refl h) in
       p-timed (sends now y)
       (record { ins = ins; carry = carry; there = p-packed ins (passed ins) (length y.session.waiting) y queued })
 

@@ -2,20 +2,20 @@
 use Rattle.stack_engine.proofs.Words.{[], added_by, Addressing, All-from_recursion, AllByRecursion, answered, ap, append-nil, append_assoc, are_fit, AreOctets}
 use Rattle.stack_engine.proofs.Words.{AreSettings, arith, arrive_octets, Arrives, AskedLaw, AtCall, AtInput, AtParts, new_history, BegunLaw, Bool, by_cond, by_test}
 use Rattle.stack_engine.proofs.Words.{Call, call, Close, Closed, ClosedByUser, Closes, code_octets, CodeLength, CodeRule, comes_up, Completes, cond}
-use Rattle.stack_engine.proofs.Words.{ConnectionsLaw, ConnectionState, Datagram, Deliver, Dialogue, did, drop, drop-append_seam, end_moved, EndSettings}
+use Rattle.stack_engine.proofs.Words.{ConnectionsLaw, ConnectionState, Datagram, Deliver, Dialogue, did, drop, drop-append_seam, EndSettings}
 use Rattle.stack_engine.proofs.Words.{EndState, Err, EventsLaw, false, FewLaw, FirstMissingLaw, found_messages, found_telegram, FreshAtLastLaw, goes_on, GoesUp}
-use Rattle.stack_engine.proofs.Words.{add_event, add_events, guard, Guards, handed_by, handed_up, HasKind, HasMessage, heard, heard_as, IdentifiedLaw, in_limits}
+use Rattle.stack_engine.proofs.Words.{add_event, add_events, guard, handed_by, handed_up, HasKind, HasMessage, heard, heard_as, IdentifiedLaw, in_limits}
 use Rattle.stack_engine.proofs.Words.{in_turn, InitDone, inl, Input, inr, InStepLaw, is_closed, is_legal, is_nil, is_shut, IsBeginning, IsMessage, IsTakenBy}
 use Rattle.stack_engine.proofs.Words.{IsUnitSized, Item, judge_messages, judge_read, judge_units, judge_unpacked, Judged, judged_as, judged_none, leave, Leaves}
 use Rattle.stack_engine.proofs.Words.{leaves, Leaving, length, length-append, length-drop, length-take, List, little_bytes, Masking, MatchingLaw, may_send}
-use Rattle.stack_engine.proofs.Words.{process_event, MessageLaw, messages_in, Move, move, moved, MovesLaw, nat_lt, nat_tests, None, Ok, Option, OrderLaw, OriginLaw}
+use Rattle.stack_engine.proofs.Words.{process_event, MessageLaw, messages_in, Move, move, MovesLaw, nat_lt, nat_tests, None, Ok, Option, OrderLaw, OriginLaw}
 use Rattle.stack_engine.proofs.Words.{OverLaw, OwnEarlyLaw, packed, packed_up_to, PackFault, Part, part, parts, PartsLaw, parts_passed, Pdu, PduReadLaw, PhaseLaw}
 use Rattle.stack_engine.proofs.Words.{piece, Put, put_by, Puts, ReachedLaw, ReadAlikeLaw, ReadAskedLaw, receives, RedTick, refl, Result, rises, Role, safe_seen}
 use Rattle.stack_engine.proofs.Words.{SafeFault, SafeText, seen_by, send, Sends, sends, sent_by, session_of, SettingsLaw, settle, Side, Some, State, StaysLaw}
 use Rattle.stack_engine.proofs.Words.{can_pack, closed-step-is, closes, fields_kept, finished-is, finishes, guarded, guarded-is, may-pack, not-pack, packed-is}
 use Rattle.stack_engine.proofs.Words.{packs, part-is, queued-is, queues, step, ticked, ticked-is, ⊎_elim}
 use Rattle.stack_engine.proofs.Words.{StrangersLaw, subst, suc, sym, take, take-append-drop, TakenLaw, TakesFrontLaw, Tele, tele_seen, tele_text, TeleFault}
-use Rattle.stack_engine.proofs.Words.{telegrams_in, texts, TextsLaw, Tick, tick, Ticks, time_of, true, unconfirmed, UNIT_MESSAGES, unit_seen, unit_text, units}
+use Rattle.stack_engine.proofs.Words.{telegrams_in, texts, TextsLaw, Tick, tick, time_of, true, unconfirmed, UNIT_MESSAGES, unit_seen, unit_text, units}
 use Rattle.stack_engine.proofs.Words.{UnitText, unless_leaving, Unspecified, WaitsLaw, with_input, with_machine, with_session, zero, ℕ, ◌&&◌, ◌*◌, ◌++◌, ◌<◌}
 use Rattle.stack_engine.proofs.Words.{◌^◌, ◌∙◌, ◌∷◌, ◌≡◌, ◌≤◌, ◌⊎◌}
 use Rattle.pdi_session.specs.JoinedSessions.{OneMoreLaw}

@@ -3,11 +3,11 @@ use Rattle.safe_machine.proofs.one.Turning.{guard-is}
 use Rattle.stack_engine.proofs.Words.{[], AllArrived, AllByRecursion, AllFaithful, AreAtMost, AreTyped, arith, arrivals, arrivals_of, Arrived, AtCall, AtOpened}
 use Rattle.stack_engine.proofs.Words.{AtParts, Bool, bytes_eq, bytes_eq-Decides, Call, Calls, Carries, cases_lt, Close, CodeRule, Datagram, Deliver, drop}
 use Rattle.stack_engine.proofs.Words.{EndState, Event, FaithfulCall, FaithfulEvent, false, Fe, first_missing, first_version, Genuine, GenuineCall, GenuineEvent}
-use Rattle.stack_engine.proofs.Words.{GuardHolds, Guards, apply_event, has_number, if◌then◌else◌, Il, inl, Input, inr, is_alive, is_asked_of, is_live, is_nil}
-use Rattle.stack_engine.proofs.Words.{IsGenuine, IsInTime, IsNear, IsTyped, leave, length, Limit, List, list_any, Made, Match, moment_of, moved, nat_le, nat_lt}
+use Rattle.stack_engine.proofs.Words.{GuardHolds, apply_event, has_number, if◌then◌else◌, Il, inl, Input, inr, is_alive, is_asked_of, is_live, is_nil}
+use Rattle.stack_engine.proofs.Words.{IsGenuine, IsInTime, IsNear, IsTyped, leave, length, Limit, List, list_any, Made, Match, moment_of, nat_le, nat_lt}
 use Rattle.stack_engine.proofs.Words.{nat_tests, no_wait, NoDeadlineFalls, None, not, OfBoth, OfOpened, Open, Option, Part, part, parts_passed, present}
 use Rattle.stack_engine.proofs.Words.{ProtocolError, Put, QNear, RedTick, refl, refusal, rule_of, run, SameRule, Some, State, subst, suc, sym, taken_at, Tick}
-use Rattle.stack_engine.proofs.Words.{Ticks, Timeout, true, Unspecified, upper_of, Wait, wait_after, with_input, World, zero, ℕ, ◌&&◌, ◌++◌, ◌+◌, ◌<◌, ◌==◌}
+use Rattle.stack_engine.proofs.Words.{Timeout, true, Unspecified, upper_of, Wait, wait_after, with_input, World, zero, ℕ, ◌&&◌, ◌++◌, ◌+◌, ◌<◌, ◌==◌}
 use Rattle.stack_engine.proofs.Words.{◌^◌, ◌||◌, ◌∙◌, ◌∷◌, ◌≡◌, ◌≢◌, ◌≤◌}
 use Rattle.stack_engine.proofs.Words.{guarded, ticked}
 use Rattle.stack_engine.proofs.one.Speaking.{and-parts, came}

@@ -1,7 +1,7 @@
 -- Datagrams of an interlocking that was never opened: the field element sets up a session with them and takes a command, and nobody made it.
 use Rattle.stack_engine.proofs.Words.{[], after_block, after_round, ahead, AllFresh, ap, AtOpened, AtParts, Bool, Calls, Datagram, decoded, Deliver, digest}
-use Rattle.stack_engine.proofs.Words.{EndState, Event, false, Fe, four_steps, FreshCall, FreshEvent, Guards, apply_event, Il, InitDone, is_nil, is_none, is_shut}
-use Rattle.stack_engine.proofs.Words.{length, List, Made, made_of, moved, None, not, Open, Option, Part, part, parts_passed, pieces_seen, present, refl, refusal}
+use Rattle.stack_engine.proofs.Words.{EndState, Event, false, Fe, four_steps, FreshCall, FreshEvent, apply_event, Il, InitDone, is_nil, is_none, is_shut}
+use Rattle.stack_engine.proofs.Words.{length, List, Made, made_of, None, not, Open, Option, Part, part, parts_passed, pieces_seen, present, refl, refusal}
 use Rattle.stack_engine.proofs.Words.{run, sn_of, Some, start, subst, taken_at, TakesFresh, tele_seen, true, unit_seen, with_input, World, ℕ, ◌&&◌, ◌++◌, ◌==◌}
 use Rattle.stack_engine.proofs.Words.{◌∷◌, ◌≡◌}
 use Rattle.stack_engine.proofs.Words.{guarded}

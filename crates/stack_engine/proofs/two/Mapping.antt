@@ -1,13 +1,13 @@
 -- The machines of two ends during a call: they stay in a world that a genuine list of machine events leads to, in which no clock goes back.
 use Rattle.stack_engine.proofs.Words.{[], AllByRecursion, Among, answered, ap, AreOctets, arith, Arrive, arrive_octets, AtCall, AtInput, AtParts, Bool, by_cond}
 use Rattle.stack_engine.proofs.Words.{by_test, bytes_eq, bytes_eq-Decides, Call, Closed, ClosedByUser, CodeRule, cond, connection_of, ConnectionState, Datagram}
-use Rattle.stack_engine.proofs.Words.{Deliver, Down, drop, end_moved, EndSettings, EndState, eqb-true, Err, EventsLaw, false, Fe, GenuineAt, Guard, Guards}
+use Rattle.stack_engine.proofs.Words.{Deliver, Down, drop, EndSettings, EndState, eqb-true, Err, EventsLaw, false, Fe, GenuineAt, Guard, Guards}
 use Rattle.stack_engine.proofs.Words.{handed_up, has_made, HaveTexts, heard, heard_as, Hears, HearsOwn, Il, inl, Input, inr, is_asked_of, is_closed, is_live}
 use Rattle.stack_engine.proofs.Words.{is_shut, is_stranger, IsGenuine, joined_by, JoinedEnd, is_joining, judge_units, latest, latest_maker, Leaves, leaves, Leaving}
 use Rattle.stack_engine.proofs.Words.{length, List, Made, made_of, Move, move, MovesLaw, nat_tests, None, noted, Ok, Option, packed, Part, part, parts_passed, Pdu}
-use Rattle.stack_engine.proofs.Words.{Receiver, RedTick, refl, Result, rule_of, safe_seen, safe_text, SafeFault, seen_by, Send, Sends, Settings, settle, Side}
+use Rattle.stack_engine.proofs.Words.{Receiver, RedTick, refl, Result, rule_of, safe_seen, safe_text, SafeFault, seen_by, Send, Sends, Settings, Side}
 use Rattle.stack_engine.proofs.Words.{Some, Start, State, subst, suc, sym, take, Tick, Ticks, Timely, TimelyEvent, true, unit_text, Unspecified, upper_of}
-use Rattle.stack_engine.proofs.Words.{with_input, with_machine, zero, ℕ, ◌&&◌, ◌++◌, ◌+◌, ◌==◌, ◌∙◌, ◌∷◌, ◌≡◌, ◌≢◌, ◌≤◌}
+use Rattle.stack_engine.proofs.Words.{with_input, zero, ℕ, ◌&&◌, ◌++◌, ◌+◌, ◌==◌, ◌∙◌, ◌∷◌, ◌≡◌, ◌≢◌, ◌≤◌}
 use Rattle.stack_engine.proofs.Words.{guarded, ticked}
 use Rattle.safe_machine.specs.World.{Event, Genuine, GenuineEvent, apply_event, run, start, World}
 use Rattle.safe_machine.specs.World.Event.{Close as CloseMachine, Tick as TickMachine}

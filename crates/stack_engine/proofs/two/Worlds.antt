@@ -1,18 +1,18 @@
 -- The machines of a genuine world are those that a genuine list of machine events leads to; and what one call takes by them, as items and as what is fresh.
 use Rattle.stack_engine.proofs.Words.{[], AllByRecursion, AllTakeBeginnings, ap, append-nil, append_assoc, are_fit, AreSettings, arith, Arrive, arrive_octets}
 use Rattle.stack_engine.proofs.Words.{AtCall, AtInput, AtParts, Bool, Call, call, call_refusal, Calls, CHECKSUM_MAX, checksum_of, CodeRule, cond, connection_of}
-use Rattle.stack_engine.proofs.Words.{Datagram, Deliver, Down, end_moved, ends_of, EndSettings, EndState, Err, Event, EventsLaw, false, Fe, Fresh, FreshEvent}
+use Rattle.stack_engine.proofs.Words.{Datagram, Deliver, Down, ends_of, EndSettings, EndState, Err, Event, EventsLaw, false, Fe, Fresh, FreshEvent}
 use Rattle.stack_engine.proofs.Words.{GenuineEvent, guard, Guards, apply_event, heard_as, Hears, Il, in_limits, incarnation, inl, Input, inr, is_addressing}
 use Rattle.stack_engine.proofs.Words.{is_legal, is_name, is_untimely, IsBeginning, IsGenuine, IsJoined, IsName, IsTyped, items_of, joined_by, JoinedBelow}
 use Rattle.stack_engine.proofs.Words.{JoinedEnd, JoinsFall, last_time, latest, length, length-append, List, Made, made_of, MatchOption, messages_in, move}
 use Rattle.stack_engine.proofs.Words.{MovesLaw, nat_le, nat_lt, nat_tests, new_end, next_bound, None, Ok, OnlyJoinedTake, open_refusal, OpenMachine, Option}
 use Rattle.stack_engine.proofs.Words.{Part, part, parts_passed, Pdu, Put, put_at, RedTick, refl, Refusal, Result, safe_seen, SafeFault, seen_by, session_of}
 use Rattle.stack_engine.proofs.Words.{Settings, settle, Side, Some, start, State, subst, suc, sym, take, taken_at, TakesBeginnings, TakesFresh, Tele}
-use Rattle.stack_engine.proofs.Words.{telegrams_in, texts, TextsLaw, Tick, tick, Ticks, time_of, true, units, unless_refused, with_input, with_joined}
-use Rattle.stack_engine.proofs.Words.{with_machine, World, ℕ, ◌++◌, ◌+◌, ◌==◌, ◌^◌, ◌||◌, ◌∙◌, ◌∷◌, ◌≡◌, ◌≢◌, ◌≤◌}
+use Rattle.stack_engine.proofs.Words.{telegrams_in, texts, TextsLaw, Tick, time_of, true, units, unless_refused, with_input, with_joined}
+use Rattle.stack_engine.proofs.Words.{World, ℕ, ◌++◌, ◌+◌, ◌==◌, ◌^◌, ◌||◌, ◌∙◌, ◌∷◌, ◌≡◌, ◌≢◌, ◌≤◌}
 use Rattle.stack_engine.proofs.Words.{guarded, heard, part-is, ticked}
 use Rattle.stack_engine.proofs.one.Heeding.{machined-texts, OctetsUp, Whole}
-use Rattle.stack_engine.proofs.one.Speaking.{and-parts, came, goes-of, handed-none, IsTypedCall, IsTypedInput, keep-part, keep-settle, Keeps, Laws, leaves-same}
+use Rattle.stack_engine.proofs.one.Speaking.{and-parts, came, goes-of, handed-none, IsTypedCall, IsTypedInput, keep-part, Keeps, Laws, leaves-same, keep-guarded, keep-ticked}
 use Rattle.stack_engine.proofs.one.Speaking.{legal-of, messages-append, nil-front, queue-read, rises-same, Spoken, telegrams-append}
 use Rattle.stack_engine.proofs.two.Mapping.{both-call, Comes, fe_at, FeAt, genuine-heard, il_at, IlAt, live-same, octets-call, PeerIs, Reached, reached}
 use Rattle.stack_engine.proofs.two.Mapping.{rule-same, TextsOf}
