@@ -140,6 +140,17 @@ impl<A: Allocator> MachineState<A> {
         // A closed end does nothing, then a stranger's PDU is dropped, and then the state decides (`decide`).
         ensures { result ≡ decide self.now (pdu_of pdu.now) now }
     {
+        // Most PDUs are the next Data or heartbeat at an end in Up: the decision that the table has for these comes first.
+        let is_plain = matches!(pdu.kind, Kind::Data | Kind::Heartbeat);
+        if self.connection == ConnectionState::Up
+            && is_plain
+            && self.distance(pdu) == 0
+            && !self.is_foreign(pdu)
+            && self.cs_fits(pdu)
+            && self.cts_fits(pdu, now)
+        {
+            return Decision::Takes(ConnectionState::Up);
+        }
         if self.connection == ConnectionState::Closed {
             return Decision::Nothing;
         }
