@@ -42,7 +42,7 @@ impl<'a, 'b, 'c, C: Channels> PduOut for ToChannels<'a, 'b, 'c, C> {
 
     fn made(&mut self, pdu: &[u8]) {
         let number = self.numbers.next();
-        *self.made = self.made.with_pdu(pdu);
+        self.made.count_pdu(pdu);
         if RED_HEADER + pdu.len() <= SHORT_DATAGRAM {
             let mut buffer = [0; SHORT_DATAGRAM];
             send_by(self.channels, self.count, number, pdu, &mut buffer);

@@ -48,6 +48,15 @@ impl MadeCounts {
         // The count of this type grows by 1, modulo 2^64; the others stay.
         ensures { result ≡ statistics.with_kind kind self }
     {
+        self.count_kind(kind);
+        self
+    }
+
+    /// Counts one PDU more in place. Those that open or end a connection are not counted.
+    fn count_kind(&mut self, kind: Kind)
+        // The count of this type grows by 1, modulo 2^64; the others stay.
+        ensures { self.new ≡ statistics.with_kind kind self.old }
+    {
         match kind {
             Kind::Data => self.units = self.units.wrapping_add(1),
             Kind::RetrData => self.resent = self.resent.wrapping_add(1),
@@ -56,17 +65,15 @@ impl MadeCounts {
             Kind::RetrResp => self.answers = self.answers.wrapping_add(1),
             Kind::ConnReq | Kind::ConnResp | Kind::DiscReq => {}
         }
-        self
     }
 
     /// Counts the PDU of these bytes by the type in its header.
-    pub(crate) fn with_pdu(self, octets: &[u8]) -> Self
+    pub(crate) fn count_pdu(&mut self, octets: &[u8])
         // The PDU is counted by the type in its header; bytes without a type count nothing.
-        ensures { result ≡ statistics.with_pdu octets.now self }
+        ensures { self.new ≡ statistics.with_pdu octets.now self.old }
     {
-        match Kind::of(number_at(octets, KIND)) {
-            Some(kind) => self.with_kind(kind),
-            None => self,
+        if let Some(kind) = Kind::of(number_at(octets, KIND)) {
+            self.count_kind(kind);
         }
     }
 }
@@ -128,6 +135,17 @@ impl PartCounts {
         // if these are greater. All else stays.
         ensures { result ≡ statistics.with_step step waited age self }
     {
+        self.count_step(step, waited, age);
+        self
+    }
+
+    /// Counts a part in place by the machine's step. `waited` is how long before it nothing was confirmed, and `age` how
+    /// old the last confirmed timestamp is after it, both in milliseconds.
+    pub(crate) fn count_step(&mut self, step: Step, waited: Milliseconds, age: Milliseconds)
+        // The count of this step grows by 1, modulo 2^64. If the PDU was taken, both times become those of this part
+        // if these are greater. All else stays.
+        ensures { self.new ≡ statistics.with_step step waited age self.old }
+    {
         match step {
             Step::Taken => {
                 self.taken = self.taken.wrapping_add(1);
@@ -135,16 +153,15 @@ impl PartCounts {
                 self.oldest = self.oldest.max(age);
             }
             Step::Gap => self.gaps = self.gaps.wrapping_add(1),
-            Step::Dropped(cause) => return self.with_dropped(cause),
+            Step::Dropped(cause) => self.count_dropped(cause),
             Step::Left(_, _) | Step::Nothing => {}
         }
-        self
     }
 
     /// Counts a dropped part.
-    fn with_dropped(mut self, cause: DropCause) -> Self
+    fn count_dropped(&mut self, cause: DropCause)
         // The count of this cause grows by 1, modulo 2^64; all else stays.
-        ensures { result ≡ statistics.with_dropped cause self }
+        ensures { self.new ≡ statistics.with_dropped cause self.old }
     {
         match cause {
             DropCause::Fault(_) => self.damaged = self.damaged.wrapping_add(1),
@@ -155,7 +172,6 @@ impl PartCounts {
             DropCause::Answered => self.answered = self.answered.wrapping_add(1),
             DropCause::Below => self.below = self.below.wrapping_add(1),
         }
-        self
     }
 }
 
@@ -208,30 +224,39 @@ impl ReceptionCounts {
         // redundancy PDU that is not too far ahead. All else stays.
         ensures { result ≡ statistics.with_event event now self }
     {
+        self.count_event(event, now);
+        self
+    }
+
+    /// Counts in place a datagram that came at `now`, by the redundancy layer's event, which is `None` at a closed end.
+    fn count_event(&mut self, event: Option<RedEvent>, now: Milliseconds)
+        // `received` and the count of this event grow by 1, modulo 2^64. The time becomes `now` if the datagram is a
+        // redundancy PDU that is not too far ahead. All else stays.
+        ensures { self.exit.now ≡ statistics.with_event event now self.entry.now }
+    {
         self.received = self.received.wrapping_add(1);
-        match event {
-            None => self,
-            Some(event) => self.with_time(event, now).with_answer(event),
+        if let Some(event) = event {
+            self.keep_time(event, now);
+            self.count_answer(event);
         }
     }
 
     /// Keeps the time of a redundancy PDU that is not too far ahead.
-    fn with_time(mut self, event: RedEvent, now: Milliseconds) -> Self
+    fn keep_time(&mut self, event: RedEvent, now: Milliseconds)
         // The time becomes `now` unless the event is too far ahead or damaged; all else stays.
-        ensures { result ≡ statistics.with_time event now self }
+        ensures { self.exit.now ≡ statistics.with_time event now self.entry.now }
     {
         match event {
             RedEvent::Far | RedEvent::Fault(_) => {}
             RedEvent::Passed | RedEvent::Wait | RedEvent::Old | RedEvent::Again | RedEvent::Full =>
                 self.last = Some(now),
         }
-        self
     }
 
     /// Counts an event of the redundancy layer.
-    fn with_answer(mut self, event: RedEvent) -> Self
+    fn count_answer(&mut self, event: RedEvent)
         // The count of this event grows by 1, modulo 2^64; all else stays.
-        ensures { result ≡ statistics.with_answer event self }
+        ensures { self.exit.now ≡ statistics.with_answer event self.entry.now }
     {
         match event {
             RedEvent::Passed => self.passed = self.passed.wrapping_add(1),
@@ -242,7 +267,6 @@ impl ReceptionCounts {
             RedEvent::Full => self.full = self.full.wrapping_add(1),
             RedEvent::Fault(_) => self.damaged = self.damaged.wrapping_add(1),
         }
-        self
     }
 }
 
@@ -259,7 +283,7 @@ pub(crate) fn count_reception(
     if channel == 0 || channel > CHANNELS_MAX {
         return;
     }
-    channels[channel - 1] = channels[channel - 1].with_event(event, now);
+    channels[channel - 1].count_event(event, now);
 }
 
 /// All that an end counts of its own work since its opening.

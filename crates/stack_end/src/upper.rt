@@ -214,7 +214,7 @@ impl<C: Channels, A: Allocator> UpperLayers<C, A> {
         ensures keeps { Keeps 0 self.old self.new }
     {
         let age = now.saturating_sub(self.machine.confirmed_time());
-        self.parts = self.parts.with_step(step, waited, age);
+        self.parts.count_step(step, waited, age);
     }
 
     /// Processes a part that goes up: machine and session, then the session goes up with the connection, and the end
