@@ -93,7 +93,7 @@ pdus_text form at c =
     let m = c.sums.made in
     fields_text form
     ((codes "time", at) ∷ (codes "units", m.units) ∷ (codes "resent", m.resent) ∷ (codes "heartbeats", m.heartbeats) ∷ (codes "asked", m.requests)
-    ∷ (codes "answered", m.answers) ∷ (codes "accepted_count", accepted_count c) ∷ (codes "dropped_count", dropped_count c) ∷ (codes "confirmed", c.sums.confirmed) ∷ [])
+    ∷ (codes "answered", m.answers) ∷ (codes "accepted", accepted_count c) ∷ (codes "dropped", dropped_count c) ∷ (codes "confirmed", c.sums.confirmed) ∷ [])
 
 -- the least time in milliseconds that was left to T_max when a PDU confirmed a timestamp: T_max minus the greatest age of a confirmed timestamp
 abbrev pub margin_of : Option ℕ → ℕ → Option ℕ
