@@ -1,6 +1,7 @@
 //! The run of a script, line by line.
 
 use crate::trace::{Trace, TracedEvent};
+use crate::words::cut;
 use crate::{
     Command, Label, Labels, ScriptFault, ScriptLineFault, ScriptSettings, Sides, SimStatus,
     ZEROS_MAX, other, read_line,
@@ -99,7 +100,14 @@ impl<W: Write + Drop, A: Allocator + Copy> Script<W, A> {
     /// Runs the lines of a text and prints the report.
     fn lines(&mut self, text: &str) -> Result<(), ScriptFault> {
         let mut number = 0u64;
-        for line in text.split('\n') {
+        let mut rest = Some(text);
+        // A text has no more lines than this.
+        for _ in 0..text.len().saturating_add(1) {
+            let Some(left) = rest else {
+                break;
+            };
+            let (line, after) = cut(left, b'\n');
+            rest = after;
             number = number.saturating_add(1);
             match self.line(line) {
                 Ok(()) => {}

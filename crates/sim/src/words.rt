@@ -14,21 +14,27 @@ use std::alloc::Allocator;
 /// The words of a line, separated by one or more spaces.
 #[derive(Drop)]
 pub struct Words<'a> {
-    /// The pieces between spaces; empty ones are skipped.
-    parts: std::str::Split<'a, char>,
+    /// What is left of the line.
+    rest: &'a str,
 }
 
 impl<'a> Words<'a> {
     /// Returns the words of a line, from the first one.
     pub fn new(line: &'a str) -> Self {
-        Words {
-            parts: line.split(' '),
-        }
+        Words { rest: line }
     }
 
     /// Returns the next word, if there is one.
     pub fn next(&mut self) -> Option<&'a str> {
-        self.parts.find(|part| !part.is_empty())
+        let spaces = self
+            .rest
+            .as_bytes()
+            .iter()
+            .position(|octet| *octet != b' ')?;
+        let (_, rest) = self.rest.split_at_checked(spaces)?;
+        let (word, rest) = cut(rest, b' ');
+        self.rest = rest.unwrap_or("");
+        Some(word)
     }
 
     /// Returns the next word, which the line must have.
@@ -107,10 +113,11 @@ impl<'a> Words<'a> {
         most: u64,
     ) -> Result<Vec<u64, A>, ScriptLineFault> {
         let mut numbers = Vec::new(alloc);
-        for part in &mut self.parts {
-            if !part.is_empty() {
-                numbers.push(number(part, most).ok_or(ScriptLineFault::Unreadable)?)?;
-            }
+        for _ in 0..self.rest.len() {
+            let Some(word) = self.next() else {
+                break;
+            };
+            numbers.push(number(word, most).ok_or(ScriptLineFault::Unreadable)?)?;
         }
         Ok(numbers)
     }
@@ -121,6 +128,21 @@ impl<'a> Words<'a> {
             None => Ok(()),
             Some(_) => Err(ScriptLineFault::Unreadable),
         }
+    }
+}
+
+/// Cuts a text at the first such character of ASCII: returns what is before it, and what is after it, or `None` if the
+/// text has no such character.
+pub fn cut(text: &str, at: u8) -> (&str, Option<&str>) {
+    let Some(place) = text.as_bytes().iter().position(|octet| *octet == at) else {
+        return (text, None);
+    };
+    match (
+        text.split_at_checked(place),
+        text.split_at_checked(place + 1),
+    ) {
+        (Some((before, _)), Some((_, after))) => (before, Some(after)),
+        _ => (text, None),
     }
 }
 

@@ -115,7 +115,7 @@ pub use Rattle.stack_engine.specs.Headline.{AllTakeBeginnings, HeadlineLaw, IsJo
 pub use Rattle.stack_engine.specs.Headline.{next_bound, put_at, taken_at}
 pub use Rattle.stack_engine.specs.Histories.{call_octets}
 pub use Rattle.stack_engine.specs.HistoryPlaces.{AreWithin, IsPlaced, IsWithin, deed_event, deed_in, event_in, events_in, opened_by}
-pub use Rattle.stack_engine.specs.Incarnations.{HasRoom, IncSame, IncStands, IncTurns, TakesItem, datagrams_of, inc_refusal, puts_in, sure_items}
+pub use Rattle.stack_engine.specs.Incarnations.{HasRoom, IncSame, IncStands, IncTurns, PastStands, TakesItem, datagrams_of, inc_refusal, puts_in, sure_items}
 pub use Rattle.stack_engine.specs.Instances.{FreshInstances, HeadlineInstances, Instances, SettledInstances, made_after, confirming_pdu, made_one, one, two}
 pub use Rattle.stack_engine.specs.Joins.{joined_of, joins_in, joins_of, joins_with, join_latest, request_in}
 pub use Rattle.stack_engine.specs.Keeping.{Keeping, has_part, on_first, sure_room, told_of}
@@ -131,7 +131,7 @@ pub use Rattle.stack_engine.specs.Pairs.Refusal.{BadConfig, Clock}
 pub use Rattle.stack_engine.specs.Premise.{AreTyped, AtArrivals, AtCall, AtInput, AtOpened, AtParts, BreaksLaw, Genuine, GenuineCall, GenuineEvent, IsGenuine}
 pub use Rattle.stack_engine.specs.Premise.{IsTyped, breaks_at, breaks_by, is_asked_of, is_live}
 pub use Rattle.stack_engine.specs.Premises.{Arrived, FaithfulInstance, GenuineInstance, OfOpened, Premises}
-pub use Rattle.stack_engine.specs.Reports.{entry_of, fe_entry, il_entry, incarnations_of, joined_entry, place_of, present_list}
+pub use Rattle.stack_engine.specs.Reports.{entry_of, fe_entry, il_entry, incarnations_of, joined_entry, past_of, place_of, present_list}
 pub use Rattle.stack_engine.specs.Settled.{ConfirmedTakenLaw, FeTaken, SettledAt, SettledFe, SettledLaw, WasTaken, found_messages, found_telegram, is_number}
 pub use Rattle.stack_engine.specs.Settled.{items_unconfirmed, items_waiting, messages_in, taken_from_fe, taken_from_il, telegrams_in}
 pub use Rattle.stack_engine.specs.Sides.{FewAt, SidesDo, SidesStand, ends_at}
@@ -145,6 +145,7 @@ pub use Rattle.stack_engine.specs.declared.history.Deed.{Deed}
 pub use Rattle.stack_engine.specs.declared.history.Entry.{Entry}
 pub use Rattle.stack_engine.specs.declared.incarnation.Incarnation.{Incarnation}
 pub use Rattle.stack_engine.specs.declared.openings.Openings.{Openings}
+pub use Rattle.stack_engine.specs.declared.past.Past.{Past}
 pub use Rattle.stack_engine.specs.declared.sides.Sides.{Sides}
 pub use Rattle.stack_engine.specs.declared.texts.Kept.{Kept}
 unfoldable pub use Rattle.md4.specs.Digest.{after_block, after_round, digest, four_steps}

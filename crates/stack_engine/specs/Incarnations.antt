@@ -14,6 +14,7 @@ use Rattle.stack_end.specs.Steps.{call}
 use Rattle.stack_end.specs.EndValue.{EndStands, EndTurns, channels_of, inside}
 use Rattle.stack_end.specs.Turns.{init_answer, put_answer, turn}
 use Rattle.stack_engine.specs.declared.incarnation.Incarnation.{Incarnation}
+use Rattle.stack_engine.specs.declared.past.Past.{Past}
 use Rattle.stack_engine.specs.Bounds.{FewMore, most_pdus, most_taken}
 use Rattle.stack_engine.specs.Keeping.{told_of, sure_room}
 use Rattle.stack_engine.specs.Texts.{Shelf}
@@ -41,6 +42,12 @@ pub record IncStands {A : Type 0} (i : Incarnation A) (x : EndState) : Type 0 wh
   pub kept : (channels_of i.end).datagrams ≡ datagrams_of x.settings 0 x.machine.made  -- the kept datagrams are those of all PDUs made
   pub put : i.put.texts ≡ x.session.history.put  -- the telegrams put
   pub taken : i.taken.texts ≡ x.session.history.taken  -- the telegrams taken
+
+-- what is kept of an earlier incarnation represents the state: all that was made, put and taken is kept
+pub record PastStands {A : Type 0} (p : Past A) (x : EndState) : Type 0 where
+  pub kept : p.keeper.datagrams ≡ datagrams_of x.settings 0 x.machine.made  -- the kept datagrams are those of all PDUs made
+  pub put : p.put.texts ≡ x.session.history.put  -- the telegrams put
+  pub taken : p.taken.texts ≡ x.session.history.taken  -- the telegrams taken
 
 -- there is room for all PDUs that a call makes and all telegrams that it takes
 abbrev pub HasRoom : {A : Type 0} → Incarnation A → Type 0

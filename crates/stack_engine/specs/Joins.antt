@@ -3,16 +3,17 @@ use Rattle.std.specs.Prelude.{ℕ, Option, Some, None, List, [], ◌∷◌, map,
 use Rattle.stack_end.specs.Ends.{EndState}
 use Rattle.stack_engine.specs.declared.incarnation.Incarnation.{Incarnation}
 use Rattle.stack_engine.specs.declared.openings.Openings.{Openings}
+use Rattle.stack_engine.specs.declared.past.Past.{Past}
 use Rattle.stack_engine.specs.Pairs.{JoinedEnd}
 
--- the join of an incarnation
-abbrev pub joined_of : {A : Type 0} → Incarnation A → Option ℕ
-joined_of i = i.joined
+-- the join of an earlier incarnation
+abbrev pub joined_of : {A : Type 0} → Past A → Option ℕ
+joined_of p = p.joined
 
 -- the joins of the present incarnation and of the earlier ones; without a present one there are none
 abbrev pub joins_with : {A : Type 0} → Option (Incarnation A) → List (Option ℕ) → List (Option ℕ)
 joins_with None before = []
-joins_with (Some i) before = joined_of i ∷ before
+joins_with (Some i) before = i.joined ∷ before
 
 -- the joins of all incarnations of an end that was opened, the latest first
 abbrev pub joins_of : {A : Type 0} → Openings A → List (Option ℕ)

@@ -12,8 +12,9 @@ use Rattle.stack_engine.specs.declared.ApplyFault.{ApplyFault}
 use Rattle.stack_engine.specs.declared.ApplyFault.TheVariants as fault
 use Rattle.stack_engine.specs.declared.incarnation.Incarnation.{Incarnation}
 use Rattle.stack_engine.specs.declared.openings.Openings.{Openings}
+use Rattle.stack_engine.specs.declared.past.Past.{Past}
 use Rattle.stack_engine.specs.Bounds.{FewMore}
-use Rattle.stack_engine.specs.Incarnations.{IncStands, datagrams_of}
+use Rattle.stack_engine.specs.Incarnations.{IncStands, PastStands, datagrams_of}
 use Rattle.stack_engine.specs.Pairs.{Refusal, EndNotOpen, BadConfig, Clock, PutRefused, InitRefused, has_made, latest, call_il}
 use Rattle.stack_engine.specs.Premise.{AtOpened, is_asked_of}
 
@@ -25,11 +26,11 @@ PresentStands (Some i) [] = ⊥
 PresentStands (Some i) (x ∷ before) = IncStands i x
 
 -- the earlier incarnations represent the earlier states, the latest first
-abbrev pub BeforeStand : {A : Type 0} → List (Incarnation A) → List EndState → Type 0
+abbrev pub BeforeStand : {A : Type 0} → List (Past A) → List EndState → Type 0
 BeforeStand [] [] = Unit {0}
 BeforeStand [] (x ∷ xs) = ⊥
-BeforeStand (i ∷ is) [] = ⊥
-BeforeStand (i ∷ is) (x ∷ xs) = IncStands i x × BeforeStand is xs
+BeforeStand (p ∷ ps) [] = ⊥
+BeforeStand (p ∷ ps) (x ∷ xs) = PastStands p x × BeforeStand ps xs
 
 -- all states but the latest
 abbrev pub rest_of : List EndState → List EndState

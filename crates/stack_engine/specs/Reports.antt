@@ -3,9 +3,11 @@ use Rattle.std.specs.Prelude.{ℕ, ◌-◌, Option, Some, None, option_map, List
 use Rattle.safe_machine.specs.World.{Side}
 use Rattle.safe_machine.specs.World.Side.{Il, Fe}
 use Rattle.pdi_session.specs.SessionStep.{Item}
+use Rattle.stack_end.specs.EndValue.{channels_of}
 use Rattle.stack_end.specs.Ends.{EndState}
 use Rattle.stack_engine.specs.declared.incarnation.Incarnation.{Incarnation}
 use Rattle.stack_engine.specs.declared.openings.Openings.{Openings}
+use Rattle.stack_engine.specs.declared.past.Past.{Past}
 use Rattle.stack_engine.specs.declared.report.Entry.{Entry as CodeEntry}
 use Rattle.stack_engine.specs.Headline.{put_at, taken_at}
 use Rattle.stack_engine.specs.Pairs.{World, JoinedEnd}
@@ -38,18 +40,22 @@ abbrev pub seen_entry : {A : Type 0} → CodeEntry A → Entry
 seen_entry e = record { put = e.put.now.texts; taken = e.taken.now.texts; joined = e.joined }
 
 -- the entry of an incarnation of the code, joined to this place
-abbrev pub entry_of : {A : Type 0} → Option ℕ → Incarnation A → Entry
-entry_of joined i = record { put = i.put.texts; taken = i.taken.texts; joined = joined }
+abbrev pub entry_of : {A : Type 0} → Option ℕ → Past A → Entry
+entry_of joined p = record { put = p.put.texts; taken = p.taken.texts; joined = joined }
 
 -- the entry of an incarnation of the code, with its own join
-abbrev pub joined_entry : {A : Type 0} → Incarnation A → Entry
-joined_entry i = entry_of (place_of i.joined) i
+abbrev pub joined_entry : {A : Type 0} → Past A → Entry
+joined_entry p = entry_of (place_of p.joined) p
+
+-- what would be kept of an incarnation without its end
+abbrev pub past_of : {A : Type 0} → Incarnation A → Past A
+past_of i = record { keeper = channels_of i.end; put = i.put; taken = i.taken; joined = i.joined }
 
 -- the present incarnation, if there is one
-abbrev pub present_list : {A : Type 0} → Option (Incarnation A) → List (Incarnation A)
+abbrev pub present_list : {A : Type 0} → Option (Incarnation A) → List (Past A)
 present_list None = []
-present_list (Some i) = i ∷ []
+present_list (Some i) = past_of i ∷ []
 
--- all incarnations, the first opened one first
-abbrev pub incarnations_of : {A : Type 0} → Openings A → List (Incarnation A)
+-- all incarnations, without their ends, the first opened one first
+abbrev pub incarnations_of : {A : Type 0} → Openings A → List (Past A)
 incarnations_of o = o.before.items ++ present_list o.present

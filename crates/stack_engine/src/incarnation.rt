@@ -22,6 +22,7 @@ use crate::event::Call;
 use crate::keeper::Keeper;
 use crate::notes::Notes;
 use crate::premise::is_asked_about;
+use crate::report::{Entry, report_on};
 use crate::telegrams::{Telegrams, reserve_telegrams};
 use end_settings::{EndConfig, Side};
 use octets::Milliseconds;
@@ -61,7 +62,7 @@ impl<A: Allocator + Copy> Incarnation<A> {
     ghost use Rattle.stack_engine.specs.Incarnations.{HasRoom, HasRoomFor, IncDoes, IncSame, IncStands, IncTurns, inc_refusal};
     ghost use Rattle.stack_engine.specs.Noted.{AreOf};
     ghost use Rattle.stack_engine.specs.Openings.{NamesRefusal};
-    ghost use Rattle.stack_engine.specs.Reports.{place_of};
+    ghost use Rattle.stack_engine.specs.Reports.{joined_entry, past_of, seen_entry};
 
     /// Opens the end. Tests the settings before it allocates.
     ///
@@ -308,16 +309,12 @@ impl<A: Allocator + Copy> Incarnation<A> {
         self.time = now;
     }
 
-    /// Returns the place, from 0, of the interlocking incarnation that it is joined to. The definitions number
-    /// incarnations from 1.
-    pub(crate) fn joined_place(&self) -> Option<usize>
-        // The result is the number in `joined` less 1, or `None` if it is joined to no other.
-        ensures { result ≡ place_of self.now.joined }
+    /// Returns its report entry.
+    pub(crate) fn entry(&self) -> Entry<'_, A>
+        // The entry is that of what would be kept of it without its end.
+        ensures { seen_entry result ≡ joined_entry (past_of self.now) }
     {
-        match self.joined {
-            Some(number) => Some(number.saturating_sub(1)),
-            None => None,
-        }
+        report_on(&self.put, &self.taken, self.joined)
     }
 
     /// Returns the notes of the last accepted event.

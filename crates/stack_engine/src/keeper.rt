@@ -84,6 +84,16 @@ impl<A: Allocator + Copy> Keeper<A> {
         self.datagrams.reserve(datagrams, datagrams * RED_PDU_MAX)
     }
 
+    /// Drops all notes, and gives back the room for more datagrams and notes, as far as the allocator takes it.
+    pub(crate) fn shrink(&mut self)
+        // Giving room back leaves the kept datagrams as they are.
+        ensures { self.new.datagrams ≡ self.old.datagrams }
+    {
+        self.remarks.clear();
+        self.remarks.shrink_to_fit();
+        self.datagrams.shrink();
+    }
+
     /// Drops the first notes, this many of them.
     pub fn forget(&mut self, remarks: usize)
         // Dropping notes changes neither the kept datagrams nor their room.

@@ -11,12 +11,13 @@ ghost use Rattle.stack_engine.specs.Events.{call_of};
 ghost use Rattle.stack_engine.specs.Joins.{joins_of, join_latest, request_in};
 ghost use Rattle.stack_engine.specs.Openings.{BeforeStand, IsOfSession, is_memory};
 ghost use Rattle.stack_engine.specs.Pairs.{call_refusal, latest, latest_maker, made_of, open_refusal};
-ghost use Rattle.stack_engine.specs.Reports.{entry_of, incarnations_of, joined_entry, seen_entry};
+ghost use Rattle.stack_engine.specs.Reports.{entry_of, incarnations_of, joined_entry, past_of, seen_entry};
 
 use crate::incarnation::Incarnation;
 use crate::keeper::Keeper;
 use crate::notes::Notes;
-use crate::report::{Entry, report_on};
+use crate::past::Past;
+use crate::report::Entry;
 use crate::{ApplyFault, event};
 use end_settings::{EndConfig, Side};
 use octets::Milliseconds;
@@ -24,13 +25,13 @@ use octets::limits::TIME_MAX;
 use stack_end::End;
 use std::alloc::{Allocator, Global};
 
-/// The incarnations of one end: the present one, and the earlier ones in the order of their opening.
+/// The incarnations of one end: the present one, and what is kept of the earlier ones in the order of their opening.
 #[derive(Drop)]
 pub(crate) struct Openings<A: Allocator = Global> {
     /// The present incarnation, if the end was ever opened.
     pub(crate) present: Option<Incarnation<A>>,
     /// The earlier ones, the first one first.
-    pub(crate) before: Vec<Incarnation<A>, A>,
+    pub(crate) before: Vec<Past<A>, A>,
 }
 
 impl<A: Allocator + Copy> Openings<A> {
@@ -186,7 +187,7 @@ impl<A: Allocator + Copy> Openings<A> {
             return Err(ApplyFault::Memory);
         };
         if let Some(earlier) = self.present.replace(opened) {
-            self.before.push_reserved(earlier);
+            self.before.push_reserved(Past::of(earlier, alloc));
         }
         Ok(())
     }
@@ -234,8 +235,12 @@ impl<A: Allocator + Copy> Openings<A> {
         ensures { option_map seen_entry result
             ≡ option_map (entry_of None) (slice_get (incarnations_of self.now) place) }
     {
-        match self.incarnation(place) {
-            Some(incarnation) => Some(report_on(incarnation, None)),
+        match self.joined_entry(place) {
+            Some(entry) => Some(Entry {
+                put: entry.put,
+                taken: entry.taken,
+                joined: None,
+            }),
             None => None,
         }
     }
@@ -247,25 +252,38 @@ impl<A: Allocator + Copy> Openings<A> {
         // one.
         ensures { option_map seen_entry result ≡ option_map joined_entry (slice_get (incarnations_of self.now) place) }
     {
-        match self.incarnation(place) {
-            Some(incarnation) => Some(report_on(incarnation, incarnation.joined_place())),
+        if place == self.before.len() {
+            return self.present_entry();
+        }
+        self.earlier_entry(place)
+    }
+
+    /// Returns the report entry of the incarnation at a place among the earlier ones.
+    fn earlier_entry(&self, place: usize) -> Option<Entry<'_, A>>
+        // The entry has what the earlier incarnation at this `place` put and took, and its join; it is `None` after the
+        // last.
+        ensures { option_map seen_entry result ≡ option_map joined_entry (slice_get self.now.before.items place) }
+    {
+        match self.earlier(place) {
+            Some(past) => Some(past.entry()),
             None => None,
         }
     }
 
-    /// Returns the incarnation at a place, from 0, the first opened one first.
-    fn incarnation(&self, place: usize) -> Option<&Incarnation<A>>
-        // The result is the incarnation at this `place` of all, the present one last.
-        ensures { option_map (λ i. i.now) result ≡ slice_get (incarnations_of self.now) place }
+    /// Returns the report entry of the present incarnation.
+    fn present_entry(&self) -> Option<Entry<'_, A>>
+        // The entry has what the present incarnation put and took, and its join; it is `None` if the end was never
+        // opened.
+        ensures { option_map seen_entry result ≡ option_map joined_entry (option_map past_of self.now.present) }
     {
-        if place == self.before.len() {
-            return self.present.as_ref();
+        match &self.present {
+            Some(present) => Some(present.entry()),
+            None => None,
         }
-        self.earlier(place)
     }
 
     /// Returns the incarnation at a place among the earlier ones.
-    fn earlier(&self, place: usize) -> Option<&Incarnation<A>>
+    fn earlier(&self, place: usize) -> Option<&Past<A>>
         // The result is the earlier incarnation at this `place`, or `None` after the last.
         ensures { option_map (λ i. i.now) result ≡ slice_get self.now.before.items place }
     {
@@ -365,16 +383,13 @@ impl<A: Allocator + Copy> Openings<A> {
 
 /// Returns the number, from 1, of the latest of these incarnations that made a PDU of these bytes. The first opened
 /// one comes first.
-fn latest_maker_of<A: Allocator + Copy>(
-    incarnations: &[Incarnation<A>],
-    octets: &[u8],
-) -> Option<usize>
+fn latest_maker_of<A: Allocator + Copy>(incarnations: &[Past<A>], octets: &[u8]) -> Option<usize>
     // The result is the greatest number among these incarnations of one that made the bytes, or `None` if no one did.
     ensures { (xs : List EndState) → BeforeStand (reverse incarnations.now) xs → result ≡ latest_maker octets.now xs }
 {
     let mut number = incarnations.len();
     while number > 0 {
-        if incarnations[number - 1].has_made(0, octets) {
+        if incarnations[number - 1].has_made(octets) {
             return Some(number);
         }
         number -= 1;

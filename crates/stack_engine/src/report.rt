@@ -1,9 +1,8 @@
 //! What each incarnation of an end put and took.
 
 ghost use Rattle.std.specs.Prelude.{◌≡◌};
-ghost use Rattle.stack_engine.specs.Reports.{entry_of, seen_entry};
+ghost use Rattle.stack_engine.specs.Reports.{place_of, seen_entry};
 
-use crate::incarnation::Incarnation;
 use crate::telegrams::Telegrams;
 use std::alloc::{Allocator, Global};
 
@@ -19,17 +18,22 @@ pub struct Entry<'a, A: Allocator = Global> {
     pub joined: Option<usize>,
 }
 
-/// Returns the entry of an incarnation that is joined to the one at a place.
-pub(crate) fn report_on<A: Allocator + Copy>(
-    incarnation: &Incarnation<A>,
+/// Returns the entry of an incarnation that put and took these telegrams, and is joined to the one of a number. The
+/// definitions number incarnations from 1.
+pub(crate) fn report_on<'a, A: Allocator>(
+    put: &'a Telegrams<A>,
+    taken: &'a Telegrams<A>,
     joined: Option<usize>,
-) -> Entry<'_, A>
-    // The entry has the two lists that the incarnation keeps, and the given place.
-    ensures { seen_entry result ≡ entry_of joined incarnation.now }
+) -> Entry<'a, A>
+    // The entry has both lists, and the number less 1 as its place.
+    ensures { seen_entry result ≡ record { put = put.now.texts; taken = taken.now.texts; joined = place_of joined } }
 {
     Entry {
-        put: &incarnation.put,
-        taken: &incarnation.taken,
-        joined,
+        put,
+        taken,
+        joined: match joined {
+            Some(number) => Some(number.saturating_sub(1)),
+            None => None,
+        },
     }
 }

@@ -1,7 +1,8 @@
 //! A growing list of texts, each with a head. The bytes of all texts are in one buffer.
 
-ghost use Rattle.std.specs.Prelude.{◌≡◌, ◌+◌, ◌≤◌, ℕ, List, [], ◌∷◌, ◌++◌, length, slice_get, option_map, OnOk};
+ghost use Rattle.std.specs.Prelude.{◌≡◌, ◌+◌, ◌≤◌, ℕ, List, [], ◌∷◌, ◌++◌, length, slice_get, slice_range, option_map, OnOk, IfSome};
 ghost use Rattle.red_layer.specs.Parts.{is_nil};
+ghost use Rattle.stack_engine.specs.TextPlaces.{AreWithin};
 
 use std::alloc::{AllocError, Allocator, Global};
 use std::marker::Model;
@@ -71,6 +72,15 @@ impl<T: Drop, A: Allocator + Copy> Texts<T, A> {
         self.octets.try_reserve(octets)
     }
 
+    /// Gives back the room for more texts, as far as the allocator takes it.
+    pub(crate) fn shrink(&mut self)
+        // Giving room back changes none of the `texts`.
+        ensures { self.new.texts ≡ self.old.texts }
+    {
+        self.kept.shrink_to_fit();
+        self.octets.shrink_to_fit();
+    }
+
     /// Adds a text. The caller has made room for it.
     pub fn add(&mut self, head: T, text: &[u8])
         requires place { 1 ≤ self.old.places }
@@ -82,10 +92,43 @@ impl<T: Drop, A: Allocator + Copy> Texts<T, A> {
         // Adding a text uses at most as many bytes of room as it has.
         ensures octets { self.old.octets ≤ self.new.octets + length text.now }
     {
+        match place_of_last(self.kept.as_slice(), self.octets.as_slice(), text) {
+            Some((from, to)) => self.kept.push_reserved(Kept { head, from, to }),
+            None => self.add_octets(head, text),
+        }
+    }
+
+    /// Adds a text with bytes of its own. The caller has made room for it.
+    fn add_octets(&mut self, head: T, text: &[u8])
+        requires place { 1 ≤ self.old.places }
+        requires room { length text.now ≤ self.old.octets }
+        // The text is added after all others, with its head.
+        ensures added { self.new.texts ≡ self.old.texts ++ (head, text.now) ∷ [] }
+        // At most one place is used.
+        ensures places { self.old.places ≤ self.new.places + 1 }
+        // As many bytes of room are used as the text has.
+        ensures octets { self.old.octets ≤ self.new.octets + length text.now }
+    {
         let from = self.octets.len();
         self.octets.extend_from_slice(text).unwrap();
         let to = self.octets.len();
         self.kept.push_reserved(Kept { head, from, to });
+    }
+}
+
+/// Returns where the last of these texts is in their buffer, if it has the bytes of `text`.
+fn place_of_last<T>(kept: &[Kept<T>], octets: &[u8], text: &[u8]) -> Option<(usize, usize)>
+    requires within { AreWithin octets.now kept.now }
+    // The place is one in the buffer.
+    ensures within { IfSome result (λ p. (p.0 ≤ p.1) × (p.1 ≤ length octets.now)) }
+    // At the place are the bytes of `text`.
+    ensures same { IfSome result (λ p. slice_range octets.now p.0 p.1 ≡ text.now) }
+{
+    let last = kept.get(kept.len().checked_sub(1)?)?;
+    if &octets[last.from..last.to] == text {
+        Some((last.from, last.to))
+    } else {
+        None
     }
 }
 

@@ -19,7 +19,9 @@ use Rattle.stack_engine.proofs.Words.{◌||◌, ◌↔◌, ◌∙◌, ◌∷◌,
 use Rattle.channels.specs.Told.{Sends}
 use Rattle.red_layer.specs.Redundancy.{decoded}
 use Rattle.stack_engine.specs.Pairs.{accepted_events as accepted_of}
-use Rattle.stack_engine.specs.Reports.{Entry as ReportEntry}
+use Rattle.stack_engine.specs.Reports.{Entry as ReportEntry, seen_entry}
+use Rattle.stack_engine.specs.declared.report.Entry.{Entry as CodeEntry}
+use Rattle.stack_engine.proofs.Words.{Past, past_of, PastStands}
 use Rattle.stack_engine.specs.TextPlaces.{AreWithin as AreInside}
 use Rattle.stack_engine.proofs.one.Speaking.{all-append, all-parts, call-put, put_in_by}
 use Rattle.stack_engine.specs.declared.ApplyFault.TheVariants as code
@@ -270,11 +272,11 @@ joins-opened {A} o p opened xs h old new before none =
     ∙ (ap (map joined_of) (no-before o.present (reverse o.before.items) xs old h.present h.before)
     ∙ sym (ap (λ (q : Option (Incarnation A)). joins_with q (map joined_of (reverse o.before.items))) old))))
   where
-    none-stands : (is : List (Incarnation A)) → BeforeStand is [] → is ≡ []
+    none-stands : (is : List (Past A)) → BeforeStand is [] → is ≡ []
     none-stands [] h = refl
     none-stands (i ∷ is) h = absurd h
 
-    no-before : (q : Option (Incarnation A)) (is : List (Incarnation A)) (xs : List EndState) → q ≡ None → PresentStands q xs → BeforeStand is (rest_of xs)
+    no-before : (q : Option (Incarnation A)) (is : List (Past A)) (xs : List EndState) → q ≡ None → PresentStands q xs → BeforeStand is (rest_of xs)
         → is ≡ []
     no-before None is [] e h k = none-stands is k
     no-before None is (x ∷ xs) e h k = absurd h
@@ -422,18 +424,22 @@ ran-before old mid new items i x fault lt is h memory why e =
     untested _ r memory why = cc
 
 -- the latest first
-abbrev pub latest_first : {A : Type 0} → Openings A → List (Incarnation A)
+abbrev pub latest_first : {A : Type 0} → Openings A → List (Past A)
 latest_first o = present_list o.present ++ reverse o.before.items
 
-turned : {A : Type 0} (p : Option (Incarnation A)) (before : List (Incarnation A)) → reverse (present_list p ++ reverse before) ≡ before ++ present_list p
+turned : {A : Type 0} (p : Option (Incarnation A)) (before : List (Past A)) → reverse (present_list p ++ reverse before) ≡ before ++ present_list p
 turned p before = grind (arith, nat_tests, reverse-append, reverse-reverse)
 
-all-stand : {A : Type 0} (p : Option (Incarnation A)) (before : List (Incarnation A)) (xs : List EndState) → PresentStands p xs
+-- without its end an incarnation is kept as an earlier one
+pub past-stands : {A : Type 0} (i : Incarnation A) (x : EndState) → IncStands i x → PastStands (past_of i) x
+past-stands i x h = record { kept = h.kept; put = h.put; taken = h.taken }
+
+all-stand : {A : Type 0} (p : Option (Incarnation A)) (before : List (Past A)) (xs : List EndState) → PresentStands p xs
     → BeforeStand before (rest_of xs) → BeforeStand (present_list p ++ before) xs
 all-stand None before [] h k = k
 all-stand None before (x ∷ xs) h k = absurd h
 all-stand (Some i) before [] h k = absurd h
-all-stand (Some i) before (x ∷ xs) h k = (h, k)
+all-stand (Some i) before (x ∷ xs) h k = (past-stands i x h, k)
 
 map-reverse : {X Y : Type 0} (f : X → Y) (xs : List X) → map f (reverse xs) ≡ reverse (map f xs)
 map-reverse f [] = refl
@@ -442,7 +448,7 @@ map-reverse f (x ∷ xs) =
     ∙ (map-append f (reverse xs) (x ∷ [])
     ∙ (ap (λ ys. ys ++ f x ∷ []) (map-reverse f xs) ∙ sym (reverse-append (f x ∷ []) (map f xs))))
 
-il-entries : {A : Type 0} (is : List (Incarnation A)) (xs : List EndState) → BeforeStand is xs → map il_entry xs ≡ map (entry_of None) is
+il-entries : {A : Type 0} (is : List (Past A)) (xs : List EndState) → BeforeStand is xs → map il_entry xs ≡ map (entry_of None) is
 il-entries [] [] h = refl
 il-entries [] (x ∷ xs) h = absurd h
 il-entries (i ∷ is) [] h = absurd h
@@ -451,18 +457,18 @@ il-entries (i ∷ is) (x ∷ xs) h = grind (arith, h.0.put, h.0.taken, il-entrie
 pub il-report : {A : Type 0} (o : Openings A) (xs : List EndState) → SideStands o xs → reverse (map il_entry xs) ≡ map (entry_of None) (incarnations_of o)
 il-report o xs h = grind (arith, il-entries (latest_first o) xs (all-stand o.present (reverse o.before.items) xs h.present h.before), map-reverse, turned)
 
-fe-entries : {A : Type 0} (is : List (Incarnation A)) (fs : List JoinedEnd) → BeforeStand is (ends_of fs) → map joined_of is ≡ joins_in fs
+fe-entries : {A : Type 0} (is : List (Past A)) (fs : List JoinedEnd) → BeforeStand is (ends_of fs) → map joined_of is ≡ joins_in fs
     → map fe_entry fs ≡ map joined_entry is
 fe-entries [] [] h j = refl
 fe-entries [] (f ∷ fs) h j = absurd h
 fe-entries (i ∷ is) [] h j = absurd h
 fe-entries (i ∷ is) (f ∷ fs) h j = grind (arith, h.0.put, h.0.taken, fe-entries is fs h.1)
 
-none-before : {A : Type 0} (before : List (Incarnation A)) → BeforeStand before [] → before ≡ []
+none-before : {A : Type 0} (before : List (Past A)) → BeforeStand before [] → before ≡ []
 none-before [] h = refl
 none-before (i ∷ is) h = absurd h
 
-joins-all : {A : Type 0} (p : Option (Incarnation A)) (before : List (Incarnation A)) (fs : List JoinedEnd) → PresentStands p (ends_of fs)
+joins-all : {A : Type 0} (p : Option (Incarnation A)) (before : List (Past A)) (fs : List JoinedEnd) → PresentStands p (ends_of fs)
     → BeforeStand before (rest_of (ends_of fs))
     → joins_with p (map joined_of before) ≡ joins_in fs → map joined_of (present_list p ++ before) ≡ joins_in fs
 joins-all p before fs h k l = grind (arith, nat_tests, none-before)
@@ -476,16 +482,16 @@ fe-report o fs h j =
     ∙ (sym (map-reverse joined_entry (latest_first o)) ∙ ap (map joined_entry) (turned o.present o.before.items))
 
 -- how many there are, and one of them
-pub count-by : {A : Type 0} (f : Incarnation A → ReportEntry) (o : Openings A) (es : List ReportEntry) → es ≡ map f (incarnations_of o)
+pub count-by : {A : Type 0} (f : Past A → ReportEntry) (o : Openings A) (es : List ReportEntry) → es ≡ map f (incarnations_of o)
     → length (incarnations_of o) ≡ length es
 count-by f o es e = sym (ap (λ (ds : List ReportEntry). length ds) e ∙ length-map (incarnations_of o) f)
 
-pub entry-by : {A : Type 0} (f : Incarnation A → ReportEntry) (o : Openings A) (es : List ReportEntry) (place : ℕ) → es ≡ map f (incarnations_of o)
+pub entry-by : {A : Type 0} (f : Past A → ReportEntry) (o : Openings A) (es : List ReportEntry) (place : ℕ) → es ≡ map f (incarnations_of o)
     → option_map f (slice_get (incarnations_of o) place) ≡ slice_get es place
 entry-by f o es place e = sym (ap (λ (ds : List ReportEntry). slice_get ds place) e ∙ slice_get-map f (incarnations_of o) place)
 
 -- a place that is not the present one's is that of an earlier one, or of none
-pub not-present : {A : Type 0} (xs : List (Incarnation A)) (p : Option (Incarnation A)) (n : ℕ) → n ≢ length xs → slice_get (xs ++ present_list p) n
+pub not-present : {A : Type 0} (xs : List (Past A)) (p : Option (Incarnation A)) (n : ℕ) → n ≢ length xs → slice_get (xs ++ present_list p) n
     ≡ slice_get xs n
 not-present [] None n h = refl
 not-present [] (Some i) zero h = absurd (h refl)
@@ -493,8 +499,35 @@ not-present [] (Some i) (suc n) h = refl
 not-present (x ∷ xs) p zero h = refl
 not-present (x ∷ xs) p (suc n) h = not-present xs p n (λ e. h (ap suc e))
 
+-- the place after the earlier ones is the present one's
+pub at-present : {A : Type 0} (xs : List (Past A)) (p : Option (Incarnation A)) → slice_get (xs ++ present_list p) (length xs) ≡ option_map past_of p
+at-present [] None = refl
+at-present [] (Some i) = refl
+at-present (x ∷ xs) p = at-present xs p
+
+-- the entry as one that is joined to no other
+abbrev pub unjoined : ReportEntry → ReportEntry
+unjoined e = record { put = e.put; taken = e.taken; joined = None }
+
+pub alone-entry : {A : Type 0} (r : Option (CodeEntry A)) (q : Option (Past A)) → option_map seen_entry r ≡ option_map joined_entry q
+    → option_map unjoined (option_map seen_entry r) ≡ option_map (entry_of None) q
+alone-entry r None h = ap (option_map unjoined) h
+alone-entry r (Some p) h = ap (option_map unjoined) h
+
+-- the end that was present becomes the latest of the earlier ones
+pub opened-side : {A : Type 0} (o p : Openings A) (i opened : Incarnation A) (past : Past A) (x : EndState) (xs : List EndState) → o.present ≡ Some i
+    → SideStands o xs → p.present ≡ Some opened → p.before.items ≡ o.before.items ++ past ∷ [] → ((y : EndState) → IncStands i y → PastStands past y)
+    → IncStands opened x → SideStands p (x ∷ xs)
+opened-side o p i opened past x [] e h now before keeps one = absurd (subst (λ q. PresentStands q []) e h.present)
+opened-side o p i opened past x (y ∷ ys) e h now before keeps one = record {
+  present = subst (λ q. PresentStands q (x ∷ y ∷ ys)) (sym now) one;
+  before = subst (λ ps. BeforeStand (reverse ps) (y ∷ ys)) (sym before)
+      (subst (λ ps. BeforeStand ps (y ∷ ys)) (sym (reverse-append o.before.items (past ∷ [])))
+      (keeps y (subst (λ q. PresentStands q (y ∷ ys)) e h.present), h.before));
+}
+
 -- the search goes on among the first `number` incarnations
-abbrev pub IsLeft : {A : Type 0} → List ℕ → List (Incarnation A) → ℕ → Type 0
+abbrev pub IsLeft : {A : Type 0} → List ℕ → List (Past A) → ℕ → Type 0
 IsLeft octets incs number =
     (xs : List EndState) → BeforeStand (reverse incs) xs → (ys : List EndState) × BeforeStand (reverse (take number incs)) ys
     × (latest_maker octets xs ≡ latest_maker octets ys)
@@ -502,19 +535,23 @@ IsLeft octets incs number =
 one-back : {X : Type 0} (xs : List X) (n : ℕ) (x : X) → n < length xs → x ≡ get_or xs n x → reverse (take (suc n) xs) ≡ x ∷ reverse (take n xs)
 one-back xs n x lt is = ap reverse (take-suc xs n x lt ∙ ap (λ y. take n xs ++ y ∷ []) (sym is)) ∙ reverse-append (take n xs) (x ∷ [])
 
-stand-length : {A : Type 0} (is : List (Incarnation A)) (xs : List EndState) → BeforeStand is xs → length is ≡ length xs
+stand-length : {A : Type 0} (is : List (Past A)) (xs : List EndState) → BeforeStand is xs → length is ≡ length xs
 stand-length [] [] h = refl
 stand-length [] (x ∷ xs) h = absurd h
 stand-length (i ∷ is) [] h = absurd h
 stand-length (i ∷ is) (x ∷ xs) h = ap suc (stand-length is xs h.1)
 
-abbrev pub MadeBy : {A : Type 0} → Bool → List ℕ → Incarnation A → Type 0
-MadeBy made octets i = (x : EndState) → IncStands i x → has_made (rule_of x.settings) octets x.machine.made ≡ made
+abbrev pub MadeBy : {A : Type 0} → Bool → List ℕ → Past A → Type 0
+MadeBy made octets p = (x : EndState) → PastStands p x → has_made (rule_of x.settings) octets x.machine.made ≡ made
 
-pub all-left : {A : Type 0} (octets : List ℕ) (incs : List (Incarnation A)) (n : ℕ) → take n incs ≡ incs → IsLeft octets incs n
+-- the same of the present incarnation
+abbrev pub MadeNow : {A : Type 0} → Bool → List ℕ → Incarnation A → Type 0
+MadeNow made octets i = (x : EndState) → IncStands i x → has_made (rule_of x.settings) octets x.machine.made ≡ made
+
+pub all-left : {A : Type 0} (octets : List ℕ) (incs : List (Past A)) (n : ℕ) → take n incs ≡ incs → IsLeft octets incs n
 all-left octets incs n all = λ xs h. (xs, subst (λ is. BeforeStand (reverse is) xs) (sym all) h, refl)
 
-pub go-back : {A : Type 0} (octets : List ℕ) (incs : List (Incarnation A)) (n : ℕ) (i : Incarnation A) → n < length incs → i ≡ get_or incs n i
+pub go-back : {A : Type 0} (octets : List ℕ) (incs : List (Past A)) (n : ℕ) (i : Past A) → n < length incs → i ≡ get_or incs n i
     → MadeBy false octets i → IsLeft octets incs (suc n) → IsLeft octets incs n
 go-back {A} octets incs n i lt is made left = λ xs h. behind xs (left xs h)
   where
@@ -527,7 +564,7 @@ go-back {A} octets incs n i lt is made left = λ xs h. behind xs (left xs h)
         split [] h same = absurd h
         split (y ∷ ys) h same = (ys, h.1, same ∙ ap (λ (b : Bool). if b then Some (length ys + 1) else latest_maker octets ys) (made y h.0))
 
-pub found : {A : Type 0} (octets : List ℕ) (incs : List (Incarnation A)) (n : ℕ) (i : Incarnation A) → n < length incs → i ≡ get_or incs n i
+pub found : {A : Type 0} (octets : List ℕ) (incs : List (Past A)) (n : ℕ) (i : Past A) → n < length incs → i ≡ get_or incs n i
     → MadeBy true octets i → IsLeft octets incs (suc n)
     → (xs : List EndState) → BeforeStand (reverse incs) xs → latest_maker octets xs ≡ Some (suc n)
 found {A} octets incs n i lt is made left xs h = behind (left xs h)
@@ -546,7 +583,7 @@ found {A} octets incs n i lt is made left xs h = behind (left xs h)
             let number : length ys + 1 ≡ suc n = omega (arith, stand-length (reverse (take n incs)) ys h.1, count) in
             same ∙ (ap (λ (b : Bool). if b then Some (length ys + 1) else latest_maker octets ys) (made y h.0) ∙ ap Some number)
 
-pub none-left : {A : Type 0} (octets : List ℕ) (incs : List (Incarnation A)) → IsLeft octets incs 0 → (xs : List EndState) → BeforeStand (reverse incs) xs
+pub none-left : {A : Type 0} (octets : List ℕ) (incs : List (Past A)) → IsLeft octets incs 0 → (xs : List EndState) → BeforeStand (reverse incs) xs
     → latest_maker octets xs ≡ None
 none-left {A} octets incs left xs h = behind (left xs h)
   where
@@ -558,12 +595,12 @@ none-left {A} octets incs left xs h = behind (left xs h)
     behind (ys, stands, same) = go ys stands same
 
 -- the present incarnation made it, or not
-pub present-made : {A : Type 0} (o : Openings A) (i : Incarnation A) (octets : List ℕ) (xs : List EndState) → o.present ≡ Some i → MadeBy true octets i
+pub present-made : {A : Type 0} (o : Openings A) (i : Incarnation A) (octets : List ℕ) (xs : List EndState) → o.present ≡ Some i → MadeNow true octets i
     → SideStands o xs
     → Some (length o.before.items + 1) ≡ latest_maker octets xs
 present-made o i octets xs h k l = grind (arith, nat_tests, length-reverse, stand-length)
 
-pub present-not : {A : Type 0} (o : Openings A) (i : Incarnation A) (octets : List ℕ) (r : Option ℕ) → o.present ≡ Some i → MadeBy false octets i
+pub present-not : {A : Type 0} (o : Openings A) (i : Incarnation A) (octets : List ℕ) (r : Option ℕ) → o.present ≡ Some i → MadeNow false octets i
     → ((ys : List EndState) → BeforeStand (reverse o.before.items) ys → r ≡ latest_maker octets ys) → (xs : List EndState) → SideStands o xs
     → r ≡ latest_maker octets xs
 present-not o i octets r h k l xs q = grind (arith, nat_tests)

@@ -1,7 +1,7 @@
 use Rattle.std.proofs.Common.{ap, is_ok, length, List, rules, ℕ, ◌++◌, ◌∙◌, ◌≡◌}
 use Rattle.std.specs.Prelude.{if◌then◌else◌}
 use Rattle.stack_engine.proofs.code.Histories.{texts-add}
-use Rattle.stack_engine.proofs.texts.Texts.add.Goals as goal
+use Rattle.stack_engine.proofs.texts.Texts.add_octets.Goals as goal
 
 pub returns-clause-added : goal.returns-clause-added
 returns-clause-added g c =
