@@ -64,12 +64,20 @@ unfoldable pub drops_text : ℕ → List ℕ
 drops_text count = join_pieces (codes "dropped " ∷ decimal count ∷ codes " more datagrams, for causes that are logged" ∷ [])
 
 -- the four bytes of a version, the least significant one of its number first
-abbrev pub version_bytes : ℕ → List ℕ
+unfoldable pub version_bytes : ℕ → List ℕ
 version_bytes n = n / 1 % 256 ∷ n / 256 % 256 ∷ n / 65_536 % 256 ∷ n / 16_777_216 % 256 ∷ []
+
+-- before the version of the peer
+unfoldable pub version_front : List ℕ
+version_front = codes "the peer has another version of RaSTA: "
+
+-- after it: the version of this end
+unfoldable pub version_back : List ℕ
+version_back = codes ", not 0303"
 
 -- the peer has this version of RaSTA
 unfoldable pub other_version_text : ℕ → List ℕ
-other_version_text version = join_pieces (codes "the peer has another version of RaSTA: " ∷ version_bytes version ∷ codes ", not 0303" ∷ [])
+other_version_text version = join_pieces (version_front ∷ version_bytes version ∷ version_back ∷ [])
 
 -- the text of a notice
 abbrev pub notice_text : Notice → List ℕ

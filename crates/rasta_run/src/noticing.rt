@@ -216,12 +216,31 @@ fn write_other_version<W: Write>(writer: &mut W, version: u32) -> io::Result<()>
     // If `write_other_version` succeeds, it has appended the version of the peer and that of this end.
     ensures { OnOk result (Appends (W.contents writer.old) (W.contents writer.new) (noticing.other_version_text version)) }
 {
-    write_text(writer, "the peer has another version of RaSTA: ")?;
+    write_version_front(writer)?;
     writer.write_all(&bytes_of(version))?;
+    write_version_back(writer)
+}
+
+/// Writes what is before the version of the peer.
+#[tactic(auto, unfolding(crate::specs::Noticing::version_front))]
+fn write_version_front<W: Write>(writer: &mut W) -> io::Result<()>
+    // If `write_version_front` succeeds, it has appended the text before the version.
+    ensures { OnOk result (Appends (W.contents writer.old) (W.contents writer.new) noticing.version_front) }
+{
+    write_text(writer, "the peer has another version of RaSTA: ")
+}
+
+/// Writes what is after the version of the peer.
+#[tactic(auto, unfolding(crate::specs::Noticing::version_back))]
+fn write_version_back<W: Write>(writer: &mut W) -> io::Result<()>
+    // If `write_version_back` succeeds, it has appended the text after the version.
+    ensures { OnOk result (Appends (W.contents writer.old) (W.contents writer.new) noticing.version_back) }
+{
     write_text(writer, ", not 0303")
 }
 
 /// Returns the four bytes of a version, from its little-endian number.
+#[tactic(auto, unfolding(crate::specs::Noticing::version_bytes))]
 fn bytes_of(version: u32) -> [u8; 4]
     // `bytes_of` returns the four bytes of the number, the least significant byte first.
     ensures { result ≡ noticing.version_bytes version }
