@@ -54,7 +54,7 @@ impl MadeCounts {
 
     /// Counts one PDU more in place. Those that open or end a connection are not counted.
     fn count_kind(&mut self, kind: Kind)
-        // The count of this type grows by 1, modulo 2^64; the others stay.
+        // In place: the count of this type grows by 1, modulo 2^64, and the others stay.
         ensures { self.new ≡ statistics.with_kind kind self.old }
     {
         match kind {
@@ -142,8 +142,8 @@ impl PartCounts {
     /// Counts a part in place by the machine's step. `waited` is how long before it nothing was confirmed, and `age` how
     /// old the last confirmed timestamp is after it, both in milliseconds.
     pub(crate) fn count_step(&mut self, step: Step, waited: Milliseconds, age: Milliseconds)
-        // The count of this step grows by 1, modulo 2^64. If the PDU was taken, both times become those of this part
-        // if these are greater. All else stays.
+        // In place: the count of this step grows by 1, modulo 2^64, and if the PDU was taken, both times become those of
+        // this part if these are greater. All else stays.
         ensures { self.new ≡ statistics.with_step step waited age self.old }
     {
         match step {
@@ -230,8 +230,8 @@ impl ReceptionCounts {
 
     /// Counts in place a datagram that came at `now`, by the redundancy layer's event, which is `None` at a closed end.
     fn count_event(&mut self, event: Option<RedEvent>, now: Milliseconds)
-        // `received` and the count of this event grow by 1, modulo 2^64. The time becomes `now` if the datagram is a
-        // redundancy PDU that is not too far ahead. All else stays.
+        // In place: `received` and the count of this event grow by 1, modulo 2^64, and the time becomes `now` if the
+        // datagram is a redundancy PDU that is not too far ahead. All else stays.
         ensures { self.exit.now ≡ statistics.with_event event now self.entry.now }
     {
         self.received = self.received.wrapping_add(1);
