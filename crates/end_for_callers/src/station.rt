@@ -59,6 +59,7 @@ pub struct Station {
 
 impl Model for Station {
     ghost use Rattle.std.specs.Prelude.{◌<◌, ◌≤◌, ◌^◌};
+    ghost use Rattle.octets.specs.declared.limits.TheConstants.{TIME_MAX};
     ghost use Rattle.end_for_callers.specs.Calls.{StationValue, seen_end};
     ghost use Rattle.end_for_callers.specs.Loads.{IsReady};
     ghost use Rattle.stack_end.specs.EndValue.{inside};
