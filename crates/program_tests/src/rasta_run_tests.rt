@@ -112,7 +112,11 @@ fn tells_what_stops_a_capture(rt: HostRuntime) -> Result<(), Fail> {
     let ended = run_follow(rt.alloc(), reader, &following, &mut out, &mut err);
     assert_equal(&rt, ended, Status::Refused);
     assert_equal(&rt, out.as_slice(), said.as_bytes());
-    assert_equal(&rt, err.as_slice(), b"fault: file\n".as_slice());
+    assert_equal(
+        &rt,
+        err.as_slice(),
+        b"fault: file\nfile: -: it cannot be read\n".as_slice(),
+    );
     Ok(())
 }
 
@@ -131,7 +135,11 @@ fn tells_what_stops_a_recording(rt: HostRuntime) -> Result<(), Fail> {
     let ended = run_follow(rt.alloc(), reader, &plain_following(), &mut out, &mut err);
     assert_equal(&rt, ended, Status::Refused);
     assert_true(&rt, out.is_empty());
-    assert_equal(&rt, err.as_slice(), b"fault: file\n".as_slice());
+    assert_equal(
+        &rt,
+        err.as_slice(),
+        b"fault: file\nfile: -: it cannot be read\n".as_slice(),
+    );
     Ok(())
 }
 
