@@ -1,4 +1,4 @@
-"""What the tests of the built program share: the choice of the program, and one run of it.
+"""What the tests share: the list of them, the choice of the program, and one run of it.
 
 A test takes its own words, and after `--` the command to run instead of ./rasta. For other words it prints its usage and ends with status 2.
 """
@@ -7,8 +7,16 @@ import re
 import subprocess
 import sys
 import time
+from glob import glob
 
 TOP = os.path.dirname(os.path.dirname(os.path.abspath(__file__)))
+
+
+def scripts():
+    """Returns the path of each test in the repository, by its name: the scripts of tests/ and of its folders whose names have no suffix."""
+    paths = sorted(os.path.relpath(path, TOP) for pattern in ('tests/*', 'tests/*/*') for path in glob(f'{TOP}/{pattern}'))
+    return {os.path.basename(path): path for path in paths
+            if '.' not in os.path.basename(path) and os.path.isfile(f'{TOP}/{path}') and os.access(f'{TOP}/{path}', os.X_OK)}
 
 
 def built():

@@ -8,7 +8,7 @@ USE = re.compile(r'^ *(?:pub )?use ([^;]*);', re.M)
 EXPORTED = re.compile(r'^pub use (\w+)::(?:(\w+)|\{([^}]*)\});', re.M)
 DEFINED = re.compile(r'^(?:pub (?:record|data)|\w+ pub) (\w+)', re.M)
 GHOST_USE = re.compile(r'ghost use Rattle\.(\w+)\.specs\.([\w.]+?)(?:\.\{([^}]*)\}| as (\w+));')
-TRIED = ('wrong',)  # the folders whose edits are tried, by tests/wrong_bodies
+TRIED = ('wrong',)  # the folders whose edits are tried, by tests/gate/wrong_bodies
 EDIT = re.compile(r'^file: (.*)\nold: (.*)$', re.M)
 
 

@@ -72,7 +72,7 @@ class Verdicts:
     def __init__(self, kit, test):
         self.place, self.test = place_of(kit), test
         version = subprocess.run(['rt', 'version'], capture_output=True, text=True).stdout
-        self.common = digest(FORM, version, read(f'{kit}/WHAT'), [read(path) for path in (f'tests/{test}', *SCRIPTS)])
+        self.common = digest(FORM, version, read(f'{kit}/WHAT'), [read(path) for path in (f'tests/gate/{test}', *SCRIPTS)])
         self.statements = {}
 
     def state(self, crate):

@@ -1,4 +1,4 @@
-# Completion of the words of rasta for bash. tests/manuals makes it from the help; do not edit it.
+# Completion of the words of rasta for bash. tests/install/manuals makes it from the help; do not edit it.
 _rasta() {
     local word=${COMP_WORDS[COMP_CWORD]} before=${COMP_WORDS[COMP_CWORD-1]} words
     case ${COMP_WORDS[1]}$before in

@@ -13,7 +13,7 @@
 -- them. They are found at the first visit of a packet and kept by its number, so both passes of tshark show the same. They cover all channels together and
 -- 32 numbers back; for sums and single channels use `rasta follow`. A fault has the name that `rasta show` prints, as an expert info and in the field
 -- `rasta.fault`; the octets after it are shown and not decoded. A PDU with a fault has none of the five, and a repeat no expert info.
--- tests/wireshark compares with `rasta show` and `rasta follow`; it was run with Wireshark 4.0.
+-- tests/compare/wireshark compares with `rasta show` and `rasta follow`; it was run with Wireshark 4.0.
 
 local rasta = Proto("rasta", "Rail Safe Transport Application")
 

@@ -17,7 +17,7 @@ use Rattle.stack_end.specs.EndValue.{statistics_of}
 use Rattle.stack_end.specs.declared.departure.Departure.{Departure}
 use Rattle.bekwidas.specs.Codes.{code_of_fault, code_of_leaver, code_of_outcome, code_of_phase, code_of_state, code_of_version}
 use Rattle.bekwidas.specs.Held.{Became}
-use Rattle.bekwidas.specs.Slots.{NoDatagram, NoTelegram, StaysDatagram, StaysTelegram, Tells, TookDatagram, TookTelegram}
+use Rattle.bekwidas.specs.Slots.{NoDatagram, NoTelegram, StaysDatagram, StaysTelegram, ReturnsFact, TookDatagram, TookTelegram}
 use Rattle.bekwidas.specs.declared.codes.TheConstants.{NOTHING, OK, TOO_SMALL}
 use Rattle.bekwidas.specs.declared.exports.Counts.{Counts}
 use Rattle.bekwidas.specs.declared.exports.PlainDeparture.{PlainDeparture}
@@ -84,15 +84,15 @@ AnswersNextDeadline deadline after code s t =
 
 -- the number of the connection state; the station does not change
 abbrev pub AnswersState : ℤ → StationValue → StationValue → Type 0
-AnswersState = Tells (λ v. code_of_state v.upper.machine.connection)
+AnswersState = ReturnsFact (λ v. code_of_state v.upper.machine.connection)
 
 -- the number of the session phase; the station does not change
 abbrev pub AnswersPhase : ℤ → StationValue → StationValue → Type 0
-AnswersPhase = Tells (λ v. code_of_phase v.upper.session.phase)
+AnswersPhase = ReturnsFact (λ v. code_of_phase v.upper.session.phase)
 
 -- 1 if the end is settled, and 0 if not; the station does not change
 abbrev pub AnswersSettled : ℤ → StationValue → StationValue → Type 0
-AnswersSettled = Tells (λ v. if is_settled v then pos 1 else pos 0)
+AnswersSettled = ReturnsFact (λ v. if is_settled v then pos 1 else pos 0)
 
 -- the numbers of waiting telegrams, waiting datagrams and unsent datagrams; the station does not change
 abbrev pub AnswersCounts : Counts → ℤ → StationValue → StationValue → Type 0
@@ -106,7 +106,7 @@ AnswersStatistics told code s t = (t ≡ s) × (code ≡ OK) × (told ≡ statis
 
 -- 1 if the end is stale, and 0 if not; the station does not change
 abbrev pub AnswersStale : ℤ → StationValue → StationValue → Type 0
-AnswersStale = Tells (λ v. if is_stale v then pos 1 else pos 0)
+AnswersStale = ReturnsFact (λ v. if is_stale v then pos 1 else pos 0)
 
 -- OK and the number of telegrams that are certain; the station does not change
 abbrev pub AnswersConfirmed : ℕ → ℤ → StationValue → StationValue → Type 0

@@ -6,12 +6,12 @@ use denote.RawPtr.{Ptr}
 use Rattle.std.specs.Prelude.{◌≡◌, ℕ, ◌*◌, false, Option, Some, None}
 use Rattle.octets.specs.declared.limits.TheConstants.{PAYLOAD_MAX}
 use Rattle.stack_end.specs.Ends.{new_end}
-use Rattle.stack_end.specs.EndValue.{EndStands}
+use Rattle.stack_end.specs.EndValue.{EndRepresents}
 use Rattle.end_for_callers.specs.Boxes.{Posted, new_outgoing, told_of}
 use Rattle.end_for_callers.specs.Calls.{outbox_of, reserve_of}
 use Rattle.end_for_callers.specs.Queues.{new_queue}
 use Rattle.stack_end.specs.Datagrams.{sent_at_opening}
-use Rattle.end_settings.specs.Configured.{side_of}
+use Rattle.end_settings.specs.ConfigValue.{side_of}
 use Rattle.end_for_callers.specs.Plain.{OpeningSeen, opening_of}
 use Rattle.end_for_callers.specs.declared.plain.PlainSettings.{PlainSettings}
 use Rattle.std.specs.Box.Ownership.{box_owns}
@@ -41,7 +41,7 @@ Became R None after = ⊥
 -- a station that was just opened with these arguments
 pub record IsNew (o : OpeningSeen) (now : ℕ) (s : Held) : Type 0 where
   -- its end is new
-  pub end : EndStands told_of s.end (new_end (side_of o.side) o.config o.first_sn now)
+  pub end : EndRepresents told_of s.end (new_end (side_of o.side) o.config o.first_sn now)
   -- what the opening sends waits, or is counted
   pub sent : Posted (new_outgoing o.rooms.datagrams) (sent_at_opening (new_end (side_of o.side) o.config o.first_sn now)) (outbox_of s)
   -- no telegram waits, and there is the given room

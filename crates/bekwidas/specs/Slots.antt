@@ -15,8 +15,8 @@ TookDatagram channel size buffer after s t =
     TookOldest channel size (outbox_of s).queue buffer (outbox_of t).queue after × SameButDatagrams s t
 
 -- the result is a value of the end's state, and nothing changes
-abbrev pub Tells : {R : Type 0} → (Inside → R) → R → StationValue → StationValue → Type 0
-Tells answer result s t = (t ≡ s) × (result ≡ answer (inside s.end))
+abbrev pub ReturnsFact : {R : Type 0} → (Inside → R) → R → StationValue → StationValue → Type 0
+ReturnsFact answer result s t = (t ≡ s) × (result ≡ answer (inside s.end))
 
 -- the oldest telegram is longer than the buffer: it stays, and its length is returned
 abbrev pub StaysTelegram : (needed : ℕ) (buffer after : List ℕ) → StationValue → StationValue → Type 0

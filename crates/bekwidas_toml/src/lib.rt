@@ -5,10 +5,10 @@
 #![tactic(auto)]
 
 ghost use Rattle.std.specs.Prelude.{◌≡◌, ◌≢◌, IfErr, IfOk, None, Ok, Some, drop, option_map, take, map, string_bytes};
-ghost use Rattle.settings_file.specs.Whole.{file_settings, settings_seen};
+ghost use Rattle.settings_file.specs.FileContents.{file_settings, settings_seen};
 ghost use Rattle.bekwidas_toml.specs.declared.Unread.TheVariants as unread;
 ghost use Rattle.end_for_callers.specs.Plain.{side_in};
-ghost use Rattle.bekwidas_toml.specs.Told.{Addressed, IsUnread, NoFile, Reads, address_of, addresses_in};
+ghost use Rattle.bekwidas_toml.specs.FileContent.{HasAddress, IsUnread, NoFile, ReadsSettings, address_of, addresses_in};
 ghost use Rattle.bekwidas_toml.specs.declared.TheConstants.{NO_MEMORY, NO_SETTINGS, NOTHING, OK, TOO_SMALL};
 
 use end_for_callers::{PlainSettings, Rooms};
@@ -44,8 +44,8 @@ pub extern "C" fn bekr_toml_settings(
     length: &mut usize,
 ) -> i32
     // If the result is OK, the new settings open an end with exactly the content of the file for this side, with
-    // the old rooms (`Reads`). Without a first sequence number in the file they keep the old one.
-    ensures read { result ≡ OK → Reads side text.now settings.old settings.new }
+    // the old rooms (`ReadsSettings`). Without a first sequence number in the file they keep the old one.
+    ensures read { result ≡ OK → ReadsSettings side text.now settings.old settings.new }
     // If the result is `NO_SETTINGS`, the text is not a valid settings file for this side.
     ensures wrong { result ≡ NO_SETTINGS → NoFile side text.now }
     // With any result except OK the settings are unchanged.
@@ -86,10 +86,10 @@ pub extern "C" fn bekr_toml_address(
     address: &mut [u8],
     length: &mut usize,
 ) -> i32
-    // If the result is OK, the bytes written are the address that the file has for this channel (`Addressed`).
-    ensures read { result ≡ OK → Addressed side is_remote channel text.now (Some (take length.new address.new)) }
+    // If the result is OK, the bytes written are the address that the file has for this channel (`HasAddress`).
+    ensures read { result ≡ OK → HasAddress side is_remote channel text.now (Some (take length.new address.new)) }
     // If the result is `NOTHING`, the file has no such channel.
-    ensures nothing { result ≡ NOTHING → Addressed side is_remote channel text.now None }
+    ensures nothing { result ≡ NOTHING → HasAddress side is_remote channel text.now None }
     // `bekr_toml_address` returns `NO_SETTINGS` only for a text that is not a valid settings file for this side.
     ensures wrong { result ≡ NO_SETTINGS → NoFile side text.now }
     // The buffer after the address is unchanged.

@@ -10,6 +10,7 @@ use linked_list_allocator::LocalHeap;
 use octets::copy_of;
 use octets::limits::SAFE_PDU_MAX;
 use safe_machine::{ConnectionState, Machine, MachineConfig, PduOut, Role, Unit, UnitIn};
+use safe_pdu::Identifier;
 use std::alloc::Global;
 
 /// The counts of one end.
@@ -110,7 +111,7 @@ fn tally_of(made: &Counted, units: &Units, state: ConnectionState) -> Tally {
 }
 
 /// Returns the settings of an end: the greatest window, the longest times, and a heartbeat after `mwa` units.
-fn settings(own: u32, peer: u32, code: u32, mwa: u32) -> MachineConfig {
+fn settings(own: Identifier, peer: Identifier, code: u32, mwa: u32) -> MachineConfig {
     MachineConfig {
         own,
         peer,

@@ -2,14 +2,14 @@
 use Rattle.std.specs.Prelude.{ℕ, ◌+◌, ◌*◌, ◌/◌, ◌==◌, ◌&&◌, ◌||◌, Bool, nat_eq, List, if◌then◌else◌, Option, Some, None, Result, Err}
 use Rattle.capture.specs.Places.{big_at, octet_at}
 use Rattle.capture.specs.Packets.{in_ipv4, in_ipv6}
-use Rattle.capture.specs.Wrappings.{is_bridged, kind_at, unwrapped}
-use Rattle.capture.specs.declared.wrapping.TheConstants.{IPV4, IPV6, NOTHING}
+use Rattle.capture.specs.Encapsulations.{is_bridged, kind_at, innermost_packet}
+use Rattle.capture.specs.declared.encapsulation.TheConstants.{IPV4, IPV6, NOTHING}
 use Rattle.capture.specs.declared.frame.Link.{Link}
 use Rattle.capture.specs.declared.frame.Link.TheVariants.{Ethernet, Cooked, Cooked2, Raw, Loopback}
-use Rattle.capture.specs.declared.frame.Found.{Found}
-use Rattle.capture.specs.declared.wrapping.Packet.{Packet}
-use Rattle.capture.specs.declared.frame.Passed.{Passed}
-use Rattle.capture.specs.declared.frame.Passed.TheVariants.{Truncated, NoIp, Tunnel}
+use Rattle.capture.specs.declared.frame.FoundDatagram.{FoundDatagram}
+use Rattle.capture.specs.declared.encapsulation.Packet.{Packet}
+use Rattle.capture.specs.declared.frame.NoDatagramCause.{NoDatagramCause}
+use Rattle.capture.specs.declared.frame.NoDatagramCause.TheVariants.{Truncated, NoIp, Tunnel}
 
 -- The link header of a LINKTYPE number, if it is known.
 abbrev pub link_of : ℕ → Option Link
@@ -22,9 +22,9 @@ link_of number =
     else None
 
 -- The packet after further headers, if there was a packet.
-abbrev pub unwrapped_next : List ℕ → Option Packet → Option Packet
-unwrapped_next octets (Some p) = unwrapped octets p
-unwrapped_next octets None = None
+abbrev pub innermost_of : List ℕ → Option Packet → Option Packet
+innermost_of octets (Some p) = innermost_packet octets p
+innermost_of octets None = None
 
 -- The EtherType of an IP version; `NOTHING` for others.
 abbrev pub version_kind : ℕ → ℕ
@@ -61,28 +61,28 @@ loopback_at octets = loopback_with (big_at 0 octets) (big_at 2 octets)
 
 -- The packet of a frame, by its link header.
 abbrev pub packet_of : Link → List ℕ → Option Packet
-packet_of Ethernet octets = unwrapped_next octets (kind_at 12 14 octets)
-packet_of Cooked octets = unwrapped_next octets (kind_at 14 16 octets)
-packet_of Cooked2 octets = unwrapped_next octets (kind_at 0 20 octets)
+packet_of Ethernet octets = innermost_of octets (kind_at 12 14 octets)
+packet_of Cooked octets = innermost_of octets (kind_at 14 16 octets)
+packet_of Cooked2 octets = innermost_of octets (kind_at 0 20 octets)
 packet_of Raw octets = raw_at octets
 packet_of Loopback octets = loopback_at octets
 
 -- Why a packet of another EtherType is passed over.
-abbrev pub no_packet : ℕ → Passed
+abbrev pub no_packet : ℕ → NoDatagramCause
 no_packet kind = if is_bridged kind then Tunnel else NoIp
 
 -- The datagram in a packet, by its EtherType; any other is passed over.
-abbrev pub in_packet : List ℕ → Packet → Result Found Passed
+abbrev pub in_packet : List ℕ → Packet → Result FoundDatagram NoDatagramCause
 in_packet octets p =
     if p.kind == IPV4 then in_ipv4 octets p.place
     else if p.kind == IPV6 then in_ipv6 octets p.place
     else Err (no_packet p.kind)
 
 -- The datagram in the packet that was found; the frame is truncated if there is none.
-abbrev pub found_with : List ℕ → Option Packet → Result Found Passed
-found_with octets None = Err Truncated
-found_with octets (Some p) = in_packet octets p
+abbrev pub datagram_in_packet : List ℕ → Option Packet → Result FoundDatagram NoDatagramCause
+datagram_in_packet octets None = Err Truncated
+datagram_in_packet octets (Some p) = in_packet octets p
 
 -- The datagram of a frame, or why there is none.
-abbrev pub found_in : Link → List ℕ → Result Found Passed
-found_in link octets = found_with octets (packet_of link octets)
+abbrev pub datagram_in_frame : Link → List ℕ → Result FoundDatagram NoDatagramCause
+datagram_in_frame link octets = datagram_in_packet octets (packet_of link octets)

@@ -28,13 +28,13 @@ abbrev pub is_within : Span → ℕ → ℕ → Bool
 is_within s first time = is_reached s.from first time && is_passed_by s.to first time
 
 -- A number with this many digits after the point, in millionths.
-abbrev pub scaled : Option ℕ → ℕ → Option ℕ
-scaled (Some n) size = Some (n * 1000000 / ten_to size)
-scaled None size = None
+abbrev pub millionths_of : Option ℕ → ℕ → Option ℕ
+millionths_of (Some n) size = Some (n * 1000000 / ten_to size)
+millionths_of None size = None
 
 -- The whole microseconds of a fraction of one to nine digits.
 abbrev pub fraction_of : List ℕ → Option ℕ
-fraction_of digits = if nat_lt 9 (length digits) then None else scaled (number_of 999999999 digits) (length digits)
+fraction_of digits = if nat_lt 9 (length digits) then None else millionths_of (number_of 999999999 digits) (length digits)
 
 -- The microseconds of a number of seconds.
 abbrev pub micros_of : Option ℕ → Option ℕ

@@ -3,7 +3,7 @@ use Rattle.std.specs.Prelude.{◌≤◌, ℕ, ◌+◌, ◌-◌, ◌*◌, ◌/◌
 use Rattle.std.specs.List.{position}
 use Rattle.capture.specs.Frames.{link_of}
 use Rattle.capture.specs.Places.{four_at, long_at, short_at}
-use Rattle.capture.specs.Times.{is_unit, moved_by, offset_of, resolution_of, tick_micros}
+use Rattle.capture.specs.Times.{is_unit, add_offset, offset_of, resolution_of, tick_micros}
 use Rattle.capture.specs.declared.frame.Link.{Link}
 use Rattle.capture.specs.declared.interfaces.Interface.{Interface}
 use Rattle.capture.specs.declared.file.TheConstants.{BLOCK_MAX, INTERFACES, SECTION, SKIPPED_AT_ONCE}
@@ -20,25 +20,25 @@ use Rattle.capture.specs.declared.file.Recording.{Recording}
 use Rattle.capture.specs.declared.file.Step.{Step}
 
 -- No interface is known.
-abbrev pub none_described : List (Option Interface)
-none_described = replicate INTERFACES None
+abbrev pub no_interfaces : List (Option Interface)
+no_interfaces = replicate INTERFACES None
 
 -- The state before the first block.
-abbrev pub opened : Recording
-opened = record { part = Start; interfaces = none_described; last = 0 }
+abbrev pub new_recording : Recording
+new_recording = record { part = Start; interfaces = no_interfaces; last = 0 }
 
 -- How many bytes the next block has.
-abbrev pub wanted : FilePart → ℕ
-wanted Start = 4
-wanted (Head form) = 20
-wanted (Record form link) = 16
-wanted (Body form link time size whole) = size
-wanted Section = 4
-wanted (Order size) = 4
-wanted (Opening big size) = size - 12
-wanted (Block big) = 8
-wanted (Rest big kind size) = size - 8
-wanted (Skipped big left size) = if nat_eq left 0 then 4 else min left SKIPPED_AT_ONCE
+abbrev pub next_size : FilePart → ℕ
+next_size Start = 4
+next_size (Head form) = 20
+next_size (Record form link) = 16
+next_size (Body form link time size whole) = size
+next_size Section = 4
+next_size (Order size) = 4
+next_size (Opening big size) = size - 12
+next_size (Block big) = 8
+next_size (Rest big kind size) = size - 8
+next_size (Skipped big left size) = if nat_eq left 0 then 4 else min left SKIPPED_AT_ONCE
 
 -- A frame is within this many bytes, and its start is not after its end.
 abbrev pub IsWithin : ℕ → BlockContent → Type 0
@@ -47,8 +47,8 @@ IsWithin size event.Nothing = Unit {0}
 IsWithin size event.Text = Unit {0}
 
 -- A frame is within the bytes of its block.
-abbrev pub EndsWithin : List ℕ → BlockContent → Type 0
-EndsWithin octets content = IsWithin (length octets) content
+abbrev pub IsWithinBlock : List ℕ → BlockContent → Type 0
+IsWithinBlock octets content = IsWithin (length octets) content
 
 -- A step to this part, without content.
 abbrev pub part_after : FilePart → Step
@@ -220,8 +220,8 @@ abbrev pub interface_step : List (Option Interface) → Bool → List ℕ → Re
 interface_step interfaces big inner = interface_with interfaces big inner (short_at big 0 inner) (long_at big 4 inner)
 
 -- The interface with this number.
-abbrev pub described : List (Option Interface) → ℕ → Option Interface
-described interfaces number = if nat_lt number INTERFACES then slice_index_or interfaces number None else None
+abbrev pub interface_at : List (Option Interface) → ℕ → Option Interface
+interface_at interfaces number = if nat_lt number INTERFACES then slice_index_or interfaces number None else None
 
 -- The step of a packet of this interface, whose frame starts at byte 20.
 abbrev pub frame_on : Option Interface → Bool → ℕ → ℕ → ℕ → ℕ → Result Step FileFault
@@ -234,7 +234,7 @@ frame_on (Some interface) big high low size original =
           event.Frame
           (record {
             link = interface.link;
-            time = moved_by interface.offset (tick_micros interface.resolution high low);
+            time = add_offset interface.offset (tick_micros interface.resolution high low);
             start = 20;
             end = 20 + size;
             whole = nat_le original size;
@@ -250,7 +250,7 @@ frame_for interface big high low size original room =
 -- A packet with these fields.
 abbrev pub packet_with : List (Option Interface) → Bool → ℕ → Option ℕ → Option ℕ → Option ℕ → Option ℕ → Option ℕ → Result Step FileFault
 packet_with interfaces big long (Some number) (Some high) (Some low) (Some size) (Some original) =
-    frame_for (described interfaces number) big high low size original (long - 20)
+    frame_for (interface_at interfaces number) big high low size original (long - 20)
 packet_with interfaces big long _ _ _ _ _ = Err fault.Length
 
 -- The step of an enhanced packet: interface, time, recorded size, original size.
@@ -295,7 +295,7 @@ simple_with interface last big long None = Err fault.Length
 
 -- The step of a simple packet, which is of the first interface.
 abbrev pub simple_step : List (Option Interface) → ℕ → Bool → List ℕ → Result Step FileFault
-simple_step interfaces last big inner = simple_with (described interfaces 0) last big (length inner) (long_at big 0 inner)
+simple_step interfaces last big inner = simple_with (interface_at interfaces 0) last big (length inner) (long_at big 0 inner)
 
 -- The step of a block by its type; any other block is skipped.
 abbrev pub inner_step : Recording → Bool → ℕ → List ℕ → Result Step FileFault
@@ -335,15 +335,15 @@ event_of (Ok s) = Ok s.event
 event_of (Err fault) = Err fault
 
 -- The interfaces with one more at this place.
-abbrev pub added_at : Option ℕ → Interface → List (Option Interface) → List (Option Interface)
-added_at (Some place) interface interfaces = slice_set interfaces place (Some interface)
-added_at None interface interfaces = interfaces
+abbrev pub add_interface_at : Option ℕ → Interface → List (Option Interface) → List (Option Interface)
+add_interface_at (Some place) interface interfaces = slice_set interfaces place (Some interface)
+add_interface_at None interface interfaces = interfaces
 
 -- The interfaces after a change.
 abbrev pub interfaces_after : List (Option Interface) → Change → List (Option Interface)
 interfaces_after interfaces Keep = interfaces
-interfaces_after interfaces Clear = none_described
-interfaces_after interfaces (Add interface) = added_at (at_first_free interfaces) interface interfaces
+interfaces_after interfaces Clear = no_interfaces
+interfaces_after interfaces (Add interface) = add_interface_at (at_first_free interfaces) interface interfaces
 
 -- The time of the last frame after a block.
 abbrev pub last_after : ℕ → BlockContent → ℕ
@@ -352,7 +352,7 @@ last_after last event.Nothing = last
 last_after last event.Text = last
 
 -- The recording after a step; a fault changes nothing.
-abbrev pub going_on : Recording → Result Step FileFault → Recording
-going_on r (Ok s) =
+abbrev pub recording_after : Recording → Result Step FileFault → Recording
+recording_after r (Ok s) =
     record { part = s.part; interfaces = interfaces_after r.interfaces s.change; last = last_after r.last s.event }
-going_on r (Err fault) = r
+recording_after r (Err fault) = r

@@ -5,23 +5,23 @@ use Rattle.safe_pdu.specs.declared.Leaving.{Leaving}
 use Rattle.capture.specs.declared.direction.TheConstants.{CHANNELS}
 use Rattle.capture.specs.declared.direction.Remarks.{Remarks}
 use Rattle.capture.specs.declared.sessions.TheConstants.{SESSIONS, TIMEOUT}
-use Rattle.capture.specs.declared.sessions.Asking.{Asking}
-use Rattle.capture.specs.declared.sessions.Parting.{Parting}
+use Rattle.capture.specs.declared.sessions.SessionRequest.{SessionRequest}
+use Rattle.capture.specs.declared.sessions.Disconnection.{Disconnection}
 use Rattle.capture.specs.declared.sessions.Session.{Session}
 use Rattle.capture.specs.declared.sessions.SessionTotals.{SessionTotals}
 use Rattle.capture.specs.declared.sessions.Sessions.{Sessions}
 use Rattle.capture.specs.declared.sessions.Side.{Side}
 use Rattle.capture.specs.declared.window.NumberOrder.{NumberOrder}
 use Rattle.capture.specs.declared.window.NumberOrder.TheVariants.{Ahead, Late, Repeat}
-use Rattle.capture.specs.Following.{greatest_of, is_new, is_request}
-use Rattle.capture.specs.Numbers.{counted}
+use Rattle.capture.specs.Directions.{greatest_of, is_new, is_request}
+use Rattle.capture.specs.Numbers.{limited_sum}
 
 -- An end that has sent nothing in a session.
 abbrev pub open_side : Side
 open_side = record { left = None; longest = 0; missing = replicate CHANNELS 0; lost = 0; resent = 0; repeats = 0 }
 
 -- A session with this number before its first PDU.
-abbrev pub open_session : ℕ → Option Asking → Option ℕ → Session
+abbrev pub open_session : ℕ → Option SessionRequest → Option ℕ → Session
 open_session number asked up = record { number = number; asked = asked; up = up; low = open_side; high = open_side }
 
 -- Sums over no session.
@@ -39,7 +39,7 @@ one_if false = 0
 
 -- The numbers that are missing, after a number that followed in this way: a gap adds those it skips, and a late number takes itself away.
 abbrev pub missing_after : ℕ → NumberOrder → ℕ
-missing_after missing (Ahead passed) = counted missing passed
+missing_after missing (Ahead passed) = limited_sum missing passed
 missing_after missing Late = missing - 1
 missing_after missing _ = missing
 
@@ -55,30 +55,30 @@ is_doubled (Some (Repeat line)) = true
 is_doubled _ = false
 
 -- The DiscReq of a PDU.
-abbrev pub parting_in : ℕ → Bool → Option Leaving → Option Parting
-parting_in time follows None = None
-parting_in time follows (Some leaving) = Some (record { time = time; leaving = leaving; follows = follows })
+abbrev pub disconnection_in : ℕ → Bool → Option Leaving → Option Disconnection
+disconnection_in time follows None = None
+disconnection_in time follows (Some leaving) = Some (record { time = time; leaving = leaving; follows = follows })
 
 -- The DiscReq of a PDU, if the PDU is new.
-abbrev pub parting_if : Bool → ℕ → Bool → Option Leaving → Option Parting
-parting_if true time follows leaving = parting_in time follows leaving
-parting_if false time follows leaving = None
+abbrev pub disconnection_if : Bool → ℕ → Bool → Option Leaving → Option Disconnection
+disconnection_if true time follows leaving = disconnection_in time follows leaving
+disconnection_if false time follows leaving = None
 
 -- The first DiscReq of an end in a session. Copies of it do not count.
-abbrev pub parted : Option Parting → ℕ → Bool → Remarks → Option Parting
-parted (Some parting) time follows m = Some parting
-parted None time follows m = parting_if (is_new m.together) time follows m.leaving
+abbrev pub first_disconnection : Option Disconnection → ℕ → Bool → Remarks → Option Disconnection
+first_disconnection (Some parting) time follows m = Some parting
+first_disconnection None time follows m = disconnection_if (is_new m.together) time follows m.leaving
 
 -- What an end did in a session, after one more of its PDUs.
 abbrev pub side_after : Side → ℕ → Bool → Remarks → Side
 side_after s time follows m =
     record {
-      left = parted s.left time follows m;
+      left = first_disconnection s.left time follows m;
       longest = greatest_of m.waits s.longest;
       missing = missing_on s.missing m.route m.channel;
       lost = missing_after s.lost m.together;
-      resent = counted s.resent (one_if (is_new m.together && m.resent));
-      repeats = counted s.repeats (one_if (is_doubled m.channel));
+      resent = limited_sum s.resent (one_if (is_new m.together && m.resent));
+      repeats = limited_sum s.repeats (one_if (is_doubled m.channel));
     }
 
 -- The session after a PDU of the end with the lower identifier (`true`), or of the other end.
@@ -88,7 +88,7 @@ session_after false s time m = record s { high = side_after s.high time (is_some
 
 -- A sum with the datagrams that one channel lost, apart from the numbers that all channels lost.
 abbrev pub with_alone : ℕ → ℕ → ℕ → ℕ
-with_alone lost sum missing = counted sum (missing - lost)
+with_alone lost sum missing = limited_sum sum (missing - lost)
 
 -- How many datagrams of an end single channels lost whose PDU came on another channel.
 abbrev pub alone_of : Side → ℕ
@@ -96,18 +96,18 @@ alone_of s = fold (λ sum missing. with_alone s.lost sum missing) 0 s.missing
 
 -- The same of both ends of a session.
 abbrev pub alone_in : Session → ℕ
-alone_in s = counted (alone_of s.low) (alone_of s.high)
+alone_in s = limited_sum (alone_of s.low) (alone_of s.high)
 
 -- How many PDUs of both ends came on no channel.
 abbrev pub lost_in_session : Session → ℕ
-lost_in_session s = counted s.low.lost s.high.lost
+lost_in_session s = limited_sum s.low.lost s.high.lost
 
 -- The end that did not ask has sent no DiscReq.
-abbrev pub is_other_silent : Asking → Session → Bool
+abbrev pub is_other_silent : SessionRequest → Session → Bool
 is_other_silent asked s = if asked.by_low then is_none s.high.left else is_none s.low.left
 
 -- An opening was recorded, and neither a ConnResp nor a DiscReq of the other end after it.
-abbrev pub is_unanswered_by : Option Asking → Session → Bool
+abbrev pub is_unanswered_by : Option SessionRequest → Session → Bool
 is_unanswered_by None s = false
 is_unanswered_by (Some asked) s = is_none s.up && is_other_silent asked s
 
@@ -116,41 +116,41 @@ abbrev pub is_unanswered_in : Session → Bool
 is_unanswered_in s = is_unanswered_by s.asked s
 
 -- An end left because nothing recent was confirmed in time.
-abbrev pub is_timeout : Option Parting → Bool
+abbrev pub is_timeout : Option Disconnection → Bool
 is_timeout None = false
 is_timeout (Some parting) = parting.leaving.reason == TIMEOUT
 
 -- The sums with one more session.
-abbrev pub session_counted : SessionTotals → Session → SessionTotals
-session_counted t s =
+abbrev pub count_session : SessionTotals → Session → SessionTotals
+count_session t s =
     record {
-      up = counted t.up (one_if (is_some s.up));
-      unanswered = counted t.unanswered (one_if (is_unanswered_in s));
-      left = counted t.left (one_if (is_some s.low.left || is_some s.high.left));
-      timeouts = counted t.timeouts (one_if (is_timeout s.low.left || is_timeout s.high.left));
-      alone = counted t.alone (alone_in s);
+      up = limited_sum t.up (one_if (is_some s.up));
+      unanswered = limited_sum t.unanswered (one_if (is_unanswered_in s));
+      left = limited_sum t.left (one_if (is_some s.low.left || is_some s.high.left));
+      timeouts = limited_sum t.timeouts (one_if (is_timeout s.low.left || is_timeout s.high.left));
+      alone = limited_sum t.alone (alone_in s);
     }
 
 -- The sums over all sessions of a connection.
 abbrev pub session_sums : Sessions → SessionTotals
-session_sums ss = if nat_eq ss.current.number 0 then ss.ended else session_counted ss.ended ss.current
+session_sums ss = if nat_eq ss.current.number 0 then ss.ended else count_session ss.ended ss.current
 
 -- The sessions with the current one among those that have ended; the oldest kept one gives way to it.
-abbrev pub ended_in : Sessions → Sessions
-ended_in ss =
+abbrev pub end_current : Sessions → Sessions
+end_current ss =
     if nat_eq ss.current.number 0 then ss
     else
     record ss {
       past = slice_set ss.past (ss.current.number % SESSIONS) (Some ss.current);
-      ended = session_counted ss.ended ss.current;
+      ended = count_session ss.ended ss.current;
     }
 
 -- The sessions after the start of the next one.
-abbrev pub begun : Sessions → Option Asking → Option ℕ → Sessions
-begun ss asked up = record (ended_in ss) { current = open_session (counted ss.current.number 1) asked up }
+abbrev pub start_session : Sessions → Option SessionRequest → Option ℕ → Sessions
+start_session ss asked up = record (end_current ss) { current = open_session (limited_sum ss.current.number 1) asked up }
 
 -- The session was asked for by the other end.
-abbrev pub is_asked_by_other : Option Asking → Bool → Bool
+abbrev pub is_asked_by_other : Option SessionRequest → Bool → Bool
 is_asked_by_other None from_low = false
 is_asked_by_other (Some asked) from_low = if from_low then not asked.by_low else asked.by_low
 
@@ -159,21 +159,21 @@ abbrev pub is_awaited_in : Session → Bool → Bool
 is_awaited_in s from_low = is_none s.up && is_asked_by_other s.asked from_low
 
 -- The sessions after an opening: a ConnReq starts one, and so does a ConnResp that the current one does not await.
-abbrev pub sessions_opened : Sessions → Bool → ℕ → Kind → Sessions
-sessions_opened ss from_low time kind =
-    if is_request kind then begun ss (Some (record { time = time; by_low = from_low })) None
+abbrev pub sessions_after_opening : Sessions → Bool → ℕ → Kind → Sessions
+sessions_after_opening ss from_low time kind =
+    if is_request kind then start_session ss (Some (record { time = time; by_low = from_low })) None
     else if is_awaited_in ss.current from_low then record ss { current = record ss.current { up = Some time } }
-    else begun ss None (Some time)
+    else start_session ss None (Some time)
 
 -- The sessions before a PDU is counted; the first PDU of a connection starts one, even if it is not an opening.
-abbrev pub sessions_begun : Bool → Sessions → Bool → ℕ → Kind → Sessions
-sessions_begun true ss from_low time kind = sessions_opened ss from_low time kind
-sessions_begun false ss from_low time kind = if nat_eq ss.current.number 0 then begun ss None None else ss
+abbrev pub begin_sessions : Bool → Sessions → Bool → ℕ → Kind → Sessions
+begin_sessions true ss from_low time kind = sessions_after_opening ss from_low time kind
+begin_sessions false ss from_low time kind = if nat_eq ss.current.number 0 then start_session ss None None else ss
 
 -- The sessions with a PDU counted in the current one.
-abbrev pub sessions_counted : Sessions → Bool → ℕ → Remarks → Sessions
-sessions_counted ss from_low time m = record ss { current = session_after from_low ss.current time m }
+abbrev pub count_in_sessions : Sessions → Bool → ℕ → Remarks → Sessions
+count_in_sessions ss from_low time m = record ss { current = session_after from_low ss.current time m }
 
 -- The sessions of a connection after a PDU with these remarks.
 abbrev pub sessions_after : Sessions → Bool → ℕ → Kind → Remarks → Sessions
-sessions_after ss from_low time kind m = sessions_counted (sessions_begun m.opens ss from_low time kind) from_low time m
+sessions_after ss from_low time kind m = count_in_sessions (begin_sessions m.opens ss from_low time kind) from_low time m

@@ -30,14 +30,14 @@ option_step big code size inner (Found place) = Found place
 option_step big code size inner Ended = Ended
 
 -- The place that a walk found.
-abbrev pub found_at : Walk → Option ℕ
-found_at (Found place) = Some place
-found_at (At place) = None
-found_at Ended = None
+abbrev pub walk_place : Walk → Option ℕ
+walk_place (Found place) = Some place
+walk_place (At place) = None
+walk_place Ended = None
 
 -- The place of the value of the first option with this code and size in a description, from the eighth byte on.
 abbrev pub option_of : Bool → ℕ → ℕ → List ℕ → Option ℕ
-option_of big code size inner = found_at (fold (λ walk octet. option_step big code size inner walk) (At 8) inner)
+option_of big code size inner = walk_place (fold (λ walk octet. option_step big code size inner walk) (At 8) inner)
 
 -- A unit that was read; microseconds (6) if there is none.
 abbrev pub unit_or_micros : Option ℕ → ℕ
@@ -77,9 +77,9 @@ abbrev pub offset_of : Bool → List ℕ → TimeOffset
 offset_of big inner = offset_at big inner (option_of big 14 8 inner)
 
 -- A time with an offset, in microseconds.
-abbrev pub moved_by : TimeOffset → ℕ → ℕ
-moved_by (Later seconds) micros = above micros (min (seconds * 1000000) (2 ^ 64 - 1))
-moved_by (Earlier seconds) micros = micros - min (seconds * 1000000) (2 ^ 64 - 1)
+abbrev pub add_offset : TimeOffset → ℕ → ℕ
+add_offset (Later seconds) micros = above micros (min (seconds * 1000000) (2 ^ 64 - 1))
+add_offset (Earlier seconds) micros = micros - min (seconds * 1000000) (2 ^ 64 - 1)
 
 -- The units in which times can be read: 10^0 to 10^-19 seconds, and 2^0 to 2^-40.
 abbrev pub is_unit : ℕ → Bool

@@ -7,17 +7,18 @@
 
 ghost use Rattle.std.specs.Prelude.{◌≡◌, ◌+◌, ◌<◌, ◌≤◌, ◌==◌, ◌&&◌, ◌++◌, ◌∷◌, [], length, IfOk, IfSome, reverse, slice_index_or, vec_capacity, vec_len};
 ghost use Rattle.std.specs.List.{position, remove};
-ghost use Rattle.capture.specs.Whole.{forgets};
-ghost use Rattle.capture.specs.Connecting.{behind_found, behind_of, channel_of, connection_after, connection_damaged, connection_remarks, damage_noted, damaged_at, ends_of, forgotten_place, found, has_channel, has_ends, is_between, is_closed, is_continued, is_from_low, is_held, is_known, is_same_address, is_same_host, is_source_low, known_place_of, left, opened, room_made, route_from, route_place_of, routes_after, step, step_remarks, taken, way_followed, way_remarks};
+ghost use Rattle.capture.specs.WholeCapture.{forgets_connection};
+ghost use Rattle.capture.specs.Connections.{place_from_end, behind_of, channel_of, connection_after, count_connection_damage, connection_remarks, count_damaged_datagram, count_damage_at, ends_of, forgotten_place, connection_place, has_channel, has_ends, is_between, is_closed, is_continued, is_from_low, is_held, is_known, is_same_address, is_same_host, is_source_low, known_place_of, other_connections, new_connection, with_room, route_from, route_place_of, routes_after, step, step_remarks, connection_of, follow_way_pdu, way_remarks};
 
-use crate::belonging::goes_on;
+use crate::continuation::goes_on;
+use crate::datagram::Header;
 use crate::direction::{
     CHANNELS, Damage, Direction, Place, Remarks, follow_pdu, keep_damage, see_peer,
 };
-use crate::heard::Header;
 use crate::line::{Address, Host, Record};
 use crate::measures::{Measures, note_measures};
 use crate::sessions::{Sessions, note_session};
+use safe_pdu::Identifier;
 use std::alloc::{AllocError, Global};
 use std::marker::Model;
 
@@ -58,7 +59,7 @@ impl Default for Connection {
     /// Returns a connection without PDUs.
     fn default() -> Self
         // The default connection has the identifiers 0 and 0, and no PDU.
-        ensures { result ≡ opened 0 0 }
+        ensures { result ≡ new_connection 0 0 }
     {
         open(0, 0)
     }
@@ -84,7 +85,7 @@ impl Entry {
     /// Makes it a connection between two ends without PDUs.
     fn reopen(&mut self, low: u32, high: u32)
         // The connection is new, whatever it was before.
-        ensures { self.new ≡ opened low high }
+        ensures { self.new ≡ new_connection low high }
     {
         *self.connection = open(low, high);
     }
@@ -161,11 +162,11 @@ pub fn follow(
     header: &Header,
 ) -> Remarks
     // The remarks are those in the PDU's own connection, a new one if none has its identifiers and addresses and it
-    // goes on with none (`step_remarks`, `found`).
+    // goes on with none (`step_remarks`, `connection_place`).
     ensures remarks { result ≡ step_remarks connections.old line record.now seq header.now }
     // The PDU's connection changes and is then the last; no other one that stays changes. If there are
     // `CONNECTIONS` and it is a further one, the first that an end has left is forgotten, or else the first
-    // (`room_made`). A channel is a pair of addresses in either direction. A fifth channel of a connection is not distinguished (`routes_after`, `channel_of`).
+    // (`with_room`). A channel is a pair of addresses in either direction. A fifth channel of a connection is not distinguished (`routes_after`, `channel_of`).
     ensures step { connections.new ≡ step connections.old line record.now seq header.now }
 {
     bring_to_end(connections, record, header);
@@ -191,8 +192,8 @@ fn follow_entry(entry: &mut Entry, line: u64, record: &Record, seq: u32, header:
 
 /// Returns `true` if a PDU needs a further connection and one must be forgotten.
 pub(crate) fn has_no_room(connections: &Connections, record: &Record, header: &Header) -> bool
-    // The result is true exactly if `CONNECTIONS` are kept and none is the PDU's (`found`).
-    ensures { result ≡ forgets connections.now record.now header.now }
+    // The result is true exactly if `CONNECTIONS` are kept and none is the PDU's (`connection_place`).
+    ensures { result ≡ forgets_connection connections.now record.now header.now }
 {
     if connections.list.len() < CONNECTIONS {
         return false;
@@ -202,9 +203,9 @@ pub(crate) fn has_no_room(connections: &Connections, record: &Record, header: &H
 
 /// Moves the connection of a PDU to the end of the list, or adds a new one.
 fn bring_to_end(connections: &mut Connections, record: &Record, header: &Header)
-    // The list is the others that stay, in order, then the connection of the PDU, new if there was none (`left`,
-    // `taken`).
-    ensures { connections.new ≡ left header.now record.now connections.old ++ taken header.now record.now connections.old ∷ [] }
+    // The list is the others that stay, in order, then the connection of the PDU, new if there was none (`other_connections`,
+    // `connection_of`).
+    ensures { connections.new ≡ other_connections header.now record.now connections.old ++ connection_of header.now record.now connections.old ∷ [] }
 {
     match place(connections.list.as_slice(), record, header) {
         Some(place) => move_to_end(&mut connections.list, place),
@@ -221,7 +222,7 @@ fn bring_to_end(connections: &mut Connections, record: &Record, header: &Header)
 fn move_to_end(list: &mut Vec<Entry>, place: usize)
     requires { place < vec_len list.old }
     // The list is the others in order, then the connection at `place`.
-    ensures items { list.new.items ≡ remove list.old.items place ++ slice_index_or list.old.items place (opened 0 0) ∷ [] }
+    ensures items { list.new.items ≡ remove list.old.items place ++ slice_index_or list.old.items place (new_connection 0 0) ∷ [] }
     // The list has as many connections as before.
     ensures len { vec_len list.new ≡ vec_len list.old }
     // The room of the list does not become less.
@@ -248,7 +249,7 @@ fn push(list: &mut Vec<Entry>, entry: Entry)
 }
 
 /// Returns the identifiers of two ends, the lower one first.
-fn ends(sender: u32, receiver: u32) -> (u32, u32)
+fn ends(sender: Identifier, receiver: Identifier) -> (Identifier, Identifier)
     // The pair is sorted: the lower identifier is the first (`ends_of`).
     ensures { result ≡ ends_of sender receiver }
 {
@@ -262,8 +263,8 @@ fn ends(sender: u32, receiver: u32) -> (u32, u32)
 /// Returns the place of the connection of a PDU.
 fn place(list: &[Entry], record: &Record, header: &Header) -> Option<usize>
     // The place is that of the last connection between the PDU's ends with its channel, or else of the last one that it
-    // goes on with (`found`).
-    ensures value { result ≡ found header.now record.now list.now }
+    // goes on with (`connection_place`).
+    ensures value { result ≡ connection_place header.now record.now list.now }
     // The place of a connection is within the list.
     ensures bound { IfSome result (λ place. place < length list.now) }
 {
@@ -275,8 +276,8 @@ fn place(list: &[Entry], record: &Record, header: &Header) -> Option<usize>
 
 /// Returns how many connections come after the one of a PDU.
 fn behind_pdu(list: &[Entry], record: &Record, header: &Header) -> Option<usize>
-    // The number counts from the end of the list; `None` if the PDU begins a connection (`behind_found`).
-    ensures value { result ≡ behind_found header.now record.now list.now }
+    // The number counts from the end of the list; `None` if the PDU begins a connection (`place_from_end`).
+    ensures value { result ≡ place_from_end header.now record.now list.now }
     // The number is below the length of the list, so that it names a connection.
     ensures bound { IfSome result (λ behind. behind < length list.now) }
 {
@@ -382,7 +383,7 @@ fn is_left(connection: &Connection) -> bool
 fn free_entry(list: &mut Vec<Entry>, spare: &mut Vec<Entry>) -> Entry
     requires { vec_len list.old + vec_len spare.old ≡ CONNECTIONS }
     // A full list loses the connection that is forgotten; any other list does not change.
-    ensures left { list.new.items ≡ room_made list.old.items }
+    ensures left { list.new.items ≡ with_room list.old.items }
     // The entry is missing in one of both lists.
     ensures taken { vec_len list.new + vec_len spare.new + 1 ≡ CONNECTIONS }
     // The list keeps its room.
@@ -400,7 +401,7 @@ fn free_entry(list: &mut Vec<Entry>, spare: &mut Vec<Entry>) -> Entry
 /// Returns a connection between two ends without PDUs.
 fn open(low: u32, high: u32) -> Connection
     // The connection has the identifiers `low` and `high`, no time and no channels, and both directions are empty.
-    ensures { result ≡ opened low high }
+    ensures { result ≡ new_connection low high }
 {
     Connection {
         low,
@@ -460,8 +461,8 @@ fn follow_way(
 ) -> Remarks
     // The remarks are those in the direction of the end, by what the other end said (`way_remarks`).
     ensures remarks { result ≡ way_remarks from_low connection.old place seq header.now }
-    // Only the direction of the end changes (`way_followed`).
-    ensures followed { connection.new ≡ way_followed from_low connection.old place seq header.now }
+    // Only the direction of the end changes (`follow_way_pdu`).
+    ensures followed { connection.new ≡ follow_way_pdu from_low connection.old place seq header.now }
 {
     if from_low {
         let peer = see_peer(&connection.from_high, header);
@@ -554,7 +555,7 @@ fn joins(route: &Route, record: &Record) -> bool
 pub(crate) fn note_damage(connections: &mut Connections, record: &Record, damage: Option<Damage>)
     // The count of damage on that channel grows, and the `damage` is kept, in the last connection that has it; without
     // one, nothing changes (`damage_at`).
-    ensures { connections.new ≡ damage_noted connections.old record.now damage }
+    ensures { connections.new ≡ count_damaged_datagram connections.old record.now damage }
 {
     if let Some(behind) = behind(connections.list.as_slice(), record) {
         let place = connections.list.len() - 1 - behind;
@@ -564,8 +565,8 @@ pub(crate) fn note_damage(connections: &mut Connections, record: &Record, damage
 
 /// Counts a datagram that is not a PDU in the connection of an entry.
 fn damage_entry(entry: &mut Entry, record: &Record, damage: Option<Damage>)
-    // The connection changes as `connection_damaged` says.
-    ensures { entry.new ≡ connection_damaged entry.old record.now damage }
+    // The connection changes as `count_connection_damage` says.
+    ensures { entry.new ≡ count_connection_damage entry.old record.now damage }
 {
     damage_connection(&mut entry.connection, record, damage);
 }
@@ -614,8 +615,8 @@ fn knows(route: &Option<Route>, record: &Record) -> bool
 /// Counts a datagram that is not a PDU on its channel, for the end whose address sent it.
 fn damage_connection(connection: &mut Connection, record: &Record, damage: Option<Damage>)
     // The count grows, and the `damage` is kept, in the direction of the end whose address is the source; without such
-    // a channel, nothing changes (`connection_damaged`).
-    ensures { connection.new ≡ connection_damaged connection.old record.now damage }
+    // a channel, nothing changes (`count_connection_damage`).
+    ensures { connection.new ≡ count_connection_damage connection.old record.now damage }
 {
     if let Some(place) = known_place(&connection.routes, record) {
         if is_low(&connection.routes[place], record) {
@@ -641,7 +642,7 @@ fn is_low(route: &Option<Route>, record: &Record) -> bool
 fn count_damage(direction: &mut Direction, place: usize, damage: Option<Damage>)
     requires { place < CHANNELS }
     // The count at `place` grows by 1, limited to 2^64 - 1, and the `damage` is kept.
-    ensures { direction.new ≡ damaged_at direction.old place damage }
+    ensures { direction.new ≡ count_damage_at direction.old place damage }
 {
     direction.damaged[place] = direction.damaged[place].saturating_add(1);
     keep_damage(&mut direction.damages, damage);

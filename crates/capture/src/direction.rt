@@ -11,10 +11,10 @@
 //! PDU: so a PDU that passed the recorder, but that the end did not take, does not count.
 
 ghost use Rattle.std.specs.Prelude.{◌≡◌, ◌<◌, length, map, true};
-ghost use Rattle.capture.specs.Following.{asked_by, damage_with, damages_after, line_if, age_at, age_in, age_of, age_within, channel_judged, channel_noted, confirmation_of, confirmed_as, confirmed_by, confirming, confirms_nothing, followed, followed_in, greatest_of, has_gone_on, is_before, is_behind_request, is_copy, is_furthest, is_new, is_opened, is_other, is_repeat, is_request, is_resent, kind_counted, newer, none_confirming, open_direction, opened_as, opened_at, opened_with, opening_of, peer_of, remarks_in, remarks_of, sequence_judged, sequence_noted, silence_of, since_after, tallied, tally_after, tally_opened, waits_at, waits_of};
-ghost use Rattle.capture.specs.Numbers.{ahead, reopened, slot};
+ghost use Rattle.capture.specs.Directions.{requested_line, damage_with, damages_after, line_if, age_at, age_in, age_of, age_within, channel_order, channels_after, confirmation_of, confirmation_timestamp, confirmed_timestamp, confirmations_after, confirms_nothing, direction_after, direction_in, greatest_of, has_gone_on, is_before, is_behind_request, is_copy, is_furthest, is_new, is_opened, is_other, is_repeat, is_request, is_resent, tally_with_kind, newer, no_confirmations, open_direction, reopen_direction, opening_timestamp, direction_after_opening, opening_of, peer_of, remarks_in, remarks_of, sequence_order, sequence_after, silence_of, since_after, count_pdu, tally_after, tally_after_opening, waits_at, waits_of};
+ghost use Rattle.capture.specs.Numbers.{ahead, restart_window, slot};
 
-use crate::heard::Header;
+use crate::datagram::Header;
 use crate::window::{KEPT, NumberOrder, Window, judge, line_of, note, reopen};
 use safe_pdu::{Kind, Leaving};
 
@@ -209,7 +209,7 @@ pub fn follow_pdu(
     header: &Header,
 ) -> Remarks
     // The remarks judge the redundancy number on its channel and on all channels, then the sequence number
-    // (`channel_judged`, `judged`, `sequence_judged`). They also have the opening, the retransmission, the age, the
+    // (`channel_order`, `number_order`, `sequence_order`). They also have the opening, the retransmission, the age, the
     // wait and the reason (`is_opened`, `is_resent`, `age_of`, `waits_of`). Of a new PDU they have the line of a damaged
     // datagram with its number, and the line of the PDU that it asks for. An opening is a copy only if the first one is
     // kept with the same bytes, and nothing else has come on its channel since (`is_copy`). The age is the
@@ -218,11 +218,11 @@ pub fn follow_pdu(
     // is its timestamp minus the one that was last confirmed to its end (`since_after`).
     ensures remarks { result ≡ remarks_of direction.old peer place seq header.now }
     // A PDU whose redundancy number came before changes only the windows of redundancy numbers (`is_new`). An opening
-    // that is not a copy first restarts all numbers of its end (`opened_with`).
-    ensures followed { direction.new ≡ followed direction.old peer place seq header.now }
+    // that is not a copy first restarts all numbers of its end (`direction_after_opening`).
+    ensures followed { direction.new ≡ direction_after direction.old peer place seq header.now }
 {
     let opening = opening_in(header);
-    let opens = begins_anew(direction, opening, place.channel, seq, header.fingerprint);
+    let opens = opens_session(direction, opening, place.channel, seq, header.fingerprint);
     if opens {
         open(direction, opening, place.time);
     }
@@ -241,8 +241,8 @@ fn follow_opened(
     // The remarks are those of `remarks_in`, with `opens` as it was decided before.
     ensures remarks { result ≡ remarks_in direction.old opens peer place seq header.now }
     // The windows, the timestamp and the counts take the PDU in; a repeat, a differing or a stale one does not reach
-    // sequence numbers and counts (`followed_in`).
-    ensures followed { direction.new ≡ followed_in direction.old peer place seq header.now }
+    // sequence numbers and counts (`direction_in`).
+    ensures followed { direction.new ≡ direction_in direction.old peer place seq header.now }
 {
     let octets = header.fingerprint;
     let channel = note_channel(&mut direction.channels, place, seq, octets);
@@ -290,9 +290,9 @@ pub(crate) fn see_peer(direction: &Direction, header: &Header) -> Peer
     ensures { result ≡ peer_of direction.now header.now }
 {
     Peer {
-        opened: opened(direction.opening),
+        opened: timestamp_of_opening(direction.opening),
         stamp: direction.stamp,
-        confirmed: confirmed(&direction.confirmations, header),
+        confirmed: find_confirmed(&direction.confirmations, header),
         asked: asked_line(&direction.sequence, header),
     }
 }
@@ -300,8 +300,8 @@ pub(crate) fn see_peer(direction: &Direction, header: &Header) -> Peer
 /// Returns the line of the PDU for which a RetrReq asks.
 fn asked_line(sequence: &Window, header: &Header) -> Option<u64>
     // A RetrReq asks for the sequence number after the one that it confirms; any other PDU asks for none
-    // (`asked_by`).
-    ensures { result ≡ asked_by sequence.now header.now }
+    // (`requested_line`).
+    ensures { result ≡ requested_line sequence.now header.now }
 {
     if matches!(header.kind, Kind::RetrReq) {
         return line_of(sequence, header.cs.wrapping_add(1));
@@ -340,19 +340,19 @@ fn if_new(is_new: bool, line: Option<u64>) -> Option<u64>
 }
 
 /// Returns the timestamp of an opening.
-fn opened(opening: Option<SessionOpening>) -> Option<u32>
+fn timestamp_of_opening(opening: Option<SessionOpening>) -> Option<u32>
     // The result is the TS of the `opening`, or `None` without one.
-    ensures { result ≡ opened_at opening }
+    ensures { result ≡ opening_timestamp opening }
 {
     let opening = opening?;
     Some(opening.ts)
 }
 
 /// Returns the timestamp that the PDU confirms which a PDU confirms.
-fn confirmed(confirmations: &[Option<Confirmation>; KEPT], header: &Header) -> Option<u32>
+fn find_confirmed(confirmations: &[Option<Confirmation>; KEPT], header: &Header) -> Option<u32>
     // The PDU is the one with the CS of `header` as its SN and the CTS as its TS; `None` without it
-    // (`confirmed_by`).
-    ensures { result ≡ confirmed_by confirmations.now header.now }
+    // (`confirmed_timestamp`).
+    ensures { result ≡ confirmed_timestamp confirmations.now header.now }
 {
     let confirmation = confirmations[header.cs as usize % KEPT]?;
     if confirmation.sn == header.cs && confirmation.ts == header.cts {
@@ -368,7 +368,7 @@ fn keep_confirmation(
     header: &Header,
 )
     // Only the entry in the slot of the SN changes, and only if the PDU `is_new`; a ConnReq leaves it empty.
-    ensures { confirmations.new ≡ confirming is_new confirmations.old header.now }
+    ensures { confirmations.new ≡ confirmations_after is_new confirmations.old header.now }
 {
     if is_new {
         confirmations[header.sn as usize % KEPT] = read_confirmation(header);
@@ -458,7 +458,7 @@ fn opening_in(header: &Header) -> Option<SessionOpening>
 }
 
 /// Returns `true` if a PDU opens a session and is not a copy.
-fn begins_anew(
+fn opens_session(
     direction: &Direction,
     opening: Option<SessionOpening>,
     channel: usize,
@@ -518,8 +518,8 @@ fn differs(newest: Option<u32>, seq: u32) -> bool
 /// Starts a session: all numbers start again.
 fn open(direction: &mut Direction, opening: Option<SessionOpening>, time: u64)
     // All windows start again and keep their counts. No confirmation and no damaged datagram is kept, and the end
-    // waits from the timestamp of the `opening` on. The tally counts the opening, and forgets the reason (`opened_as`).
-    ensures { direction.new ≡ opened_as true direction.old opening time }
+    // waits from the timestamp of the `opening` on. The tally counts the opening, and forgets the reason (`reopen_direction`).
+    ensures { direction.new ≡ reopen_direction true direction.old opening time }
 {
     reopen_all(&mut direction.channels);
     reopen(&mut direction.together);
@@ -527,7 +527,7 @@ fn open(direction: &mut Direction, opening: Option<SessionOpening>, time: u64)
     direction.opening = opening;
     direction.confirmations = [None; KEPT];
     direction.damages = [None; DAMAGES];
-    direction.since = opened(opening);
+    direction.since = timestamp_of_opening(opening);
     direction.tally.openings = direction.tally.openings.saturating_add(1);
     direction.tally.leaving = None;
     direction.tally.opened = time;
@@ -535,8 +535,8 @@ fn open(direction: &mut Direction, opening: Option<SessionOpening>, time: u64)
 
 /// Starts the windows of all channels again.
 fn reopen_all(channels: &mut [Window; CHANNELS])
-    // Every channel's window is `reopened`.
-    ensures { channels.new ≡ map reopened channels.old }
+    // Every channel's window is `restart_window`.
+    ensures { channels.new ≡ map restart_window channels.old }
 {
     reopen(&mut channels[0]);
     reopen(&mut channels[1]);
@@ -551,10 +551,10 @@ fn note_channel(
     seq: u32,
     octets: u64,
 ) -> Option<NumberOrder>
-    // The result is how the number follows on its channel; `None` on a further channel (`channel_judged`).
-    ensures judged { result ≡ channel_judged channels.old place.channel seq octets }
+    // The result is how the number follows on its channel; `None` on a further channel (`channel_order`).
+    ensures judged { result ≡ channel_order channels.old place.channel seq octets }
     // Only the window of this channel changes; on a further channel none does.
-    ensures noted { channels.new ≡ channel_noted channels.old place seq octets }
+    ensures noted { channels.new ≡ channels_after channels.old place seq octets }
 {
     if place.channel < CHANNELS {
         return Some(note(&mut channels[place.channel], seq, place.line, octets));
@@ -598,9 +598,9 @@ fn note_sequence(
     header: &Header,
 ) -> Option<NumberOrder>
     // A new PDU is judged by its sequence number and fingerprint; for any other the result is `None`.
-    ensures judged { result ≡ sequence_judged is_new window.old header.now }
+    ensures judged { result ≡ sequence_order is_new window.old header.now }
     // Only a new PDU changes the `window`.
-    ensures noted { window.new ≡ sequence_noted is_new window.old line header.now }
+    ensures noted { window.new ≡ sequence_after is_new window.old line header.now }
 {
     if is_new {
         return Some(note(window, header.sn, line, header.fingerprint));
@@ -690,8 +690,8 @@ fn age_behind(stamp: Option<u32>, confirmed: u32) -> Option<u32>
 /// Counts a PDU that has not come before.
 fn count(tally: &mut Tally, time: u64, age: Option<u32>, waits: Option<u32>, header: &Header)
     // The tally counts the type, and keeps the greatest age, the longest wait, the longest silence, this time, and
-    // the reason and time of a DiscReq (`tallied`).
-    ensures { tally.new ≡ tallied tally.old time age waits header.now }
+    // the reason and time of a DiscReq (`count_pdu`).
+    ensures { tally.new ≡ count_pdu tally.old time age waits header.now }
 {
     count_kind(tally, header.kind);
     tally.oldest = greatest(age, tally.oldest);
@@ -729,8 +729,8 @@ pub(crate) fn greatest(more: Option<u32>, so_far: u32) -> u32
 
 /// Counts the type of a PDU.
 fn count_kind(tally: &mut Tally, kind: Kind)
-    // Heartbeats, RetrReq, RetrData and DiscReq have counts; other types change nothing (`kind_counted`).
-    ensures { tally.new ≡ kind_counted kind tally.old }
+    // Heartbeats, RetrReq, RetrData and DiscReq have counts; other types change nothing (`tally_with_kind`).
+    ensures { tally.new ≡ tally_with_kind kind tally.old }
 {
     match kind {
         Kind::Heartbeat => tally.heartbeats = tally.heartbeats.saturating_add(1),

@@ -8,7 +8,7 @@
 //! packet has no time: it gets that of the frame before it.
 
 ghost use Rattle.std.specs.Prelude.{◌≡◌, ◌<◌, ◌≤◌, ◌+◌, ◌^◌, length, IfOk, IfSome};
-ghost use Rattle.capture.specs.Recordings.{EndsWithin, at_first_free, block_step, body_step, cut_step, event_of, going_on, head_of_section, head_step, interface_step, interfaces_after, is_read, last_after, long_block, micros_of, opened, order_step, part_after, record_step, section_step, size_step, sized_block, skip_step, start_step, step_of, text_step, wanted};
+ghost use Rattle.capture.specs.Recordings.{IsWithinBlock, at_first_free, block_step, body_step, cut_step, event_of, recording_after, head_of_section, head_step, interface_step, interfaces_after, is_read, last_after, long_block, micros_of, new_recording, order_step, part_after, record_step, section_step, size_step, sized_block, skip_step, start_step, step_of, text_step, next_size};
 
 use crate::frame::Link;
 use crate::interfaces::{Interface, is_readable, offset, resolution};
@@ -60,7 +60,7 @@ pub enum FilePart {
 
 /// A frame in the bytes of its block.
 #[derive(Clone, Copy, Debug, PartialEq, Eq)]
-pub struct Framed {
+pub struct BlockFrame {
     /// Its link header, if it is known here.
     pub link: Option<Link>,
     /// When it was recorded, in whole microseconds since 1970; of a frame without a time, that of the one before it.
@@ -81,7 +81,7 @@ pub enum BlockContent {
     /// The file is not a recording; it may be a text.
     Text,
     /// A frame.
-    Frame(Framed),
+    Frame(BlockFrame),
 }
 
 /// Why a file is not a recording, or cannot go on as one.
@@ -140,7 +140,7 @@ impl Recording {
     /// Returns the state before the first block.
     pub fn new() -> Self
         // The new recording starts with the first four bytes, and knows no interface.
-        ensures { result ≡ opened }
+        ensures { result ≡ new_recording }
     {
         Recording {
             part: FilePart::Start,
@@ -151,8 +151,8 @@ impl Recording {
 
     /// Returns how many bytes the next block has.
     pub fn wants(&self) -> u32
-        // The size is that of the part that comes next (`wanted`): fixed, or from a length that was read before.
-        ensures { result ≡ wanted self.now.part }
+        // The size is that of the part that comes next (`next_size`): fixed, or from a length that was read before.
+        ensures { result ≡ next_size self.now.part }
     {
         match self.part {
             FilePart::Start | FilePart::Section | FilePart::Order(_) => 4,
@@ -190,10 +190,10 @@ impl Recording {
         // The content is that of the step (`step_of`) that the next part makes with these bytes, or its first fault.
         ensures event { result ≡ event_of (step_of self.old octets.now) }
         // After a block, the next part, the interfaces and the last time are those of the step; after a fault nothing
-        // has changed (`going_on`).
-        ensures next { self.new ≡ going_on self.old (step_of self.old octets.now) }
+        // has changed (`recording_after`).
+        ensures next { self.new ≡ recording_after self.old (step_of self.old octets.now) }
         // A frame is within the bytes of its block, and its start is not after its end.
-        ensures within { IfOk result (EndsWithin octets.now) }
+        ensures within { IfOk result (IsWithinBlock octets.now) }
     {
         match take_step(self, octets) {
             Ok(step) => {
@@ -213,7 +213,7 @@ fn take_step(recording: &Recording, octets: &[u8]) -> Result<Step, FileFault>
     // The step is that of the part that comes next, read with its own definition (`step_at`).
     ensures step { result ≡ step_of recording.now octets.now }
     // A frame of this step is within its block.
-    ensures within { IfOk result (λ step. EndsWithin octets.now step.event) }
+    ensures within { IfOk result (λ step. IsWithinBlock octets.now step.event) }
 {
     match recording.part {
         FilePart::Start => Ok(start(octets)),
@@ -260,7 +260,7 @@ fn start(octets: &[u8]) -> Step
     // (`start_with`).
     ensures step { result ≡ start_step octets.now }
     // The first four bytes contain no frame.
-    ensures within { EndsWithin octets.now result.event }
+    ensures within { IsWithinBlock octets.now result.event }
 {
     let Some(first) = long(true, octets, 0) else {
         return text();
@@ -308,7 +308,7 @@ fn head(form: FileForm, octets: &[u8]) -> Result<Step, FileFault>
     // number's lower 16 bits (`head_with`).
     ensures step { result ≡ head_step form octets.now }
     // The header of a pcap file contains no frame.
-    ensures within { IfOk result (λ step. EndsWithin octets.now step.event) }
+    ensures within { IfOk result (λ step. IsWithinBlock octets.now step.event) }
 {
     let Some(version) = short(form.big, octets, 0) else {
         return Err(FileFault::Length);
@@ -328,7 +328,7 @@ fn record_head(form: FileForm, link: Option<Link>, octets: &[u8]) -> Result<Step
     // original size is not larger (`record_with`).
     ensures step { result ≡ record_step form link octets.now }
     // The header of a record contains no frame.
-    ensures within { IfOk result (λ step. EndsWithin octets.now step.event) }
+    ensures within { IfOk result (λ step. IsWithinBlock octets.now step.event) }
 {
     let Some(seconds) = long(form.big, octets, 0) else {
         return Err(FileFault::Length);
@@ -371,12 +371,12 @@ fn body(
     // follows.
     ensures step { result ≡ body_step form link time size whole octets.now }
     // The frame of a record ends within the bytes that were handed over.
-    ensures within { EndsWithin octets.now result.event }
+    ensures within { IsWithinBlock octets.now result.event }
 {
     let end = octets.len().min(size as usize);
     Step {
         part: FilePart::Record(form, link),
-        event: BlockContent::Frame(Framed {
+        event: BlockContent::Frame(BlockFrame {
             link,
             time,
             start: 0,
@@ -392,7 +392,7 @@ fn section(octets: &[u8]) -> Result<Step, FileFault>
     // The four bytes are kept as they are for the byte order mark that follows; fewer are `Length`.
     ensures step { result ≡ section_step octets.now }
     // The length of a section contains no frame.
-    ensures within { IfOk result (λ step. EndsWithin octets.now step.event) }
+    ensures within { IfOk result (λ step. IsWithinBlock octets.now step.event) }
 {
     match four(octets, 0) {
         Some(size) => Ok(on_to(FilePart::Order(size))),
@@ -405,7 +405,7 @@ fn order(size: &[u8; 4], octets: &[u8]) -> Result<Step, FileFault>
     // The mark must be 0x1a2b3c4d in one of the two orders, otherwise the fault is `Order`.
     ensures step { result ≡ order_step size.now octets.now }
     // The byte order mark contains no frame.
-    ensures within { IfOk result (λ step. EndsWithin octets.now step.event) }
+    ensures within { IfOk result (λ step. IsWithinBlock octets.now step.event) }
 {
     match long(true, octets, 0) {
         Some(0x1a2b_3c4d) => read_section_size(true, size),
@@ -448,7 +448,7 @@ fn opening(big: bool, size: u32, octets: &[u8]) -> Result<Step, FileFault>
     // interface is known.
     ensures step { result ≡ head_of_section big size octets.now }
     // The header of a section contains no frame.
-    ensures within { IfOk result (λ step. EndsWithin octets.now step.event) }
+    ensures within { IfOk result (λ step. IsWithinBlock octets.now step.event) }
 {
     if long(big, octets, size.saturating_sub(16) as usize) != Some(size) {
         return Err(FileFault::Trailer);
@@ -470,7 +470,7 @@ fn block(big: bool, octets: &[u8]) -> Result<Step, FileFault>
     // any other only one of at least 12 (`Length`); its rest follows (`block_with`).
     ensures step { result ≡ block_step big octets.now }
     // The head of a block contains no frame.
-    ensures within { IfOk result (λ step. EndsWithin octets.now step.event) }
+    ensures within { IfOk result (λ step. IsWithinBlock octets.now step.event) }
 {
     let Some(kind) = long(big, octets, 0) else {
         return Err(FileFault::Length);
@@ -518,7 +518,7 @@ fn skip(big: bool, left: u32, size: u32, octets: &[u8]) -> Result<Step, FileFaul
     // and the next block follows (`skip_step`).
     ensures step { result ≡ skip_step big left size octets.now }
     // A block that is not read contains no frame.
-    ensures within { IfOk result (λ step. EndsWithin octets.now step.event) }
+    ensures within { IfOk result (λ step. IsWithinBlock octets.now step.event) }
 {
     if left != 0 {
         let left = left.saturating_sub(SKIPPED_AT_ONCE);
@@ -543,7 +543,7 @@ fn rest(
     // definitions (`inner_step`).
     ensures step { result ≡ cut_step recording.now big kind size octets.now }
     // A frame in the rest of a block is within it.
-    ensures within { IfOk result (λ step. EndsWithin octets.now step.event) }
+    ensures within { IfOk result (λ step. IsWithinBlock octets.now step.event) }
 {
     let end = size.saturating_sub(12) as usize;
     if long(big, octets, end) != Some(size) || end > octets.len() {

@@ -5,11 +5,11 @@
 //! headers before UDP are skipped.
 
 ghost use Rattle.std.specs.Prelude.{◌≡◌, ◌≤◌, ◌<◌, ◌^◌, ◌+◌, length, IfOk, IfSome};
-ghost use Rattle.capture.specs.Frames.{family_kind, found_in, in_packet, is_family, link_of, loopback_at, no_packet, packet_of, raw_at, version_kind};
+ghost use Rattle.capture.specs.Frames.{family_kind, datagram_in_frame, in_packet, is_family, link_of, loopback_at, no_packet, packet_of, raw_at, version_kind};
 ghost use Rattle.capture.specs.Packets.{behind_fragment, behind_header, behind_options, behind_ipv4, in_behind, in_ipv4, in_ipv6, in_udp, is_fragment, is_passed, is_piece, is_tunnel, ipv4_of, no_datagram, size_of, udp_between, udp_of, upper_of};
 
+use crate::encapsulation::{IPV4, IPV6, NOTHING, Packet, has_frame, kind, unwrap_packet};
 use crate::places::{big, four, octet, sixteen};
-use crate::wrapping::{IPV4, IPV6, NOTHING, Packet, has_frame, kind, unwrap_packet};
 use crate::{Address, Host};
 
 /// The link header of a frame.
@@ -46,7 +46,7 @@ impl Link {
 
 /// A UDP datagram in a frame.
 #[derive(Clone, Copy, Debug, PartialEq, Eq)]
-pub struct Found {
+pub struct FoundDatagram {
     /// The host and port that sent it.
     pub source: Address,
     /// The host and port that it was sent to.
@@ -59,7 +59,7 @@ pub struct Found {
 
 /// Why a frame has no UDP datagram that can be read.
 #[derive(Clone, Copy, Debug, PartialEq, Eq)]
-pub enum Passed {
+pub enum NoDatagramCause {
     /// The frame ends before its headers do.
     Truncated,
     /// It carries no IP packet.
@@ -86,24 +86,24 @@ pub enum Passed {
 /// /// - `Tunnel` if it carries a packet that is not read;
 /// /// - `Fragment` if the packet is a fragment;
 /// /// - `Length` if the version or a length in a header does not fit.
-pub fn find_datagram(link: Link, octets: &[u8]) -> Result<Found, Passed>
+pub fn find_datagram(link: Link, octets: &[u8]) -> Result<FoundDatagram, NoDatagramCause>
     requires { length octets.now < 2 ^ 32 }
-    // The result is the places of `found_in`, or the first reason why there is no datagram. Those are the places of a
+    // The result is the places of `datagram_in_frame`, or the first reason why there is no datagram. Those are the places of a
     // UDP payload in IPv4 or in IPv6, after up to five further headers; IPv4 may also carry one more IP packet.
-    ensures found { result ≡ found_in link octets.now }
+    ensures found { result ≡ datagram_in_frame link octets.now }
     // The payload ends within the frame, so the caller may cut it out.
     ensures fits { IfOk result (λ found. found.end ≤ length octets.now) }
     // The payload does not start after its end.
     ensures order { IfOk result (λ found. found.start ≤ found.end) }
 {
     match find_packet(link, octets) {
-        None => Err(Passed::Truncated),
+        None => Err(NoDatagramCause::Truncated),
         Some(packet) => read_packet(octets, packet),
     }
 }
 
 /// Reads the packet by its EtherType.
-fn read_packet(octets: &[u8], packet: Packet) -> Result<Found, Passed>
+fn read_packet(octets: &[u8], packet: Packet) -> Result<FoundDatagram, NoDatagramCause>
     requires near { packet.place < 2 ^ 33 }
     // IPv4 and IPv6 packets are read by their own definitions; for any other EtherType the result is `Tunnel` or
     // `NoIp` (`in_packet`).
@@ -121,14 +121,14 @@ fn read_packet(octets: &[u8], packet: Packet) -> Result<Found, Passed>
 }
 
 /// Returns why a packet with this EtherType is passed over.
-fn pass_packet(kind: u16) -> Passed
+fn pass_packet(kind: u16) -> NoDatagramCause
     // A packet that may have a further frame in it is a tunnel; any other is no IP packet (`no_packet`).
     ensures { result ≡ no_packet kind }
 {
     if has_frame(kind) {
-        Passed::Tunnel
+        NoDatagramCause::Tunnel
     } else {
-        Passed::NoIp
+        NoDatagramCause::NoIp
     }
 }
 
@@ -192,9 +192,12 @@ fn of_family(high: u16, low: u16) -> u16
     // Family 2 is IPv4; 24, 28 and 30 are IPv6; for any other the result is `NOTHING` (`family_kind`).
     ensures { result ≡ family_kind high low }
 {
-    if stands(high, low, 2) {
+    if is_of_family(high, low, 2) {
         IPV4
-    } else if stands(high, low, 24) || stands(high, low, 28) || stands(high, low, 30) {
+    } else if is_of_family(high, low, 24)
+        || is_of_family(high, low, 28)
+        || is_of_family(high, low, 30)
+    {
         IPV6
     } else {
         NOTHING
@@ -202,7 +205,7 @@ fn of_family(high: u16, low: u16) -> u16
 }
 
 /// Returns `true` if four bytes are this family, in either byte order.
-fn stands(high: u16, low: u16, family: u16) -> bool
+fn is_of_family(high: u16, low: u16, family: u16) -> bool
     requires { family < 256 }
     // The family is in the low byte of `low`, or in the high byte of `high`, and all other bytes are 0.
     ensures { result ≡ is_family high low family }
@@ -228,7 +231,7 @@ pub(crate) struct V4Header {
 }
 
 /// Reads the IPv4 packet at a place.
-fn read_ipv4(octets: &[u8], place: usize) -> Result<Found, Passed>
+fn read_ipv4(octets: &[u8], place: usize) -> Result<FoundDatagram, NoDatagramCause>
     requires near { place < 2 ^ 33 }
     // The header is read; then UDP, or the packet of IPv4 or IPv6 that it carries (`in_ipv4`).
     ensures found { result ≡ in_ipv4 octets.now place }
@@ -258,7 +261,7 @@ const WITHIN_V4: u8 = 4;
 const WITHIN_V6: u8 = 41;
 
 /// Reads the IPv4 packet at a place within another IPv4 packet.
-fn read_inner_ipv4(octets: &[u8], place: usize) -> Result<Found, Passed>
+fn read_inner_ipv4(octets: &[u8], place: usize) -> Result<FoundDatagram, NoDatagramCause>
     requires near { place < 2 ^ 33 + 2 ^ 7 }
     // The header is read, then UDP; one more packet within it is not read (`in_behind`).
     ensures found { result ≡ in_behind octets.now (ipv4_of octets.now place) }
@@ -272,7 +275,7 @@ fn read_inner_ipv4(octets: &[u8], place: usize) -> Result<Found, Passed>
 }
 
 /// Reads the header of the IPv4 packet at a place.
-fn read_v4_header(octets: &[u8], place: usize) -> Result<V4Header, Passed>
+fn read_v4_header(octets: &[u8], place: usize) -> Result<V4Header, NoDatagramCause>
     requires near { place < 2 ^ 33 + 2 ^ 7 }
     // A header that is not complete is `Truncated`; another version, or a length that does not fit, is `Length`
     // (`ipv4_of`).
@@ -281,27 +284,27 @@ fn read_v4_header(octets: &[u8], place: usize) -> Result<V4Header, Passed>
     ensures near { IfOk result (λ header. header.start ≤ place + 60) }
 {
     let Some(first) = octet(octets, place) else {
-        return Err(Passed::Truncated);
+        return Err(NoDatagramCause::Truncated);
     };
     let Some(total) = big(octets, place + 2) else {
-        return Err(Passed::Truncated);
+        return Err(NoDatagramCause::Truncated);
     };
     let Some(flags) = big(octets, place + 6) else {
-        return Err(Passed::Truncated);
+        return Err(NoDatagramCause::Truncated);
     };
     let Some(protocol) = octet(octets, place + 9) else {
-        return Err(Passed::Truncated);
+        return Err(NoDatagramCause::Truncated);
     };
     let Some(source) = four(octets, place + 12) else {
-        return Err(Passed::Truncated);
+        return Err(NoDatagramCause::Truncated);
     };
     let Some(destination) = four(octets, place + 16) else {
-        return Err(Passed::Truncated);
+        return Err(NoDatagramCause::Truncated);
     };
     let size = first as usize % 16 * 4;
     let total = whole_size(total);
     if first / 16 != 4 || size < 20 || (total as usize) < size {
-        return Err(Passed::Length);
+        return Err(NoDatagramCause::Length);
     }
     Ok(V4Header {
         protocol,
@@ -322,18 +325,18 @@ fn whole_size(total: u16) -> u16
 }
 
 /// Returns the place of the packet that an IPv4 packet carries.
-fn pass_v4_header(header: &V4Header) -> Result<usize, Passed>
+fn pass_v4_header(header: &V4Header) -> Result<usize, NoDatagramCause>
     // A fragment is `Fragment`; of any other packet the result is the place after the header (`behind_ipv4`).
     ensures { result ≡ behind_ipv4 header.now }
 {
     if header.is_part {
-        return Err(Passed::Fragment);
+        return Err(NoDatagramCause::Fragment);
     }
     Ok(header.start)
 }
 
 /// Reads the UDP datagram after the header of an IPv4 packet.
-fn read_udp_after(octets: &[u8], header: &V4Header) -> Result<Found, Passed>
+fn read_udp_after(octets: &[u8], header: &V4Header) -> Result<FoundDatagram, NoDatagramCause>
     requires near { header.now.start < 2 ^ 34 }
     // The protocol must be UDP, then the packet must not be a fragment; then UDP is read (`udp_of`).
     ensures found { result ≡ udp_of octets.now header.now }
@@ -351,14 +354,14 @@ fn read_udp_after(octets: &[u8], header: &V4Header) -> Result<Found, Passed>
 }
 
 /// Returns why a packet with this protocol is passed over.
-fn pass_protocol(protocol: u8) -> Passed
+fn pass_protocol(protocol: u8) -> NoDatagramCause
     // A protocol that carries a further packet is a tunnel; any other is something without UDP (`no_datagram`).
     ensures { result ≡ no_datagram protocol }
 {
     if carries_packet(protocol) {
-        Passed::Tunnel
+        NoDatagramCause::Tunnel
     } else {
-        Passed::NoUdp
+        NoDatagramCause::NoUdp
     }
 }
 
@@ -382,7 +385,7 @@ fn has_parts(flags: u16) -> bool
 }
 
 /// Reads the IPv6 packet at a place.
-fn read_ipv6(octets: &[u8], place: usize) -> Result<Found, Passed>
+fn read_ipv6(octets: &[u8], place: usize) -> Result<FoundDatagram, NoDatagramCause>
     requires near { place < 2 ^ 33 + 2 ^ 7 }
     // The version is checked, up to five headers are skipped, and UDP is read; any other header is `NoUdp` or
     // `Tunnel` (`in_ipv6`).
@@ -393,25 +396,25 @@ fn read_ipv6(octets: &[u8], place: usize) -> Result<Found, Passed>
     ensures order { IfOk result (λ found. found.start ≤ found.end) }
 {
     let Some(first) = octet(octets, place) else {
-        return Err(Passed::Truncated);
+        return Err(NoDatagramCause::Truncated);
     };
     let Some(size) = big(octets, place + 4) else {
-        return Err(Passed::Truncated);
+        return Err(NoDatagramCause::Truncated);
     };
     let Some(kind) = octet(octets, place + 6) else {
-        return Err(Passed::Truncated);
+        return Err(NoDatagramCause::Truncated);
     };
     let Some(source) = sixteen(octets, place + 8) else {
-        return Err(Passed::Truncated);
+        return Err(NoDatagramCause::Truncated);
     };
     let Some(destination) = sixteen(octets, place + 24) else {
-        return Err(Passed::Truncated);
+        return Err(NoDatagramCause::Truncated);
     };
     if first / 16 != 6 {
-        return Err(Passed::Length);
+        return Err(NoDatagramCause::Length);
     }
     let start = place + 40;
-    let upper = find_upper(octets, Upper { kind, place: start })?;
+    let upper = find_upper(octets, UpperHeader { kind, place: start })?;
     if upper.kind != UDP {
         return Err(pass_protocol(upper.kind));
     }
@@ -427,7 +430,7 @@ fn read_ipv6(octets: &[u8], place: usize) -> Result<Found, Passed>
 
 /// A header of an IPv6 packet, or what follows its headers.
 #[derive(Clone, Copy, Debug, PartialEq, Eq)]
-pub(crate) struct Upper {
+pub(crate) struct UpperHeader {
     /// Its number, as in the field *next header*.
     pub kind: u8,
     /// The place in the frame of its first byte.
@@ -438,7 +441,7 @@ pub(crate) struct Upper {
 const UDP: u8 = 17;
 
 /// Skips up to five headers; a packet should have no more of them (RFC 8200, 4.1).
-fn find_upper(octets: &[u8], first: Upper) -> Result<Upper, Passed>
+fn find_upper(octets: &[u8], first: UpperHeader) -> Result<UpperHeader, NoDatagramCause>
     requires near { first.place < 2 ^ 33 + 2 ^ 12 }
     // The result is what follows after five steps over headers, or the first reason why one cannot be skipped
     // (`upper_of`).
@@ -454,7 +457,7 @@ fn find_upper(octets: &[u8], first: Upper) -> Result<Upper, Passed>
 }
 
 /// Skips a header; anything that is not skipped is returned as it is.
-fn pass_header(octets: &[u8], upper: Upper) -> Result<Upper, Passed>
+fn pass_header(octets: &[u8], upper: UpperHeader) -> Result<UpperHeader, NoDatagramCause>
     requires near { upper.place < 2 ^ 34 }
     // Options and routes are skipped by their length, a fragment header that is a whole packet by 8 bytes; anything
     // else stays (`behind_header`).
@@ -483,7 +486,7 @@ fn is_option(kind: u8) -> bool
 }
 
 /// Skips options. Their length is in units of 8 bytes, without the first 8.
-fn pass_options(octets: &[u8], place: usize) -> Result<Upper, Passed>
+fn pass_options(octets: &[u8], place: usize) -> Result<UpperHeader, NoDatagramCause>
     requires near { place < 2 ^ 34 }
     // The next header's number is in the first byte, the length in the second (`behind_options`); too few bytes are
     // `Truncated`.
@@ -492,19 +495,19 @@ fn pass_options(octets: &[u8], place: usize) -> Result<Upper, Passed>
     ensures near { IfOk result (λ next. next.place ≤ place + 2048) }
 {
     let Some(kind) = octet(octets, place) else {
-        return Err(Passed::Truncated);
+        return Err(NoDatagramCause::Truncated);
     };
     let Some(eights) = octet(octets, place + 1) else {
-        return Err(Passed::Truncated);
+        return Err(NoDatagramCause::Truncated);
     };
-    Ok(Upper {
+    Ok(UpperHeader {
         kind,
         place: place + 8 + eights as usize * 8,
     })
 }
 
 /// Skips the header of a fragment that is a whole packet (RFC 6946).
-fn pass_fragment(octets: &[u8], place: usize) -> Result<Upper, Passed>
+fn pass_fragment(octets: &[u8], place: usize) -> Result<UpperHeader, NoDatagramCause>
     requires near { place < 2 ^ 34 }
     // A real fragment is `Fragment` if UDP or a skipped header follows, otherwise `NoUdp` or `Tunnel`. A whole packet
     // goes on 8 bytes later (`behind_fragment`).
@@ -513,19 +516,19 @@ fn pass_fragment(octets: &[u8], place: usize) -> Result<Upper, Passed>
     ensures near { IfOk result (λ next. next.place ≤ place + 2048) }
 {
     let Some(kind) = octet(octets, place) else {
-        return Err(Passed::Truncated);
+        return Err(NoDatagramCause::Truncated);
     };
     let Some(part) = big(octets, place + 2) else {
-        return Err(Passed::Truncated);
+        return Err(NoDatagramCause::Truncated);
     };
     if !is_part(part) {
-        return Ok(Upper {
+        return Ok(UpperHeader {
             kind,
             place: place + 8,
         });
     }
     if kind == UDP || is_option(kind) {
-        return Err(Passed::Fragment);
+        return Err(NoDatagramCause::Fragment);
     }
     Err(pass_protocol(kind))
 }
@@ -545,7 +548,7 @@ fn read_udp(
     destination: Host,
     place: usize,
     end: usize,
-) -> Result<Found, Passed>
+) -> Result<FoundDatagram, NoDatagramCause>
     requires near { place < 2 ^ 34 }
     // The ports and the size are read from the UDP header (`in_udp`); if it is not complete, the result is
     // `Truncated`.
@@ -556,13 +559,13 @@ fn read_udp(
     ensures order { IfOk result (λ found. found.start ≤ found.end) }
 {
     let Some(from) = big(octets, place) else {
-        return Err(Passed::Truncated);
+        return Err(NoDatagramCause::Truncated);
     };
     let Some(to) = big(octets, place + 2) else {
-        return Err(Passed::Truncated);
+        return Err(NoDatagramCause::Truncated);
     };
     let Some(size) = big(octets, place + 4) else {
-        return Err(Passed::Truncated);
+        return Err(NoDatagramCause::Truncated);
     };
     let source = Address {
         host: source,
@@ -583,7 +586,7 @@ fn measure(
     place: usize,
     size: usize,
     end: usize,
-) -> Result<Found, Passed>
+) -> Result<FoundDatagram, NoDatagramCause>
     requires near { place < 2 ^ 34 }
     requires small { size < 2 ^ 16 }
     // The size must be at least 8 and within the packet (`Length`), then within the frame (`Truncated`). The payload
@@ -595,12 +598,12 @@ fn measure(
     ensures order { IfOk result (λ found. found.start ≤ found.end) }
 {
     if size < 8 || place + size > end {
-        return Err(Passed::Length);
+        return Err(NoDatagramCause::Length);
     }
     if place + size > octets {
-        return Err(Passed::Truncated);
+        return Err(NoDatagramCause::Truncated);
     }
-    Ok(Found {
+    Ok(FoundDatagram {
         source,
         destination,
         start: place + 8,

@@ -1,7 +1,7 @@
 //! The interfaces of a pcapng file, and the unit and offset of their times.
 
 ghost use Rattle.std.specs.Prelude.{◌≡◌};
-ghost use Rattle.capture.specs.Times.{binary_micros, decimal_micros, found_at, is_unit, moved_by, offset_from, offset_of, offset_with, option_of, option_seen, option_step, resolution_of, ten_to, tick_micros};
+ghost use Rattle.capture.specs.Times.{binary_micros, decimal_micros, walk_place, is_unit, add_offset, offset_from, offset_of, offset_with, option_of, option_seen, option_step, resolution_of, ten_to, tick_micros};
 
 use crate::frame::Link;
 use crate::places::{long, octet, short};
@@ -42,7 +42,7 @@ pub(crate) enum Walk {
 
 /// The code and the size of a wanted option.
 #[derive(Clone, Copy, Debug, PartialEq, Eq)]
-pub(crate) struct Wanted {
+pub(crate) struct WantedOption {
     /// Its code.
     pub code: u16,
     /// The size of its value in bytes.
@@ -50,10 +50,10 @@ pub(crate) struct Wanted {
 }
 
 /// The option `if_tsresol`.
-const RESOLUTION: Wanted = Wanted { code: 9, size: 1 };
+const RESOLUTION: WantedOption = WantedOption { code: 9, size: 1 };
 
 /// The option `if_tsoffset`.
-const OFFSET: Wanted = Wanted { code: 14, size: 8 };
+const OFFSET: WantedOption = WantedOption { code: 14, size: 8 };
 
 /// Returns the unit of times from the options after the first eight bytes of a description; 6 if no option has it.
 pub(crate) fn resolution(big: bool, inner: &[u8]) -> u8
@@ -116,8 +116,8 @@ fn offset_between(high: u32, low: u32) -> TimeOffset
 
 /// Returns the time of a frame with the offset of its interface, in microseconds.
 pub(crate) fn shift(offset: TimeOffset, micros: u64) -> u64
-    // The seconds of the `offset` are added or subtracted; the result is limited to 0 and 2^64 - 1 (`moved_by`).
-    ensures { result ≡ moved_by offset micros }
+    // The seconds of the `offset` are added or subtracted; the result is limited to 0 and 2^64 - 1 (`add_offset`).
+    ensures { result ≡ add_offset offset micros }
 {
     match offset {
         TimeOffset::Later(seconds) => micros.saturating_add(seconds.saturating_mul(1_000_000)),
@@ -126,7 +126,7 @@ pub(crate) fn shift(offset: TimeOffset, micros: u64) -> u64
 }
 
 /// Returns the place of the value of the first wanted option, from the eighth byte on.
-fn find_option(big: bool, inner: &[u8], wanted: Wanted) -> Option<usize>
+fn find_option(big: bool, inner: &[u8], wanted: WantedOption) -> Option<usize>
     // The options are read one by one until the wanted one is found or they end (`option_of`).
     ensures { result ≡ option_of big wanted.code wanted.size inner.now }
 {
@@ -140,7 +140,7 @@ fn find_option(big: bool, inner: &[u8], wanted: Wanted) -> Option<usize>
 /// Returns the place of the option that was found.
 fn place_found(walk: Walk) -> Option<usize>
     // The result is the place found, and `None` if the walk found no option.
-    ensures { result ≡ found_at walk }
+    ensures { result ≡ walk_place walk }
 {
     match walk {
         Walk::Found(place) => Some(place),
@@ -149,7 +149,7 @@ fn place_found(walk: Walk) -> Option<usize>
 }
 
 /// Reads one more option: code, length, and a value padded to a multiple of four bytes.
-fn option(big: bool, inner: &[u8], wanted: Wanted, walk: Walk) -> Walk
+fn option(big: bool, inner: &[u8], wanted: WantedOption, walk: Walk) -> Walk
     // A walk that has ended or has found the option does not change; otherwise the option at its place is read
     // (`option_step`).
     ensures { result ≡ option_step big wanted.code wanted.size inner.now walk }
@@ -161,7 +161,7 @@ fn option(big: bool, inner: &[u8], wanted: Wanted, walk: Walk) -> Walk
 }
 
 /// Reads the option at a place.
-fn option_at(big: bool, inner: &[u8], wanted: Wanted, place: usize) -> Walk
+fn option_at(big: bool, inner: &[u8], wanted: WantedOption, place: usize) -> Walk
     // Code 0, or too few bytes, ends the options; the wanted code with the wanted size is found. Any other option is
     // skipped together with its padding (`option_seen`).
     ensures { result ≡ option_seen big wanted.code wanted.size inner.now place }

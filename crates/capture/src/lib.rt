@@ -7,14 +7,15 @@
 //! is not proved, since a fingerprint has only 64 bits.
 #![tactic(auto)]
 
-mod belonging;
 mod connections;
+mod continuation;
+mod datagram;
 mod direction;
 mod distribution;
+mod encapsulation;
 mod file;
-mod following;
+mod follower;
 mod frame;
-mod heard;
 mod instants;
 mod interfaces;
 mod law;
@@ -26,21 +27,20 @@ mod ports;
 mod sessions;
 mod window;
 mod words;
-mod wrapping;
 
 pub use connections::{CONNECTIONS, Connection, Connections, Entry, Route, follow, is_same};
+pub use datagram::{DecodedDatagram, Header, hear, spell};
 pub use direction::{
     CHANNELS, Confirmation, DAMAGES, Damage, Direction, Peer, Place, Remarks, SessionOpening,
     Tally, follow_pdu, is_first_copy, silence,
 };
 pub use distribution::{CLASSES, Distribution, class};
 pub use file::{
-    BLOCK_MAX, BlockContent, FileFault, FileForm, FilePart, Framed, INTERFACES, Recording,
+    BLOCK_MAX, BlockContent, BlockFrame, FileFault, FileForm, FilePart, INTERFACES, Recording,
     SKIPPED_AT_ONCE,
 };
-pub use following::{Follower, Remark, Totals, sum_up};
-pub use frame::{Found, Link, Passed, find_datagram};
-pub use heard::{DecodedDatagram, Header, hear, spell};
+pub use follower::{Follower, Remark, Totals, sum_up};
+pub use frame::{FoundDatagram, Link, NoDatagramCause, find_datagram};
 pub use instants::{Instant, Span, is_between, read_instant};
 pub use interfaces::{Interface, TimeOffset};
 pub use law::sums_law;
@@ -48,7 +48,7 @@ pub use line::{Address, Buffer, Host, LineFault, PAYLOAD_ROOM, Record, read_line
 pub use measures::{MOMENTS, Measurements, Measures};
 pub use ports::{PortRange, Ports, RANGES, is_followed, read_ports};
 pub use sessions::{
-    Asking, Parting, SESSIONS, Session, SessionTotals, Sessions, Side, add_up_sessions, alone,
-    is_unanswered, lost_alone, lost_everywhere,
+    Disconnection, SESSIONS, Session, SessionRequest, SessionTotals, Sessions, Side,
+    add_up_sessions, alone, is_unanswered, lost_alone, lost_everywhere,
 };
-pub use window::{KEPT, LATE_MAX, NumberOrder, PASSED_MAX, Seen, Window, judge, note};
+pub use window::{KEPT, LATE_MAX, NumberOrder, PASSED_MAX, SeenNumber, Window, judge, note};

@@ -3,11 +3,11 @@
 //! All times are the recorder's. Nothing is measured from one session of an end to its next one.
 
 ghost use Rattle.std.specs.Prelude.{◌≡◌};
-ghost use Rattle.capture.specs.Measures.{answers_now, begun_anew, copy_measured, first_measured, is_answer, is_copy_elsewhere, measured_after, measures_after, millis_between, moment_kept, moment_of, no_measured, no_measures, unit_counted, units_in_second, with_some, with_span};
+ghost use Rattle.capture.specs.Measures.{is_first_answer, forget_moments, measure_skew, measure_new_pdu, is_answer, is_copy_elsewhere, measurements_after, measures_after, millis_between, store_moment, moment_of, no_measurements, no_measures, add_unit, units_in_second, with_some, with_span};
 
+use crate::datagram::Header;
 use crate::direction::{Remarks, is_first_copy};
 use crate::distribution::Distribution;
-use crate::heard::Header;
 use crate::window::NumberOrder;
 use safe_pdu::Kind;
 
@@ -64,7 +64,7 @@ impl Measures {
 /// Returns the measures of an end without PDUs.
 fn new_measured() -> Measurements
     // The distributions have no values, and no PDU is kept.
-    ensures { result ≡ no_measured }
+    ensures { result ≡ no_measurements }
 {
     Measurements {
         round_trips: Distribution::new(),
@@ -122,8 +122,8 @@ fn measure(
     remarks: &Remarks,
 )
     // An opening first forgets the PDUs before it. A new PDU is measured with its round trip since `sent`, a copy on
-    // another channel only with its skew, and any other copy not at all (`measured_after`).
-    ensures { measured.new ≡ measured_after measured.old sent time header.now remarks.now }
+    // another channel only with its skew, and any other copy not at all (`measurements_after`).
+    ensures { measured.new ≡ measurements_after measured.old sent time header.now remarks.now }
 {
     if remarks.opens {
         begin(measured);
@@ -137,8 +137,8 @@ fn measure(
 
 /// Forgets the PDUs of the session before.
 fn begin(measured: &mut Measurements)
-    // No PDU is kept with a time, and none is the last or confirmed; the distributions stay (`begun_anew`).
-    ensures { measured.new ≡ begun_anew measured.old }
+    // No PDU is kept with a time, and none is the last or confirmed; the distributions stay (`forget_moments`).
+    ensures { measured.new ≡ forget_moments measured.old }
 {
     measured.times = [0; MOMENTS];
     measured.last = 0;
@@ -160,8 +160,8 @@ fn copies_elsewhere(together: NumberOrder, channel: Option<NumberOrder>) -> bool
 
 /// Measures the skew of a copy.
 fn measure_copy(measured: &mut Measurements, time: u64, header: &Header)
-    // The time since the first copy is a skew, if that copy is kept (`copy_measured`).
-    ensures { measured.new ≡ copy_measured measured.old time header.now }
+    // The time since the first copy is a skew, if that copy is kept (`measure_skew`).
+    ensures { measured.new ≡ measure_skew measured.old time header.now }
 {
     let first = moment(measured, header.sn, header.ts);
     add_span(&mut measured.skews, first, time);
@@ -176,8 +176,8 @@ fn measure_first(
     remarks: &Remarks,
 )
     // The round trip, the silence, the wait and the units take the PDU in, and it is kept with its time
-    // (`first_measured`).
-    ensures { measured.new ≡ first_measured measured.old sent time header.now remarks.now }
+    // (`measure_new_pdu`).
+    ensures { measured.new ≡ measure_new_pdu measured.old sent time header.now remarks.now }
 {
     if answers(measured.confirmed, header, remarks) {
         add_span(&mut measured.round_trips, sent, time);
@@ -195,8 +195,8 @@ fn measure_first(
 /// Returns `true` if a PDU is the first that confirms its timestamp.
 fn answers(confirmed: u32, header: &Header, remarks: &Remarks) -> bool
     // The PDU is of a type whose confirmation counts, has an age, is not late, and confirms another timestamp than
-    // the one before (`answers_now`).
-    ensures { result ≡ answers_now confirmed header.now remarks.now }
+    // the one before (`is_first_answer`).
+    ensures { result ≡ is_first_answer confirmed header.now remarks.now }
 {
     is_answer_kind(header.kind)
         && remarks.age.is_some()
@@ -247,8 +247,8 @@ fn milliseconds(from: u64, to: u64) -> u32
 /// Counts a PDU in the units of its second.
 fn count_unit(measured: &mut Measurements, time: u64, kind: Kind)
     // In another second than that of the last PDU the units begin at 0. Only Data counts, and the most of a second
-    // is kept (`unit_counted`).
-    ensures { measured.new ≡ unit_counted measured.old time kind }
+    // is kept (`add_unit`).
+    ensures { measured.new ≡ add_unit measured.old time kind }
 {
     measured.units = units(measured, time, kind);
     measured.busiest = measured.busiest.max(measured.units);
@@ -273,8 +273,8 @@ fn units(measured: &Measurements, time: u64, kind: Kind) -> u16
 /// Keeps a new PDU with its time.
 fn keep_moment(measured: &mut Measurements, header: &Header, time: u64)
     // The slot of the sequence number has the timestamp and the `time`, which is also that of the last PDU
-    // (`moment_kept`).
-    ensures { measured.new ≡ moment_kept measured.old header.now time }
+    // (`store_moment`).
+    ensures { measured.new ≡ store_moment measured.old header.now time }
 {
     let slot = header.sn as usize % MOMENTS;
     measured.stamps[slot] = header.ts;

@@ -1,9 +1,9 @@
 //! The packets of a pcapng file: enhanced, simple, and the obsolete block.
 
 ghost use Rattle.std.specs.Prelude.{◌≡◌, ◌≤◌, ◌+◌, ◌^◌, length, IfOk};
-ghost use Rattle.capture.specs.Recordings.{EndsWithin, IsWithin, described, frame_for, obsolete_step, packet_step, simple_size, simple_step};
+ghost use Rattle.capture.specs.Recordings.{IsWithinBlock, IsWithin, interface_at, frame_for, obsolete_step, packet_step, simple_size, simple_step};
 
-use crate::file::{BlockContent, Change, FileFault, FilePart, Framed, INTERFACES, Step};
+use crate::file::{BlockContent, BlockFrame, Change, FileFault, FilePart, INTERFACES, Step};
 use crate::interfaces::{Interface, micros, shift};
 use crate::places::{long, short};
 
@@ -18,7 +18,7 @@ pub(crate) fn enhanced(
     // frame starts at byte 20 (`packet_step`).
     ensures step { result ≡ packet_step interfaces.now big inner.now }
     // The frame of an enhanced packet is within the `inner` bytes.
-    ensures within { IfOk result (λ step. EndsWithin inner.now step.event) }
+    ensures within { IfOk result (λ step. IsWithinBlock inner.now step.event) }
 {
     let Some(number) = long(big, inner, 0) else {
         return Err(FileFault::Length);
@@ -77,7 +77,7 @@ fn frame_of(
         None => Err(FileFault::Interface),
         Some(interface) => Ok(Step {
             part: FilePart::Block(big),
-            event: BlockContent::Frame(Framed {
+            event: BlockContent::Frame(BlockFrame {
                 link: interface.link,
                 time: shift(
                     interface.offset,
@@ -103,7 +103,7 @@ pub(crate) fn obsolete(
     // frame starts at byte 20, as in an enhanced packet (`obsolete_step`).
     ensures step { result ≡ obsolete_step interfaces.now big inner.now }
     // The frame of an obsolete packet is within the `inner` bytes.
-    ensures within { IfOk result (λ step. EndsWithin inner.now step.event) }
+    ensures within { IfOk result (λ step. IsWithinBlock inner.now step.event) }
 {
     let Some(number) = short(big, inner, 0) else {
         return Err(FileFault::Length);
@@ -142,7 +142,7 @@ pub(crate) fn simple(
     // starts at byte 4 and has the time `last` (`simple_step`).
     ensures step { result ≡ simple_step interfaces.now last big inner.now }
     // The frame of a simple packet is within the `inner` bytes.
-    ensures within { IfOk result (λ step. EndsWithin inner.now step.event) }
+    ensures within { IfOk result (λ step. IsWithinBlock inner.now step.event) }
 {
     let Some(original) = long(big, inner, 0) else {
         return Err(FileFault::Length);
@@ -153,7 +153,7 @@ pub(crate) fn simple(
             let size = size_kept(interface.limit, original, inner.len() - 4);
             Ok(Step {
                 part: FilePart::Block(big),
-                event: BlockContent::Frame(Framed {
+                event: BlockContent::Frame(BlockFrame {
                     link: interface.link,
                     time: last,
                     start: 4,
@@ -182,8 +182,8 @@ fn size_kept(limit: u32, original: u32, room: usize) -> usize
 
 /// Returns the interface with this number.
 fn described_at(interfaces: &[Option<Interface>; INTERFACES], number: u32) -> Option<Interface>
-    // The result is the interface at this place; `None` for a number of `INTERFACES` or more (`described`).
-    ensures { result ≡ described interfaces.now number }
+    // The result is the interface at this place; `None` for a number of `INTERFACES` or more (`interface_at`).
+    ensures { result ≡ interface_at interfaces.now number }
 {
     let place = number as usize;
     if place < INTERFACES {

@@ -4,7 +4,7 @@
 //! next one, so each PDU belongs to exactly one session.
 
 ghost use Rattle.std.specs.Prelude.{◌≡◌, ◌<◌};
-ghost use Rattle.capture.specs.Sessions.{alone_in, alone_of, begun, ended_in, is_asked_by_other, is_awaited_in, is_doubled, is_other_silent, is_timeout, is_unanswered_by, is_unanswered_in, lost_in_session, missing_after, missing_on, no_session_totals, one_if, open_session, open_sessions, open_side, parted, parting_if, parting_in, session_after, session_counted, session_sums, sessions_after, sessions_begun, sessions_opened, side_after, with_alone};
+ghost use Rattle.capture.specs.Sessions.{alone_in, alone_of, start_session, end_current, is_asked_by_other, is_awaited_in, is_doubled, is_other_silent, is_timeout, is_unanswered_by, is_unanswered_in, lost_in_session, missing_after, missing_on, no_session_totals, one_if, open_session, open_sessions, open_side, first_disconnection, disconnection_if, disconnection_in, session_after, count_session, session_sums, sessions_after, begin_sessions, sessions_after_opening, side_after, with_alone};
 
 use crate::direction::{CHANNELS, Remarks, greatest, is_first_copy};
 use crate::window::NumberOrder;
@@ -33,7 +33,7 @@ pub struct Session {
     /// Its number in its connection, from 1.
     pub number: u64,
     /// Its ConnReq; `None` if that was not recorded.
-    pub asked: Option<Asking>,
+    pub asked: Option<SessionRequest>,
     /// The time of its ConnResp, in microseconds.
     pub up: Option<u64>,
     /// What the end with the lower identifier did.
@@ -44,7 +44,7 @@ pub struct Session {
 
 /// The ConnReq of a session.
 #[derive(Clone, Copy, Debug, PartialEq, Eq)]
-pub struct Asking {
+pub struct SessionRequest {
     /// When it was recorded, in microseconds.
     pub time: u64,
     /// The end with the lower identifier sent it.
@@ -55,7 +55,7 @@ pub struct Asking {
 #[derive(Clone, Copy, Debug, PartialEq, Eq)]
 pub struct Side {
     /// Its first DiscReq.
-    pub left: Option<Parting>,
+    pub left: Option<Disconnection>,
     /// Its longest wait for a confirmation, in milliseconds.
     pub longest: u32,
     /// The numbers that are missing on each channel.
@@ -70,7 +70,7 @@ pub struct Side {
 
 /// The DiscReq of an end.
 #[derive(Clone, Copy, Debug, PartialEq, Eq)]
-pub struct Parting {
+pub struct Disconnection {
     /// When it was recorded, in microseconds.
     pub time: u64,
     /// Its reason and detail.
@@ -123,7 +123,7 @@ fn new_totals() -> SessionTotals
 }
 
 /// Returns a session before its first PDU.
-fn new_session(number: u64, asked: Option<Asking>, up: Option<u64>) -> Session
+fn new_session(number: u64, asked: Option<SessionRequest>, up: Option<u64>) -> Session
     // The session has this `number`, ConnReq and time of its ConnResp; neither end has sent anything.
     ensures { result ≡ open_session number asked up }
 {
@@ -159,7 +159,7 @@ pub(crate) fn note_session(
     kind: Kind,
     remarks: &Remarks,
 )
-    // An opening starts a session, or a ConnResp brings up the one that awaits it (`sessions_begun`). Then the PDU is
+    // An opening starts a session, or a ConnResp brings up the one that awaits it (`begin_sessions`). Then the PDU is
     // counted for its end in the current session (`session_after`).
     ensures { sessions.new ≡ sessions_after sessions.old from_low time kind remarks.now }
 {
@@ -170,8 +170,8 @@ pub(crate) fn note_session(
 /// Starts a session if a PDU opens one, or is the first of its connection.
 fn begin_by(sessions: &mut Sessions, opens: bool, from_low: bool, time: u64, kind: Kind)
     // If the PDU `opens`, the sessions are those after its opening. Any other PDU starts a session only if there was
-    // none (`sessions_begun`).
-    ensures { sessions.new ≡ sessions_begun opens sessions.old from_low time kind }
+    // none (`begin_sessions`).
+    ensures { sessions.new ≡ begin_sessions opens sessions.old from_low time kind }
 {
     if opens {
         open_by(sessions, from_low, time, kind);
@@ -183,11 +183,11 @@ fn begin_by(sessions: &mut Sessions, opens: bool, from_low: bool, time: u64, kin
 /// Takes in a ConnReq or a ConnResp.
 fn open_by(sessions: &mut Sessions, from_low: bool, time: u64, kind: Kind)
     // A ConnReq starts a session at this `time`. A ConnResp brings up the current one if that awaits it; otherwise it
-    // starts one (`sessions_opened`).
-    ensures { sessions.new ≡ sessions_opened sessions.old from_low time kind }
+    // starts one (`sessions_after_opening`).
+    ensures { sessions.new ≡ sessions_after_opening sessions.old from_low time kind }
 {
     if matches!(kind, Kind::ConnReq) {
-        let asking = Asking {
+        let asking = SessionRequest {
             time,
             by_low: from_low,
         };
@@ -208,7 +208,7 @@ fn awaits(session: &Session, from_low: bool) -> bool
 }
 
 /// Returns `true` if the other end than this one sent the ConnReq.
-fn asks_other(asked: Option<Asking>, from_low: bool) -> bool
+fn asks_other(asked: Option<SessionRequest>, from_low: bool) -> bool
     // Without a recorded ConnReq the result is false; otherwise both ends are compared.
     ensures { result ≡ is_asked_by_other asked from_low }
 {
@@ -225,10 +225,10 @@ fn asks_other(asked: Option<Asking>, from_low: bool) -> bool
 }
 
 /// Starts the next session.
-fn begin(sessions: &mut Sessions, asked: Option<Asking>, up: Option<u64>)
+fn begin(sessions: &mut Sessions, asked: Option<SessionRequest>, up: Option<u64>)
     // The session before is kept in the place of the oldest one and added to the sums; the new one has the next
-    // number (`begun`).
-    ensures { sessions.new ≡ begun sessions.old asked up }
+    // number (`start_session`).
+    ensures { sessions.new ≡ start_session sessions.old asked up }
 {
     end(sessions);
     let number = sessions.current.number.saturating_add(1);
@@ -238,8 +238,8 @@ fn begin(sessions: &mut Sessions, asked: Option<Asking>, up: Option<u64>)
 /// Keeps the current session among those that have ended, if there is one.
 fn end(sessions: &mut Sessions)
     // The session replaces the kept one with the same remainder of its number, and is added to the sums; the current
-    // session does not change (`ended_in`).
-    ensures { sessions.new ≡ ended_in sessions.old }
+    // session does not change (`end_current`).
+    ensures { sessions.new ≡ end_current sessions.old }
 {
     let last = sessions.current;
     if last.number > 0 {
@@ -290,9 +290,14 @@ fn count_if(holds: bool) -> u64
 }
 
 /// Returns the first DiscReq of an end in a session, after one of its PDUs.
-fn part(left: Option<Parting>, time: u64, follows: bool, remarks: &Remarks) -> Option<Parting>
-    // The first DiscReq stays; without one, the result is that of the PDU, if it is new (`parted`).
-    ensures { result ≡ parted left time follows remarks.now }
+fn part(
+    left: Option<Disconnection>,
+    time: u64,
+    follows: bool,
+    remarks: &Remarks,
+) -> Option<Disconnection>
+    // The first DiscReq stays; without one, the result is that of the PDU, if it is new (`first_disconnection`).
+    ensures { result ≡ first_disconnection left time follows remarks.now }
 {
     match left {
         Some(parting) => Some(parting),
@@ -306,9 +311,14 @@ fn part(left: Option<Parting>, time: u64, follows: bool, remarks: &Remarks) -> O
 }
 
 /// Returns the DiscReq of a PDU, if it is new.
-fn part_if(is_new: bool, time: u64, follows: bool, leaving: Option<Leaving>) -> Option<Parting>
-    // A copy has none; a new PDU has one if it has a reason (`parting_in`).
-    ensures { result ≡ parting_if is_new time follows leaving }
+fn part_if(
+    is_new: bool,
+    time: u64,
+    follows: bool,
+    leaving: Option<Leaving>,
+) -> Option<Disconnection>
+    // A copy has none; a new PDU has one if it has a reason (`disconnection_in`).
+    ensures { result ≡ disconnection_if is_new time follows leaving }
 {
     if is_new {
         return part_in(time, follows, leaving);
@@ -317,13 +327,13 @@ fn part_if(is_new: bool, time: u64, follows: bool, leaving: Option<Leaving>) -> 
 }
 
 /// Returns the DiscReq of a PDU.
-fn part_in(time: u64, follows: bool, leaving: Option<Leaving>) -> Option<Parting>
+fn part_in(time: u64, follows: bool, leaving: Option<Leaving>) -> Option<Disconnection>
     // Without a reason the PDU is not a DiscReq.
-    ensures { result ≡ parting_in time follows leaving }
+    ensures { result ≡ disconnection_in time follows leaving }
 {
     match leaving {
         None => None,
-        Some(leaving) => Some(Parting {
+        Some(leaving) => Some(Disconnection {
             time,
             leaving,
             follows,
@@ -416,7 +426,7 @@ pub fn is_unanswered(session: &Session) -> bool
 }
 
 /// Returns `true` if the end that did not ask for a session has not left it.
-fn is_silent(asked: &Asking, session: &Session) -> bool
+fn is_silent(asked: &SessionRequest, session: &Session) -> bool
     // The other end than the one that `asked` has sent no DiscReq in the `session`.
     ensures { result ≡ is_other_silent asked.now session.now }
 {
@@ -428,7 +438,7 @@ fn is_silent(asked: &Asking, session: &Session) -> bool
 }
 
 /// Returns `true` if an end left by a timeout.
-fn times_out(left: Option<Parting>) -> bool
+fn times_out(left: Option<Disconnection>) -> bool
     // The result is true exactly if the end has left with reason 3.
     ensures { result ≡ is_timeout left }
 {
@@ -440,8 +450,8 @@ fn times_out(left: Option<Parting>) -> bool
 
 /// Adds a session to the sums.
 fn add_session(totals: SessionTotals, session: &Session) -> SessionTotals
-    // Each sum grows by what the `session` adds to it (`session_counted`).
-    ensures { result ≡ session_counted totals session.now }
+    // Each sum grows by what the `session` adds to it (`count_session`).
+    ensures { result ≡ count_session totals session.now }
 {
     let up = session.up.is_some();
     let left = session.low.left.is_some() || session.high.left.is_some();

@@ -1,7 +1,7 @@
 //! The window of recent numbers: which were seen, and how the next one follows them.
 
 ghost use Rattle.std.specs.Prelude.{◌≡◌, ◌<◌, ◌%◌};
-ghost use Rattle.capture.specs.Numbers.{line_seen, judged, judged_again, judged_ahead, judged_from, kept, moved, noted, of_number, open_window, reopened, seen_of};
+ghost use Rattle.capture.specs.Numbers.{line_seen, number_order, order_again, order_ahead, order_from, keep_entry, move_window, note_number, of_number, open_window, restart_window, seen_of};
 
 /// How many numbers are kept: one for each remainder modulo 32. 32 divides 2^32, so the ring wraps within it.
 pub const KEPT: usize = 32;
@@ -15,7 +15,7 @@ pub const PASSED_MAX: u32 = 65_535;
 
 /// A number that was seen.
 #[derive(Clone, Copy, Debug, PartialEq, Eq)]
-pub struct Seen {
+pub struct SeenNumber {
     /// The number.
     pub number: u32,
     /// The line on which it was seen first.
@@ -32,7 +32,7 @@ pub struct Window {
     /// How many of the numbers directly before it were seen or skipped since the window started, at most `LATE_MAX`.
     pub behind: u32,
     /// For each remainder, the last number that was seen since the window started.
-    pub seen: [Option<Seen>; KEPT],
+    pub seen: [Option<SeenNumber>; KEPT],
     /// How many different numbers came in order.
     pub heard: u64,
     /// How many were skipped and have not come.
@@ -93,7 +93,7 @@ pub fn judge(window: &Window, number: u32, fingerprint: u64) -> NumberOrder
     // A kept number is a repeat if its fingerprint is the same, otherwise it differs. Any other is judged by its
     // distance from the newest. Up to 2^31 steps back it is stale, unless it is one of the 31 before the newest that
     // was skipped.
-    ensures { result ≡ judged window.now number fingerprint }
+    ensures { result ≡ number_order window.now number fingerprint }
 {
     match find(window, number) {
         Some(seen) => judge_again(seen, fingerprint),
@@ -111,7 +111,7 @@ pub(crate) fn line_of(window: &Window, number: u32) -> Option<u64>
 }
 
 /// Returns the entry of a number, if it is kept.
-fn find(window: &Window, number: u32) -> Option<Seen>
+fn find(window: &Window, number: u32) -> Option<SeenNumber>
     // The entry is in the slot of the number's remainder, and is of this number.
     ensures { result ≡ seen_of window.now number }
 {
@@ -119,7 +119,7 @@ fn find(window: &Window, number: u32) -> Option<Seen>
 }
 
 /// Returns the entry if it is of this number.
-fn keep_number(seen: Option<Seen>, number: u32) -> Option<Seen>
+fn keep_number(seen: Option<SeenNumber>, number: u32) -> Option<SeenNumber>
     // An entry of another number is dropped (`of_number`).
     ensures { result ≡ of_number number seen }
 {
@@ -136,9 +136,9 @@ fn keep_number(seen: Option<Seen>, number: u32) -> Option<Seen>
 }
 
 /// Compares a number that came again with its first arrival.
-fn judge_again(seen: Seen, fingerprint: u64) -> NumberOrder
+fn judge_again(seen: SeenNumber, fingerprint: u64) -> NumberOrder
     // The same fingerprint is a repeat of that line; another one differs from that line.
-    ensures { result ≡ judged_again seen fingerprint }
+    ensures { result ≡ order_again seen fingerprint }
 {
     if seen.fingerprint == fingerprint {
         NumberOrder::Repeat(seen.line)
@@ -150,7 +150,7 @@ fn judge_again(seen: Seen, fingerprint: u64) -> NumberOrder
 /// Judges a number that is not kept.
 fn judge_new(window: &Window, number: u32) -> NumberOrder
     // Without a newest number it is the first; otherwise its distance from the newest counts.
-    ensures { result ≡ judged_from window.now window.now.newest number }
+    ensures { result ≡ order_from window.now window.now.newest number }
 {
     match window.newest {
         None => NumberOrder::First,
@@ -162,7 +162,7 @@ fn judge_new(window: &Window, number: u32) -> NumberOrder
 fn judge_ahead(window: &Window, steps: u32) -> NumberOrder
     // At most 1 is next, at most `PASSED_MAX` + 1 a gap; close before the newest it is late, if any number is
     // missing. At 2^31 and beyond it is stale; otherwise the window starts again.
-    ensures { result ≡ judged_ahead window.now steps }
+    ensures { result ≡ order_ahead window.now steps }
 {
     if steps <= 1 {
         NumberOrder::Next
@@ -180,13 +180,13 @@ fn judge_ahead(window: &Window, steps: u32) -> NumberOrder
 /// Adds a number to the window and returns how it followed.
 pub fn note(window: &mut Window, number: u32, line: u64, fingerprint: u64) -> NumberOrder
     // The result is how the number followed the window before the call.
-    ensures judged { result ≡ judged window.old number fingerprint }
+    ensures judged { result ≡ number_order window.old number fingerprint }
     // The window is changed by that: a gap adds missing numbers, a late one takes one of them away. A repeat, a
-    // differing and a stale number change only their counts (`noted_as`).
-    ensures noted { window.new ≡ noted window.old number line fingerprint }
+    // differing and a stale number change only their counts (`note_number`).
+    ensures noted { window.new ≡ note_number window.old number line fingerprint }
 {
     let judged = judge(window, number, fingerprint);
-    let seen = Seen {
+    let seen = SeenNumber {
         number,
         line,
         fingerprint,
@@ -216,7 +216,7 @@ pub fn note(window: &mut Window, number: u32, line: u64, fingerprint: u64) -> Nu
 /// Starts the window again with the next number; its counts stay.
 pub(crate) fn reopen(window: &mut Window)
     // No number is kept any more, and there is no newest; all counts are as before.
-    ensures { window.new ≡ reopened window.old }
+    ensures { window.new ≡ restart_window window.old }
 {
     window.newest = None;
     window.behind = 0;
@@ -224,9 +224,9 @@ pub(crate) fn reopen(window: &mut Window)
 }
 
 /// Makes a number the newest, `steps` ahead of the one before.
-fn move_on(window: &mut Window, steps: u32, seen: Seen)
-    // The number is the newest and is kept; `behind` grows by `steps` up to `LATE_MAX`, and `heard` by 1 (`moved`).
-    ensures { window.new ≡ moved window.old steps seen }
+fn move_on(window: &mut Window, steps: u32, seen: SeenNumber)
+    // The number is the newest and is kept; `behind` grows by `steps` up to `LATE_MAX`, and `heard` by 1 (`move_window`).
+    ensures { window.new ≡ move_window window.old steps seen }
 {
     window.newest = Some(seen.number);
     window.behind = window.behind.saturating_add(steps).min(LATE_MAX);
@@ -235,9 +235,9 @@ fn move_on(window: &mut Window, steps: u32, seen: Seen)
 }
 
 /// Keeps a number in the slot of its remainder.
-fn keep(window: &mut Window, seen: Seen)
+fn keep(window: &mut Window, seen: SeenNumber)
     // Only the entry in the slot of the number changes.
-    ensures { window.new ≡ kept window.old seen }
+    ensures { window.new ≡ keep_entry window.old seen }
 {
     window.seen[seen.number as usize % KEPT] = Some(seen);
 }

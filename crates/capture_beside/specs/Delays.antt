@@ -41,8 +41,8 @@ abbrev pub before_greatest_of : ℕ → ℕ → ℕ → List ℕ → ℕ
 before_greatest_of first greatest rank counts = greatest - min (start_at first (place_at_rank rank counts) + (WIDTH - 1)) (2 ^ 64 - 1)
 
 -- a difference with the other sign
-abbrev pub reversed_of : ℕ → ℕ
-reversed_of difference = min (2 ^ 64 - difference) (2 ^ 64 - 1)
+abbrev pub negation_of : ℕ → ℕ
+negation_of difference = min (2 ^ 64 - difference) (2 ^ 64 - 1)
 
 -- sent from here, a datagram is the faster the less the difference is: half of the pairs rounded up, and 99 of 100, are counted from the least one
 abbrev pub spread_from_here : ℕ → ℕ → ℕ → ℕ → List ℕ → Spread
@@ -58,7 +58,7 @@ spread_from_here pairs first least greatest counts =
 abbrev pub spread_from_there : ℕ → ℕ → ℕ → ℕ → List ℕ → Spread
 spread_from_there pairs first least greatest counts =
     record {
-      least = reversed_of greatest;
+      least = negation_of greatest;
       median = before_greatest_of first greatest (pairs / 2 + 1) counts;
       most = before_greatest_of first greatest (pairs / 100 + 1) counts;
       greatest = greatest - least;

@@ -66,24 +66,24 @@ later_json s =
     (codes ",\"median\":" ∷ decimal s.median ∷ codes ",\"most\":" ∷ decimal s.most ∷ codes ",\"greatest\":" ∷ decimal s.greatest ∷ codes "}" ∷ [])
 
 -- how long the datagrams took
-unfoldable pub took_json : Spread → List ℕ
-took_json s = codes ",\"least\":" ++ signed_json s.least ++ later_json s
+unfoldable pub durations_json : Spread → List ℕ
+durations_json s = codes ",\"least\":" ++ signed_json s.least ++ later_json s
 
 abbrev pub spread_json : Option Spread → List ℕ
 spread_json None = codes ",\"least\":null,\"median\":null,\"most\":null,\"greatest\":null}"
-spread_json (Some s) = took_json s
+spread_json (Some s) = durations_json s
 
 -- the object of a way
 unfoldable pub way_json : Option Site → Way → List ℕ
 way_json origin way = ends_json way ++ origin_json origin ++ (pairs_json way.sums ++ outside_json way.sums) ++ spread_json (spread_in origin way)
 
 -- one of all ways, after a comma
-unfoldable pub listed_json : List Way → Way → List ℕ
-listed_json ways way = codes "," ++ way_json (origin_of ways way) way
+unfoldable pub next_way_json : List Way → Way → List ℕ
+next_way_json ways way = codes "," ++ way_json (origin_of ways way) way
 
 -- further ways, each after a comma
 abbrev pub more_json : List Way → List Way → List ℕ
-more_json ways rest = flat_map (λ (way : Way). listed_json ways way) rest
+more_json ways rest = flat_map (λ (way : Way). next_way_json ways way) rest
 
 -- the objects of some of all ways
 abbrev pub some_json : List Way → List Way → List ℕ

@@ -2,7 +2,7 @@
 use Rattle.std.specs.Prelude.{ℕ, ◌&&◌, Bool, nat_le, nat_lt, List, slice_get, if◌then◌else◌, Option, Some, None}
 use Rattle.std.specs.List.{position}
 use Rattle.capture.specs.declared.line.Address.{Address}
-use Rattle.capture.specs.Connecting.{is_same_address}
+use Rattle.capture.specs.Connections.{is_same_address}
 use Rattle.capture_beside.specs.declared.pairing.Arrival.{Arrival}
 use Rattle.capture_beside.specs.declared.sites.Site.{Site}
 use Rattle.capture_beside.specs.declared.sites.Site.TheVariants.{Here, There}
@@ -18,12 +18,12 @@ turn_of shift None (Some there) = Some There
 turn_of shift (Some here) (Some there) = if nat_le shift (difference_of here.time there.time) then Some Here else Some There
 
 -- the way goes from one address to another
-abbrev pub goes_between : Address → Address → Way → Bool
-goes_between source destination way = is_same_address way.source source && is_same_address way.destination destination
+abbrev pub is_way_between : Address → Address → Way → Bool
+is_way_between source destination way = is_same_address way.source source && is_same_address way.destination destination
 
 -- the place of that way
 abbrev pub way_place : Address → Address → List Way → Option ℕ
-way_place source destination ways = position (λ (way : Way). goes_between source destination way) ways
+way_place source destination ways = position (λ (way : Way). is_way_between source destination way) ways
 
 -- the median of the differences of a way
 abbrev pub median_in : Way → Option ℕ

@@ -1,6 +1,6 @@
 -- What is counted of a way.
 use Rattle.std.specs.Prelude.{◌≡◌, ℕ, ◌+◌, ◌-◌, ◌<◌, ◌^◌, ◌||◌, Bool, true, false, nat_lt, min, max, if◌then◌else◌, List, length, Option, Some, None}
-use Rattle.capture_beside.specs.declared.queue.Waiting.{Waiting}
+use Rattle.capture_beside.specs.declared.queue.WaitingDatagram.{WaitingDatagram}
 use Rattle.capture_beside.specs.declared.sites.Extent.{Extent}
 use Rattle.capture_beside.specs.declared.sites.Site.{Site}
 use Rattle.capture_beside.specs.declared.sites.Site.TheVariants.{Here, There}
@@ -30,35 +30,35 @@ with_tally Here t s = record s { here = t }
 with_tally There t s = record s { there = t }
 
 -- a datagram with a number
-abbrev pub numbered : ℕ → ℕ → ℕ → Waiting
-numbered fingerprint time number = record { fingerprint = fingerprint; time = time; number = number }
+abbrev pub datagram_with : ℕ → ℕ → ℕ → WaitingDatagram
+datagram_with fingerprint time number = record { fingerprint = fingerprint; time = time; number = number }
 
 -- a datagram that arrives gets the next number of its site
-abbrev pub arrived_of : Site → ℕ → ℕ → Sums → Waiting
-arrived_of site fingerprint time s = numbered fingerprint time (tally_of site s).recorded
+abbrev pub arriving_datagram : Site → ℕ → ℕ → Sums → WaitingDatagram
+arriving_datagram site fingerprint time s = datagram_with fingerprint time (tally_of site s).recorded
 
 -- the tally with one more that was recorded
 abbrev pub with_recorded : Tally → Tally
 with_recorded t = record t { recorded = one_more t.recorded }
 
 -- the sums with one more that a site recorded
-abbrev pub recorded_at : Site → Sums → Sums
-recorded_at site s = with_tally site (with_recorded (tally_of site s)) s
+abbrev pub count_recorded : Site → Sums → Sums
+count_recorded site s = with_tally site (with_recorded (tally_of site s)) s
 
 -- one of both comes behind a later one that has a partner
-abbrev pub is_behind : Waiting → Waiting → Sums → Bool
+abbrev pub is_behind : WaitingDatagram → WaitingDatagram → Sums → Bool
 is_behind here there s = nat_lt here.number s.here.furthest || nat_lt there.number s.there.furthest
 
 -- the tally with one more that has a partner
-abbrev pub reached : ℕ → Tally → Tally
-reached number t = record t { furthest = max t.furthest (one_more number) }
+abbrev pub count_partner : ℕ → Tally → Tally
+count_partner number t = record t { furthest = max t.furthest (one_more number) }
 
 -- the sums with one more pair
-abbrev pub paired : Waiting → Waiting → Sums → Sums
-paired here there s =
+abbrev pub count_pair : WaitingDatagram → WaitingDatagram → Sums → Sums
+count_pair here there s =
     record {
-      here = reached here.number s.here;
-      there = reached there.number s.there;
+      here = count_partner here.number s.here;
+      there = count_partner there.number s.there;
       both = one_more s.both;
       reordered = if is_behind here there s then one_more s.reordered else s.reordered;
       shift = Some (difference_of here.time there.time);
@@ -70,11 +70,11 @@ shift_from None shift = shift
 shift_from (Some own) shift = own
 
 -- the tally with one more that has no partner: outside of the other recording, or missing in it
-abbrev pub left_alone : Bool → Tally → Tally
-left_alone true t = record t { outside = one_more t.outside }
-left_alone false t = record t { alone = one_more t.alone }
+abbrev pub count_without_partner : Bool → Tally → Tally
+count_without_partner true t = record t { outside = one_more t.outside }
+count_without_partner false t = record t { alone = one_more t.alone }
 
 -- the sums with one more that has no partner
-abbrev pub given_up : Site → Waiting → ℕ → Option Extent → Sums → Sums
-given_up site gone shift other s =
-    with_tally site (left_alone (is_outside_of site gone.time (shift_from s.shift shift) other) (tally_of site s)) s
+abbrev pub give_up : Site → WaitingDatagram → ℕ → Option Extent → Sums → Sums
+give_up site gone shift other s =
+    with_tally site (count_without_partner (is_outside_of site gone.time (shift_from s.shift shift) other) (tally_of site s)) s

@@ -45,13 +45,13 @@ unfoldable pub longer_text : Spread → List ℕ
 longer_text s = later_text (codes " median +") s.median ++ later_text (codes " 99% +") s.most ++ later_text (codes " greatest +") s.greatest
 
 -- how long the fastest took, and the others
-unfoldable pub took_text : Spread → List ℕ
-took_text s = (codes " least " ++ signed_text s.least) ++ longer_text s
+unfoldable pub durations_text : Spread → List ℕ
+durations_text s = (codes " least " ++ signed_text s.least) ++ longer_text s
 
 -- the same if there is a pair, and the end of the line
 abbrev pub spread_text : Option Spread → List ℕ
 spread_text None = codes "\n"
-spread_text (Some s) = took_text s ++ codes "\n"
+spread_text (Some s) = durations_text s ++ codes "\n"
 
 -- how long the datagrams of a way took from a site
 abbrev pub spread_in : Option Site → Way → Option Spread

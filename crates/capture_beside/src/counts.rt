@@ -1,7 +1,7 @@
 //! What was read of a recording.
 
 ghost use Rattle.std.specs.Prelude.{◌≡◌};
-ghost use Rattle.capture_beside.specs.Counts.{frame_counted, no_counts};
+ghost use Rattle.capture_beside.specs.Counts.{count_frame, no_counts};
 
 use crate::pairing::Arrival;
 use capture_text::FrameFault;
@@ -48,8 +48,8 @@ impl Counts {
 
     /// Counts a frame.
     pub(crate) fn add(&mut self, content: &Content)
-        // The frame is counted, and once more by what it has; of something else only the frame is (`frame_counted`).
-        ensures { self.new ≡ frame_counted content.now self.old }
+        // The frame is counted, and once more by what it has; of something else only the frame is (`count_frame`).
+        ensures { self.new ≡ count_frame content.now self.old }
     {
         self.frames = self.frames.saturating_add(1);
         match content {

@@ -1,7 +1,7 @@
 //! How long datagrams took from one recording to the other.
 
 ghost use Rattle.std.specs.Prelude.{◌≡◌, ◌≤◌, Some, None, length, max, min, replicate, IfOk};
-ghost use Rattle.capture_beside.specs.Delays.{before_greatest_of, behind_least_of, bucket_of, first_from, median_of, place_at_rank, reversed_of, spread_of, start_at, with_one};
+ghost use Rattle.capture_beside.specs.Delays.{before_greatest_of, behind_least_of, bucket_of, first_from, median_of, place_at_rank, negation_of, spread_of, start_at, with_one};
 
 use crate::sites::Site;
 use std::alloc::{AllocError, Global};
@@ -98,7 +98,7 @@ impl Delays {
                 greatest,
             }),
             Some(Site::There) => Some(Spread {
-                least: reversed(self.greatest),
+                least: negate(self.greatest),
                 median: self.before_greatest(first, pairs / 2 + 1),
                 most: self.before_greatest(first, pairs / 100 + 1),
                 greatest,
@@ -207,9 +207,9 @@ fn place_of_rank(buckets: &[u64], rank: u64) -> usize
 }
 
 /// Returns a difference with the other sign.
-fn reversed(difference: u64) -> u64
+fn negate(difference: u64) -> u64
     // The result is as far from the difference of equal times on the other side, limited to 2^64 - 1.
-    ensures { result ≡ reversed_of difference }
+    ensures { result ≡ negation_of difference }
 {
     (u64::MAX - difference).saturating_add(1)
 }

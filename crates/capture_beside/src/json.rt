@@ -3,7 +3,7 @@
 ghost use Rattle.std.specs.Prelude.{◌≡◌, ◌++◌, codes, OnOk};
 ghost use Rattle.std.specs.Io.KnownBytes.{Appends};
 ghost use Rattle.capture_beside.specs.Pairs.{origin_of};
-ghost use Rattle.capture_beside.specs.Json.{counts_json, end_json, ends_json, later_json, left_out_json, listed_json, more_json, object_json, origin_json, outside_json, pairs_json, read_json, signed_json, spread_json, took_json, way_json, ways_json};
+ghost use Rattle.capture_beside.specs.Json.{counts_json, end_json, ends_json, later_json, left_out_json, next_way_json, more_json, object_json, origin_json, outside_json, pairs_json, read_json, signed_json, spread_json, durations_json, way_json, ways_json};
 
 use crate::counts::Counts;
 use crate::delays::Spread;
@@ -99,10 +99,10 @@ fn write_more<W: Write>(writer: &mut W, ways: &[Way], rest: &[Way]) -> io::Resul
 }
 
 /// Writes the object of a way after a comma.
-#[tactic(auto, unfolding(crate::specs::Json::listed_json))]
+#[tactic(auto, unfolding(crate::specs::Json::next_way_json))]
 fn write_listed<W: Write>(writer: &mut W, ways: &[Way], way: &Way) -> io::Result<()>
     // On success a comma and the object of this `way` are appended.
-    ensures { OnOk result (Appends (W.contents writer.old) (W.contents writer.new) (listed_json ways.now way.now)) }
+    ensures { OnOk result (Appends (W.contents writer.old) (W.contents writer.new) (next_way_json ways.now way.now)) }
 {
     write_text(writer, ",")?;
     write_way(writer, ways, way)
@@ -206,10 +206,10 @@ fn write_spread<W: Write>(writer: &mut W, spread: Option<Spread>) -> io::Result<
 }
 
 /// Writes how long the datagrams of a way took in microseconds, and closes its object.
-#[tactic(auto, unfolding(crate::specs::Json::took_json))]
+#[tactic(auto, unfolding(crate::specs::Json::durations_json))]
 fn write_times<W: Write>(writer: &mut W, spread: Spread) -> io::Result<()>
     // On success the least difference is appended, and how much longer half, 99 of 100 and the slowest took.
-    ensures { OnOk result (Appends (W.contents writer.old) (W.contents writer.new) (took_json spread)) }
+    ensures { OnOk result (Appends (W.contents writer.old) (W.contents writer.new) (durations_json spread)) }
 {
     write_text(writer, ",\"least\":")?;
     write_signed(writer, spread.least)?;

@@ -2,7 +2,7 @@
 
 ghost use Rattle.std.specs.Prelude.{◌≡◌, ◌<◌, [], length, nat_eq, IfOk, IfSome};
 ghost use Rattle.std.specs.List.{list_all};
-ghost use Rattle.capture_beside.specs.Pairs.{goes_between, median_in, origin_of, turn_of, way_place, who_is_first};
+ghost use Rattle.capture_beside.specs.Pairs.{is_way_between, median_in, origin_of, turn_of, way_place, who_is_first};
 ghost use Rattle.capture_beside.specs.declared.sites.TheConstants.{EVEN as EVEN_DIFFERENCE};
 
 use crate::sites::{EVEN, Extent, Site, difference};
@@ -154,13 +154,14 @@ fn place_of(ways: &[Way], source: Address, destination: Address) -> Option<usize
     // The place of a way is in the list.
     ensures bound { IfSome result (λ place. place < length ways.now) }
 {
-    ways.iter().position(|way| goes(way, source, destination))
+    ways.iter()
+        .position(|way| is_between(way, source, destination))
 }
 
 /// Returns `true` if a way goes from one address to another.
-fn goes(way: &Way, source: Address, destination: Address) -> bool
+fn is_between(way: &Way, source: Address, destination: Address) -> bool
     // Both addresses are compared.
-    ensures { result ≡ goes_between source destination way.now }
+    ensures { result ≡ is_way_between source destination way.now }
 {
     is_same(way.source, source) && is_same(way.destination, destination)
 }

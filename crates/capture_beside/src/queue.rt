@@ -1,7 +1,7 @@
 //! The datagrams of a way that one recording has and that have no partner in the other one yet.
 
 ghost use Rattle.std.specs.Prelude.{◌≡◌, ◌<◌, [], ◌∷◌, ◌++◌, length, IfOk, OnOk, IfSome};
-ghost use Rattle.capture_beside.specs.Queues.{left_at, next_at, next_place, oldest, place_of, shifted, taken_at, with_room};
+ghost use Rattle.capture_beside.specs.Queues.{others_at, next_at, next_place, oldest, place_of, next_after_removal, datagram_at, with_room};
 
 use std::alloc::{AllocError, Global};
 
@@ -10,7 +10,7 @@ pub const WAITING: usize = 4096;
 
 /// A datagram that waits for its partner.
 #[derive(Clone, Copy, Debug, PartialEq, Eq)]
-pub struct Waiting {
+pub struct WaitingDatagram {
     /// The fingerprint of its bytes.
     pub fingerprint: u64,
     /// When it was recorded, in microseconds since 1970.
@@ -23,7 +23,7 @@ pub struct Waiting {
 #[derive(Debug, Drop)]
 pub struct Queue {
     /// The datagrams.
-    pub waiting: Vec<Waiting>,
+    pub waiting: Vec<WaitingDatagram>,
     /// The place from which the next partner is sought: where the last one waited.
     pub next: usize,
 }
@@ -45,13 +45,13 @@ impl Queue {
     }
 
     /// Takes the next datagram with a fingerprint: from the last partner on, then from the oldest.
-    pub fn take(&mut self, fingerprint: u64) -> Option<Waiting>
+    pub fn take(&mut self, fingerprint: u64) -> Option<WaitingDatagram>
         // The result is the datagram at the next place with this `fingerprint`, and `None` if no datagram has it
         // (`next_place`).
-        ensures taken { result ≡ taken_at (next_place self.old.next fingerprint self.old.waiting.items) self.old.waiting.items }
+        ensures taken { result ≡ datagram_at (next_place self.old.next fingerprint self.old.waiting.items) self.old.waiting.items }
         // Only that datagram leaves; the others keep their order.
         ensures left { self.new.waiting.items
-            ≡ left_at (next_place self.old.next fingerprint self.old.waiting.items) self.old.waiting.items }
+            ≡ others_at (next_place self.old.next fingerprint self.old.waiting.items) self.old.waiting.items }
         // The next partner is sought from its place on.
         ensures next { self.new.next ≡ next_at (next_place self.old.next fingerprint self.old.waiting.items) self.old.next }
     {
@@ -65,13 +65,13 @@ impl Queue {
     /// # Errors
     ///
     /// `AllocError` if there is too little memory; the datagram is then lost.
-    pub fn wait(&mut self, arrived: Waiting) -> Result<Option<Waiting>, AllocError>
+    pub fn wait(&mut self, arrived: WaitingDatagram) -> Result<Option<WaitingDatagram>, AllocError>
         // `wait` returns the oldest datagram of a full queue, and `None` if there is room (`oldest`).
         ensures gone { IfOk result (λ gone. gone ≡ oldest self.old.waiting.items) }
         // The new datagram is the last one; only the oldest leaves if there was no room (`with_room`).
         ensures waits { OnOk result (self.new.waiting.items ≡ with_room self.old.waiting.items ++ arrived ∷ []) }
-        // The place from which the next partner is sought moves with the datagrams (`shifted`).
-        ensures next { self.new.next ≡ shifted self.old.waiting.items self.old.next }
+        // The place from which the next partner is sought moves with the datagrams (`next_after_removal`).
+        ensures next { self.new.next ≡ next_after_removal self.old.waiting.items self.old.next }
     {
         let gone = self.make_room();
         self.waiting.push(arrived)?;
@@ -79,13 +79,13 @@ impl Queue {
     }
 
     /// Takes the oldest datagram if the queue is full.
-    fn make_room(&mut self) -> Option<Waiting>
+    fn make_room(&mut self) -> Option<WaitingDatagram>
         // The result is the oldest datagram if `WAITING` wait, else `None`.
         ensures gone { result ≡ oldest self.old.waiting.items }
         // A full queue loses its first datagram; any other does not change.
         ensures left { self.new.waiting.items ≡ with_room self.old.waiting.items }
         // The place of the last partner moves with the datagrams.
-        ensures next { self.new.next ≡ shifted self.old.waiting.items self.old.next }
+        ensures next { self.new.next ≡ next_after_removal self.old.waiting.items self.old.next }
     {
         if self.waiting.len() < WAITING {
             return None;
@@ -96,7 +96,7 @@ impl Queue {
 }
 
 /// Returns the place of the next datagram with a fingerprint: from `next` on, then from the start.
-fn place(waiting: &[Waiting], next: usize, fingerprint: u64) -> Option<usize>
+fn place(waiting: &[WaitingDatagram], next: usize, fingerprint: u64) -> Option<usize>
     // The place is the first from `next` on with this `fingerprint`, or else the first of all (`next_place`).
     ensures value { result ≡ next_place next fingerprint waiting.now }
     // The place is one of the datagrams.
@@ -110,7 +110,7 @@ fn place(waiting: &[Waiting], next: usize, fingerprint: u64) -> Option<usize>
 }
 
 /// Returns the place of the first datagram with a fingerprint.
-fn place_of(waiting: &[Waiting], fingerprint: u64) -> Option<usize>
+fn place_of(waiting: &[WaitingDatagram], fingerprint: u64) -> Option<usize>
     // The place is the first whose datagram has this `fingerprint`.
     ensures value { result ≡ place_of fingerprint waiting.now }
     // The first place is one of the datagrams.

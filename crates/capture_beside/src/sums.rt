@@ -2,9 +2,9 @@
 
 ghost use Rattle.std.specs.Prelude.{◌≡◌};
 ghost use Rattle.capture_beside.specs.Sites.{difference_of};
-ghost use Rattle.capture_beside.specs.Sums.{arrived_of, given_up, left_alone, no_sums, no_tally, numbered, paired, reached, recorded_at, shift_from, with_recorded};
+ghost use Rattle.capture_beside.specs.Sums.{arriving_datagram, give_up, count_without_partner, no_sums, no_tally, datagram_with, count_pair, count_partner, count_recorded, shift_from, with_recorded};
 
-use crate::queue::Waiting;
+use crate::queue::WaitingDatagram;
 use crate::sites::{Extent, Site, difference, is_outside};
 
 /// What a recording has of a way.
@@ -50,15 +50,15 @@ impl Tally {
     }
 
     /// Counts a datagram as recorded, and returns it with its number.
-    fn note(&mut self, fingerprint: u64, time: u64) -> Waiting
+    fn note(&mut self, fingerprint: u64, time: u64) -> WaitingDatagram
         // The result has the number of datagrams that were recorded before.
-        ensures arrived { result ≡ numbered fingerprint time self.old.recorded }
+        ensures arrived { result ≡ datagram_with fingerprint time self.old.recorded }
         // Only the count of recorded datagrams grows, by 1.
         ensures tally { self.new ≡ with_recorded self.old }
     {
         let number = self.recorded;
         self.recorded = number.saturating_add(1);
-        Waiting {
+        WaitingDatagram {
             fingerprint,
             time,
             number,
@@ -68,7 +68,7 @@ impl Tally {
     /// Counts a datagram that has no partner.
     fn leave(&mut self, is_outside: bool)
         // Only the count of those outside grows by 1 if it is one of them, else only that of the missing ones.
-        ensures { self.new ≡ left_alone is_outside self.old }
+        ensures { self.new ≡ count_without_partner is_outside self.old }
     {
         if is_outside {
             self.outside = self.outside.saturating_add(1);
@@ -80,7 +80,7 @@ impl Tally {
     /// Counts the number of a datagram that has a partner.
     fn reach(&mut self, number: u64)
         // The furthest number is at least the one after this `number`.
-        ensures { self.new ≡ reached number self.old }
+        ensures { self.new ≡ count_partner number self.old }
     {
         self.furthest = self.furthest.max(number.saturating_add(1));
     }
@@ -102,11 +102,11 @@ impl Sums {
     }
 
     /// Counts a datagram as recorded, and returns it with its number.
-    pub fn note(&mut self, site: Site, fingerprint: u64, time: u64) -> Waiting
+    pub fn note(&mut self, site: Site, fingerprint: u64, time: u64) -> WaitingDatagram
         // The result has the number of datagrams that the site recorded before.
-        ensures arrived { result ≡ arrived_of site fingerprint time self.old }
-        // Only the count of recorded datagrams of this site grows, by 1 (`recorded_at`).
-        ensures sums { self.new ≡ recorded_at site self.old }
+        ensures arrived { result ≡ arriving_datagram site fingerprint time self.old }
+        // Only the count of recorded datagrams of this site grows, by 1 (`count_recorded`).
+        ensures sums { self.new ≡ count_recorded site self.old }
     {
         match site {
             Site::Here => self.here.note(fingerprint, time),
@@ -115,12 +115,12 @@ impl Sums {
     }
 
     /// Counts a pair, and returns its difference.
-    pub fn pair(&mut self, here: Waiting, there: Waiting) -> u64
+    pub fn pair(&mut self, here: WaitingDatagram, there: WaitingDatagram) -> u64
         // The result is the difference of the times of both.
         ensures difference { result ≡ difference_of here.time there.time }
         // The pair is counted, also as reordered if one of both comes behind a later one that has a partner
-        // (`paired`).
-        ensures sums { self.new ≡ paired here there self.old }
+        // (`count_pair`).
+        ensures sums { self.new ≡ count_pair here there self.old }
     {
         let difference = difference(here.time, there.time);
         if here.number < self.here.furthest || there.number < self.there.furthest {
@@ -135,9 +135,15 @@ impl Sums {
 
     /// Returns the sums with one more datagram that has no partner. `shift` is the difference of the clocks before the
     /// first pair of the way, `other` what is read of the other recording.
-    pub fn without(self, site: Site, gone: Waiting, shift: u64, other: Option<Extent>) -> Self
-        // The datagram is counted as outside of the other recording if it is, else as missing there (`given_up`).
-        ensures { result ≡ given_up site gone shift other self }
+    pub fn without(
+        self,
+        site: Site,
+        gone: WaitingDatagram,
+        shift: u64,
+        other: Option<Extent>,
+    ) -> Self
+        // The datagram is counted as outside of the other recording if it is, else as missing there (`give_up`).
+        ensures { result ≡ give_up site gone shift other self }
     {
         let shift = shift_of(self.shift, shift);
         let is_outside = is_outside(site, gone.time, shift, other);

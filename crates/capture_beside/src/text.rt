@@ -3,7 +3,7 @@
 ghost use Rattle.std.specs.Prelude.{◌≡◌, ◌++◌, codes, OnOk};
 ghost use Rattle.std.specs.Io.KnownBytes.{Appends};
 ghost use Rattle.capture_beside.specs.Pairs.{origin_of};
-ghost use Rattle.capture_beside.specs.Text.{counts_text, ends_text, later_text, lines_text, longer_text, origin_text, outside_text, pairs_text, signed_text, spread_text, took_text, way_text, ways_text};
+ghost use Rattle.capture_beside.specs.Text.{counts_text, ends_text, later_text, lines_text, longer_text, origin_text, outside_text, pairs_text, signed_text, spread_text, durations_text, way_text, ways_text};
 
 use crate::counts::Counts;
 use crate::delays::Spread;
@@ -133,10 +133,10 @@ fn write_spread<W: Write>(writer: &mut W, spread: Option<Spread>) -> io::Result<
 }
 
 /// Writes how long the datagrams of a way took.
-#[tactic(auto, unfolding(crate::specs::Text::took_text))]
+#[tactic(auto, unfolding(crate::specs::Text::durations_text))]
 fn write_times<W: Write>(writer: &mut W, spread: Spread) -> io::Result<()>
     // On success the difference of the fastest one is appended, then how much longer others took.
-    ensures { OnOk result (Appends (W.contents writer.old) (W.contents writer.new) (took_text spread)) }
+    ensures { OnOk result (Appends (W.contents writer.old) (W.contents writer.new) (durations_text spread)) }
 {
     write_least(writer, spread.least)?;
     write_longer(writer, spread)

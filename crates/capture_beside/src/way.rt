@@ -1,13 +1,13 @@
 //! A way: the datagrams from one address to another, a channel in one direction.
 
 ghost use Rattle.std.specs.Prelude.{◌≡◌, [], None, IfOk, OnOk};
-ghost use Rattle.capture_beside.specs.Queues.{left_at, next_place};
-ghost use Rattle.capture_beside.specs.Sums.{arrived_of, no_sums, recorded_at};
-ghost use Rattle.capture_beside.specs.Ways.{all_given_up, difference_in, here_after, meeting_at, meeting_of, own_after, pair_at, settled, there_after};
+ghost use Rattle.capture_beside.specs.Queues.{others_at, next_place};
+ghost use Rattle.capture_beside.specs.Sums.{arriving_datagram, no_sums, count_recorded};
+ghost use Rattle.capture_beside.specs.Ways.{give_up_list, difference_in, here_after, outcome_at, outcome_of, own_after, pair_at, count_outcome, there_after};
 ghost use Rattle.capture_beside.specs.declared.sites.Site.TheVariants.{Here, There};
 
 use crate::delays::Delays;
-use crate::queue::{Queue, Waiting};
+use crate::queue::{Queue, WaitingDatagram};
 use crate::sites::{Extent, Site};
 use crate::sums::Sums;
 use capture::Address;
@@ -15,11 +15,11 @@ use std::alloc::{AllocError, Global};
 
 /// What becomes of a datagram that arrives.
 #[derive(Clone, Copy, Debug, PartialEq, Eq)]
-pub enum Meeting {
+pub enum ArrivalOutcome {
     /// It has this partner, which waited in the other recording.
-    Pair(Waiting),
+    Pair(WaitingDatagram),
     /// It waits; if there was no room, the oldest one does not wait any more.
-    Wait(Option<Waiting>),
+    Wait(Option<WaitingDatagram>),
 }
 
 /// The datagrams from one address to another in both recordings.
@@ -79,20 +79,20 @@ impl Way {
         other: Option<Extent>,
     ) -> Result<Option<u64>, AllocError>
         // The result is the difference of the pair if a datagram with this `fingerprint` waits in the other recording,
-        // else `None` (`meeting_of`).
+        // else `None` (`outcome_of`).
         ensures difference { IfOk result (λ difference. difference
-            ≡ difference_in site (arrived_of site fingerprint time self.old.sums)
-            (meeting_of site fingerprint self.old.here self.old.there)) }
-        // The datagram is counted as recorded, then the pair, or the one that does not wait any more (`settled`).
+            ≡ difference_in site (arriving_datagram site fingerprint time self.old.sums)
+            (outcome_of site fingerprint self.old.here self.old.there)) }
+        // The datagram is counted as recorded, then the pair, or the one that does not wait any more (`count_outcome`).
         ensures sums { OnOk result (self.new.sums
-            ≡ settled site (arrived_of site fingerprint time self.old.sums)
-            (meeting_of site fingerprint self.old.here self.old.there) shift other (recorded_at site self.old.sums)) }
+            ≡ count_outcome site (arriving_datagram site fingerprint time self.old.sums)
+            (outcome_of site fingerprint self.old.here self.old.there) shift other (count_recorded site self.old.sums)) }
         // Here, a datagram without a partner waits as the last one; a partner leaves (`here_after`).
         ensures here { OnOk result (self.new.here.waiting.items
-            ≡ here_after site (arrived_of site fingerprint time self.old.sums) self.old.here self.old.there) }
+            ≡ here_after site (arriving_datagram site fingerprint time self.old.sums) self.old.here self.old.there) }
         // The same holds there.
         ensures there { OnOk result (self.new.there.waiting.items
-            ≡ there_after site (arrived_of site fingerprint time self.old.sums) self.old.here self.old.there) }
+            ≡ there_after site (arriving_datagram site fingerprint time self.old.sums) self.old.here self.old.there) }
         // The addresses stay.
         ensures ends { (self.new.source ≡ self.old.source) × (self.new.destination ≡ self.old.destination) }
     {
@@ -108,28 +108,28 @@ impl Way {
     fn settle(
         &mut self,
         site: Site,
-        arrived: Waiting,
-        meeting: Meeting,
+        arrived: WaitingDatagram,
+        meeting: ArrivalOutcome,
         shift: u64,
         other: Option<Extent>,
     ) -> Option<u64>
         // The result is the difference of a pair.
         ensures difference { result ≡ difference_in site arrived meeting }
-        // A pair is counted, or the datagram that does not wait any more (`settled`).
-        ensures sums { self.new.sums ≡ settled site arrived meeting shift other self.old.sums }
+        // A pair is counted, or the datagram that does not wait any more (`count_outcome`).
+        ensures sums { self.new.sums ≡ count_outcome site arrived meeting shift other self.old.sums }
         // Both queues and addresses stay.
         ensures rest { (self.new.here ≡ self.old.here) × (self.new.there ≡ self.old.there)
             × (self.new.source ≡ self.old.source) × (self.new.destination ≡ self.old.destination) }
     {
         match meeting {
-            Meeting::Pair(partner) => {
+            ArrivalOutcome::Pair(partner) => {
                 let (here, there) = in_order(site, arrived, partner);
                 let difference = self.sums.pair(here, there);
                 self.delays.add(difference);
                 Some(difference)
             }
-            Meeting::Wait(None) => None,
-            Meeting::Wait(Some(gone)) => {
+            ArrivalOutcome::Wait(None) => None,
+            ArrivalOutcome::Wait(Some(gone)) => {
                 self.sums = self.sums.without(site, gone, shift, other);
                 None
             }
@@ -139,10 +139,10 @@ impl Way {
     /// Gives up all datagrams that wait, at the end of both recordings.
     pub fn close(&mut self, shift: u64, here: Option<Extent>, there: Option<Extent>)
         // Each datagram that waits is counted as one without a partner, first those here, then those there
-        // (`all_given_up`).
+        // (`give_up_list`).
         ensures sums { self.new.sums
-            ≡ all_given_up There self.old.there.waiting.items shift here
-            (all_given_up Here self.old.here.waiting.items shift there self.old.sums) }
+            ≡ give_up_list There self.old.there.waiting.items shift here
+            (give_up_list Here self.old.here.waiting.items shift there self.old.sums) }
         // No datagram waits any more.
         ensures empty { (self.new.here.waiting.items ≡ []) × (self.new.there.waiting.items ≡ []) }
         // Delays stay.
@@ -156,7 +156,11 @@ impl Way {
 }
 
 /// Returns a pair with the datagram here first.
-fn in_order(site: Site, arrived: Waiting, partner: Waiting) -> (Waiting, Waiting)
+fn in_order(
+    site: Site,
+    arrived: WaitingDatagram,
+    partner: WaitingDatagram,
+) -> (WaitingDatagram, WaitingDatagram)
     // The first is the one that was recorded here.
     ensures { result ≡ pair_at site arrived partner }
 {
@@ -168,8 +172,8 @@ fn in_order(site: Site, arrived: Waiting, partner: Waiting) -> (Waiting, Waiting
 
 /// Counts all datagrams that wait as ones without a partner.
 fn give_up_all(sums: Sums, site: Site, queue: &Queue, shift: u64, other: Option<Extent>) -> Sums
-    // Each one is counted in order (`all_given_up`).
-    ensures { result ≡ all_given_up site queue.now.waiting.items shift other sums }
+    // Each one is counted in order (`give_up_list`).
+    ensures { result ≡ give_up_list site queue.now.waiting.items shift other sums }
 {
     queue
         .waiting
@@ -178,19 +182,23 @@ fn give_up_all(sums: Sums, site: Site, queue: &Queue, shift: u64, other: Option<
 }
 
 /// Takes the partner of a datagram from the other queue, or lets it wait in its own.
-fn meet(own: &mut Queue, other: &mut Queue, arrived: Waiting) -> Result<Meeting, AllocError>
+fn meet(
+    own: &mut Queue,
+    other: &mut Queue,
+    arrived: WaitingDatagram,
+) -> Result<ArrivalOutcome, AllocError>
     // The partner is the next one in the other queue with the fingerprint; without one, the datagram waits.
-    ensures meeting { IfOk result (λ meeting. meeting ≡ meeting_at
+    ensures meeting { IfOk result (λ meeting. meeting ≡ outcome_at
         (next_place other.old.next arrived.fingerprint other.old.waiting.items) own.old.waiting.items other.old.waiting.items) }
     // The own queue has one more exactly if there is no partner.
     ensures own { OnOk result (own.new.waiting.items ≡ own_after
         (next_place other.old.next arrived.fingerprint other.old.waiting.items) arrived own.old.waiting.items) }
     // The other queue has lost exactly the partner.
-    ensures other { OnOk result (other.new.waiting.items ≡ left_at
+    ensures other { OnOk result (other.new.waiting.items ≡ others_at
         (next_place other.old.next arrived.fingerprint other.old.waiting.items) other.old.waiting.items) }
 {
     match other.take(arrived.fingerprint) {
-        Some(partner) => Ok(Meeting::Pair(partner)),
-        None => Ok(Meeting::Wait(own.wait(arrived)?)),
+        Some(partner) => Ok(ArrivalOutcome::Pair(partner)),
+        None => Ok(ArrivalOutcome::Wait(own.wait(arrived)?)),
     }
 }

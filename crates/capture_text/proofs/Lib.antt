@@ -1,3 +1,3 @@
 pub mod Connections
-pub mod Cut
-pub mod Following
+pub mod LinePrefix
+pub mod CaptureLines

@@ -5,11 +5,11 @@ use Rattle.std.specs.List.{flat_map}
 use Rattle.capture.specs.declared.connections.Connection.{Connection}
 use Rattle.capture.specs.declared.measures.Measures.{Measures}
 use Rattle.pdu_text.specs.Lines.{join_pieces}
-use Rattle.capture_text.specs.Choosing.{chosen_by, delays_of, network_of}
-use Rattle.capture_text.specs.Distributions.{measured_json}
-use Rattle.capture_text.specs.declared.choosing.ChosenSettings.{ChosenSettings}
-use Rattle.capture_text.specs.declared.choosing.Delays.{Delays}
-use Rattle.capture_text.specs.declared.choosing.Network.{Network}
+use Rattle.capture_text.specs.SettingsRule.{choose_settings, delays_of, network_of}
+use Rattle.capture_text.specs.Distributions.{measurements_json}
+use Rattle.capture_text.specs.declared.settings_rule.ChosenSettings.{ChosenSettings}
+use Rattle.capture_text.specs.declared.settings_rule.Delays.{Delays}
+use Rattle.capture_text.specs.declared.settings_rule.Network.{Network}
 
 -- The identifiers of a connection, and the begin of its distributions.
 unfoldable pub name_json : ℕ → ℕ → List ℕ
@@ -18,7 +18,7 @@ name_json low high =
 
 -- The distributions of both ends.
 unfoldable pub sides_json : Measures → List ℕ
-sides_json m = measured_json m.low ++ codes "," ++ measured_json m.high ++ codes "]"
+sides_json m = measurements_json m.low ++ codes "," ++ measurements_json m.high ++ codes "]"
 
 -- The PDUs, the losses in millionths and the units.
 unfoldable pub units_json : Network → List ℕ
@@ -32,12 +32,12 @@ truth_word None = codes "false"
 truth_word (Some time) = codes "true"
 
 -- Which times were seen.
-unfoldable pub seen_json : List ℕ → List ℕ → List ℕ
-seen_json round_trips skews = join_pieces (codes ",\"round_trips_seen\":" ∷ round_trips ∷ codes ",\"skews_seen\":" ∷ skews ∷ [])
+unfoldable pub seen_times_json : List ℕ → List ℕ → List ℕ
+seen_times_json round_trips skews = join_pieces (codes ",\"round_trips_seen\":" ∷ round_trips ∷ codes ",\"skews_seen\":" ∷ skews ∷ [])
 
 -- What was seen of a network.
 unfoldable pub network_json : Network → List ℕ
-network_json n = units_json n ++ seen_json (truth_word n.shortest) (truth_word n.skew)
+network_json n = units_json n ++ seen_times_json (truth_word n.shortest) (truth_word n.skew)
 
 -- The times by which settings are chosen.
 unfoldable pub delays_json : Delays → List ℕ
@@ -57,23 +57,23 @@ settings_json s =
     (codes ",\"t_seq\":" ∷ decimal s.t_seq ∷ codes ",\"t_h\":" ∷ decimal s.t_h ∷ codes ",\"t_max\":" ∷ decimal s.t_max ∷ codes "}}" ∷ [])
 
 -- The settings, or null, at the end of a connection's object.
-abbrev pub chosen_json : Option ChosenSettings → List ℕ
-chosen_json None = codes ",\"settings\":null}"
-chosen_json (Some settings) = settings_json settings
+abbrev pub chosen_settings_json : Option ChosenSettings → List ℕ
+chosen_settings_json None = codes ",\"settings\":null}"
+chosen_settings_json (Some settings) = settings_json settings
 
 -- The object of a connection.
 unfoldable pub advice_json : Connection → List ℕ
 advice_json c =
     name_json c.low c.high ++ sides_json c.measures ++ network_json (network_of c) ++ delays_json (delays_of (network_of c))
-    ++ chosen_json (chosen_by (delays_of (network_of c)))
+    ++ chosen_settings_json (choose_settings (delays_of (network_of c)))
 
 -- A connection after a comma.
-unfoldable pub listed_json : Connection → List ℕ
-listed_json c = codes "," ++ advice_json c
+unfoldable pub next_advice_json : Connection → List ℕ
+next_advice_json c = codes "," ++ advice_json c
 
 -- Further connections, each after a comma.
 abbrev pub rest_json : List Connection → List ℕ
-rest_json cs = flat_map (λ c. listed_json c) cs
+rest_json cs = flat_map (λ c. next_advice_json c) cs
 
 -- All connections, separated by commas.
 abbrev pub list_json : List Connection → List ℕ

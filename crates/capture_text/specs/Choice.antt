@@ -1,8 +1,8 @@
 -- The choice of printed lines by a remark.
 use Rattle.std.specs.Prelude.{ℕ, ◌*◌, ◌||◌, Bool, true, false, List, codes, nat_le, Option, Some, None, is_some}
 use Rattle.capture.specs.declared.direction.Remarks.{Remarks}
-use Rattle.capture.specs.declared.following.Remark.{Remark}
-use Rattle.capture.specs.declared.following.Remark.TheVariants.{Pdu, NoRed, NoSafe}
+use Rattle.capture.specs.declared.follower.Remark.{Remark}
+use Rattle.capture.specs.declared.follower.Remark.TheVariants.{Pdu, NoRed, NoSafe}
 use Rattle.capture.specs.declared.window.NumberOrder.{NumberOrder}
 use Rattle.capture.specs.declared.window.NumberOrder.TheVariants as judged
 use Rattle.capture_text.specs.declared.choice.Remarkable.{Remarkable}

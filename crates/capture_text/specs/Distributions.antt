@@ -6,7 +6,7 @@ use Rattle.capture.specs.declared.distribution.Distribution.{Distribution}
 use Rattle.capture.specs.declared.distribution.TheConstants.{CLASSES}
 use Rattle.capture.specs.declared.measures.Measurements.{Measurements}
 use Rattle.capture.specs.Measures.{class_of}
-use Rattle.capture.specs.Numbers.{counted}
+use Rattle.capture.specs.Numbers.{limited_sum}
 use Rattle.pdu_text.specs.Lines.{join_pieces}
 use Rattle.capture_text.specs.Pieces.{ends_text}
 
@@ -19,12 +19,12 @@ abbrev pub counts_text : List ℕ → List ℕ → List ℕ
 counts_text mark counts = flat_map (λ count. after_mark mark count) counts
 
 -- A sum with one more count.
-abbrev pub one_counted : ℕ → ℕ → ℕ
-one_counted sum count = counted sum count
+abbrev pub sum_with : ℕ → ℕ → ℕ
+sum_with sum count = limited_sum sum count
 
 -- How many values a distribution has.
 abbrev pub count_sum : Distribution → ℕ
-count_sum d = fold one_counted 0 d.counts
+count_sum d = fold sum_with 0 d.counts
 
 -- How many values there are, the greatest one, and the names of the classes.
 unfoldable pub number_text : Distribution → List ℕ
@@ -37,8 +37,8 @@ distribution_text from to name d =
     codes "times " ++ ends_text from to ++ name ++ number_text d ++ counts_text (codes " ") (take (class_of d.greatest + 1) d.counts) ++ codes "\n"
 
 -- The lines of an end.
-unfoldable pub measured_text : ℕ → ℕ → Measurements → List ℕ
-measured_text from to m =
+unfoldable pub measurements_text : ℕ → ℕ → Measurements → List ℕ
+measurements_text from to m =
     distribution_text from to (codes " round trip ") m.round_trips ++ distribution_text from to (codes " skew ") m.skews
     ++ distribution_text from to (codes " silence ") m.silences
     ++ distribution_text from to (codes " waits ") m.waits
@@ -54,8 +54,8 @@ distribution_json name d =
     name ++ bracket_json d.greatest (slice_index d.counts 0) ++ counts_text (codes ",") (take (CLASSES - 1) (drop 1 d.counts)) ++ codes "]}"
 
 -- The object of an end.
-unfoldable pub measured_json : Measurements → List ℕ
-measured_json m =
+unfoldable pub measurements_json : Measurements → List ℕ
+measurements_json m =
     distribution_json (codes "{\"round_trip\":") m.round_trips ++ distribution_json (codes ",\"skew\":") m.skews
     ++ distribution_json (codes ",\"silence\":") m.silences
     ++ distribution_json (codes ",\"waits\":") m.waits

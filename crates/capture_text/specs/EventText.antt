@@ -8,14 +8,14 @@ use Rattle.safe_pdu.specs.declared.Leaving.{Leaving}
 use Rattle.safe_pdu.specs.declared.SafeFault.{SafeFault}
 use Rattle.safe_pdu.specs.Names.{safe_name, safe_number}
 use Rattle.capture.specs.declared.direction.Remarks.{Remarks}
-use Rattle.capture.specs.declared.following.Remark.{Remark}
-use Rattle.capture.specs.declared.following.Remark.TheVariants.{Pdu, NoRed, NoSafe}
-use Rattle.capture.specs.declared.heard.Header.{Header}
+use Rattle.capture.specs.declared.follower.Remark.{Remark}
+use Rattle.capture.specs.declared.follower.Remark.TheVariants.{Pdu, NoRed, NoSafe}
+use Rattle.capture.specs.declared.datagram.Header.{Header}
 use Rattle.capture.specs.declared.line.Address.{Address}
 use Rattle.capture.specs.declared.line.Record.{Record}
 use Rattle.capture.specs.declared.window.NumberOrder.{NumberOrder}
 use Rattle.capture.specs.declared.window.NumberOrder.TheVariants as judged
-use Rattle.capture.specs.Following.{is_new, is_request}
+use Rattle.capture.specs.Directions.{is_new, is_request}
 use Rattle.pdu_text.specs.Lines.{join_pieces}
 use Rattle.capture_text.specs.Choice.{is_half}
 use Rattle.capture_text.specs.Pieces.{address_text, since_text}
@@ -54,13 +54,13 @@ wait_event t_max None = None
 wait_event t_max (Some waits) = if is_half t_max waits then Some (Waits waits) else None
 
 -- An end leaves, if there is a DiscReq.
-abbrev pub left_by : Option Leaving → Option Event
-left_by None = None
-left_by (Some leaving) = Some (Left leaving)
+abbrev pub disconnect_event : Option Leaving → Option Event
+disconnect_event None = None
+disconnect_event (Some leaving) = Some (Left leaving)
 
 -- An end leaves; a copy of its DiscReq is no event.
-abbrev pub left_event : Remarks → Option Event
-left_event m = if is_new m.together then left_by m.leaving else None
+abbrev pub new_disconnect_event : Remarks → Option Event
+new_disconnect_event m = if is_new m.together then disconnect_event m.leaving else None
 
 -- The name of an event.
 abbrev pub event_name : Event → List ℕ
@@ -73,8 +73,8 @@ event_name (Waits waits) = codes "waits"
 event_name (Left leaving) = codes "left"
 
 -- Numbers that are missing, and where.
-unfoldable pub lost_json : ℕ → Bool → List ℕ
-lost_json missing everywhere =
+unfoldable pub losses_json : ℕ → Bool → List ℕ
+losses_json missing everywhere =
     join_pieces (codes ",\"on_every_channel\":" ∷ truth_json everywhere ∷ codes ",\"missing\":" ∷ decimal missing ∷ [])
 
 -- Where a number was missing that came late.
@@ -86,18 +86,18 @@ unfoldable pub waits_json : ℕ → List ℕ
 waits_json waits = join_pieces (codes ",\"waits\":" ∷ decimal waits ∷ [])
 
 -- Reason and detail.
-unfoldable pub left_json : Leaving → List ℕ
-left_json l = join_pieces (codes ",\"reason\":" ∷ decimal l.reason ∷ codes ",\"detail\":" ∷ decimal l.detail ∷ [])
+unfoldable pub disconnect_json : Leaving → List ℕ
+disconnect_json l = join_pieces (codes ",\"reason\":" ∷ decimal l.reason ∷ codes ",\"detail\":" ∷ decimal l.detail ∷ [])
 
 -- What an event has besides its place.
 abbrev pub event_json : Event → List ℕ
 event_json Opens = []
 event_json Up = []
-event_json (Lost missing everywhere) = lost_json missing everywhere
+event_json (Lost missing everywhere) = losses_json missing everywhere
 event_json (Late everywhere) = late_json everywhere
 event_json Resent = []
 event_json (Waits waits) = waits_json waits
-event_json (Left leaving) = left_json leaving
+event_json (Left leaving) = disconnect_json leaving
 
 -- A date is in quotes; seconds are a number.
 abbrev pub quote_of : TimeForm → List ℕ
@@ -110,8 +110,8 @@ unfoldable pub when_json : Clock → ℕ → List ℕ
 when_json clock time = join_pieces (quote_of clock.form ∷ since_text clock time ∷ quote_of clock.form ∷ [])
 
 -- The name of an event, at the start of its object.
-unfoldable pub named_json : List ℕ → List ℕ
-named_json name = join_pieces (codes "{\"event\":\"" ∷ name ∷ codes "\",\"time\":" ∷ [])
+unfoldable pub event_name_json : List ℕ → List ℕ
+event_name_json name = join_pieces (codes "{\"event\":\"" ∷ name ∷ codes "\",\"time\":" ∷ [])
 
 -- The line or frame of an event.
 unfoldable pub line_json : ℕ → List ℕ
@@ -119,7 +119,7 @@ line_json line = join_pieces (codes ",\"line\":" ∷ decimal line ∷ [])
 
 -- Name, time and line of an event.
 unfoldable pub head_json : List ℕ → Clock → ℕ → ℕ → List ℕ
-head_json name clock time line = join_pieces (named_json name ∷ when_json clock time ∷ line_json line ∷ [])
+head_json name clock time line = join_pieces (event_name_json name ∷ when_json clock time ∷ line_json line ∷ [])
 
 -- The number of a channel, from 1; a further channel has none.
 abbrev pub channel_number : ℕ → List ℕ
@@ -158,15 +158,15 @@ order_lines s kind m =
 -- The other lines of a PDU: a unit that is sent again, a long wait, a leaving.
 unfoldable pub other_lines : Spot → ℕ → Remarks → List ℕ
 other_lines s t_max m =
-    join_pieces (maybe_line s (resent_event m) ∷ maybe_line s (wait_event t_max m.waits) ∷ maybe_line s (left_event m) ∷ [])
+    join_pieces (maybe_line s (resent_event m) ∷ maybe_line s (wait_event t_max m.waits) ∷ maybe_line s (new_disconnect_event m) ∷ [])
 
 -- The lines of a PDU.
 unfoldable pub pdu_lines : Spot → ℕ → Kind → Remarks → List ℕ
 pdu_lines s t_max kind m = order_lines s kind m ++ other_lines s t_max m
 
 -- An address in quotes, after what names it.
-unfoldable pub quoted_json : List ℕ → Address → List ℕ
-quoted_json front address = join_pieces (front ∷ address_text address ∷ codes "\"" ∷ [])
+unfoldable pub address_json : List ℕ → Address → List ℕ
+address_json front address = join_pieces (front ∷ address_text address ∷ codes "\"" ∷ [])
 
 -- The layer that rejects a datagram, with the number and the name of its fault.
 unfoldable pub fault_json : List ℕ → ℕ → List ℕ → List ℕ
@@ -174,18 +174,18 @@ fault_json layer number name =
     join_pieces (codes ",\"layer\":\"" ∷ layer ∷ codes "\",\"fault\":" ∷ decimal number ∷ codes ",\"name\":\"" ∷ name ∷ codes "\"}\n" ∷ [])
 
 -- The line of a datagram that is not a PDU, up to its fault.
-unfoldable pub damaged_json : Clock → ℕ → Record → List ℕ
-damaged_json clock line r = join_pieces
-    (head_json (codes "damaged") clock r.time line ∷ quoted_json (codes ",\"source\":\"") r.source
-    ∷ quoted_json (codes ",\"destination\":\"") r.destination ∷ [])
+unfoldable pub damage_json : Clock → ℕ → Record → List ℕ
+damage_json clock line r = join_pieces
+    (head_json (codes "damaged") clock r.time line ∷ address_json (codes ",\"source\":\"") r.source
+    ∷ address_json (codes ",\"destination\":\"") r.destination ∷ [])
 
 -- The line of a datagram that is not a safety PDU.
 unfoldable pub no_safe_line : Clock → ℕ → Record → SafeFault → List ℕ
-no_safe_line clock line r fault = damaged_json clock line r ++ fault_json (codes "safe") (safe_number fault) (safe_name fault)
+no_safe_line clock line r fault = damage_json clock line r ++ fault_json (codes "safe") (safe_number fault) (safe_name fault)
 
 -- The line of a datagram that is not a redundancy PDU.
 unfoldable pub no_red_line : Clock → ℕ → Record → RedFault → List ℕ
-no_red_line clock line r fault = damaged_json clock line r ++ fault_json (codes "red") (red_number fault) (red_name fault)
+no_red_line clock line r fault = damage_json clock line r ++ fault_json (codes "red") (red_number fault) (red_name fault)
 
 -- The lines of a datagram's events.
 abbrev pub event_lines : Scale → ℕ → Record → Remark → List ℕ

@@ -5,10 +5,10 @@ use Rattle.capture.specs.declared.file.FileFault.{FileFault}
 use Rattle.capture.specs.declared.file.FileFault.TheVariants as file
 use Rattle.capture.specs.declared.line.LineFault.{LineFault}
 use Rattle.capture.specs.declared.line.LineFault.TheVariants.{Fields, Time, Source, Destination, Long, Payload}
-use Rattle.capture.specs.Numbers.{counted}
+use Rattle.capture.specs.Numbers.{limited_sum}
 use Rattle.pdu_text.specs.Lines.{join_pieces}
-use Rattle.capture_text.specs.declared.running.ForeignForm.{ForeignForm}
-use Rattle.capture_text.specs.declared.running.ForeignForm.TheVariants.{Gzip, Zstd, Snoop, ModifiedPcap}
+use Rattle.capture_text.specs.declared.capture_run.ForeignForm.{ForeignForm}
+use Rattle.capture_text.specs.declared.capture_run.ForeignForm.TheVariants.{Gzip, Zstd, Snoop, ModifiedPcap}
 use Rattle.capture_text.specs.declared.frames.FrameFault.{FrameFault}
 use Rattle.capture_text.specs.declared.frames.FrameFault.TheVariants as frame
 
@@ -81,8 +81,8 @@ forgotten_text forgotten =
     (codes "connections: " ∷ decimal forgotten ∷ codes " were forgotten, since more than 256 were recorded at once; choose some by --ports\n" ∷ [])
 
 -- The line about forgotten connections, if there are any.
-abbrev pub forgotten_told : ℕ → List ℕ
-forgotten_told forgotten = if nat_eq forgotten 0 then [] else forgotten_text forgotten
+abbrev pub forgotten_line : ℕ → List ℕ
+forgotten_line forgotten = if nat_eq forgotten 0 then [] else forgotten_text forgotten
 
 -- The line about datagrams that all have another safety code.
 unfoldable pub miscoded_text : ℕ → List ℕ
@@ -95,9 +95,9 @@ all_miscoded None = 0
 all_miscoded (Some miscoded) = miscoded
 
 -- The line about datagrams that all have another safety code, if there are any.
-abbrev pub miscoded_told : ℕ → List ℕ
-miscoded_told miscoded = if nat_eq miscoded 0 then [] else miscoded_text miscoded
+abbrev pub miscoded_line : ℕ → List ℕ
+miscoded_line miscoded = if nat_eq miscoded 0 then [] else miscoded_text miscoded
 
 -- How many faults a capture had: unreadable lines, forgotten connections, and datagrams with another safety code if none has the right one.
 abbrev pub faults_in : ℕ → ℕ → Option ℕ → ℕ
-faults_in unreadable forgotten miscoded = counted (counted unreadable forgotten) (all_miscoded miscoded)
+faults_in unreadable forgotten miscoded = limited_sum (limited_sum unreadable forgotten) (all_miscoded miscoded)

@@ -9,19 +9,19 @@ use Rattle.capture.specs.declared.connections.Route.{Route}
 use Rattle.capture.specs.declared.direction.Direction.{Direction}
 use Rattle.capture.specs.declared.direction.SessionOpening.{SessionOpening}
 use Rattle.capture.specs.declared.direction.Tally.{Tally}
-use Rattle.capture.specs.declared.following.Totals.{Totals}
+use Rattle.capture.specs.declared.follower.Totals.{Totals}
 use Rattle.capture.specs.declared.line.Address.{Address}
 use Rattle.capture.specs.declared.window.Window.{Window}
-use Rattle.capture.specs.Following.{silence_of}
+use Rattle.capture.specs.Directions.{silence_of}
 use Rattle.capture.specs.Numbers.{open_window}
 use Rattle.capture.specs.Sessions.{session_sums}
 use Rattle.pdu_text.specs.Lines.{join_pieces}
 use Rattle.capture_text.specs.declared.summary.CaptureCounts.{CaptureCounts}
 use Rattle.capture_text.specs.declared.summary.Scale.{Scale}
 use Rattle.capture_text.specs.AdviceJson.{end_json}
-use Rattle.capture_text.specs.Passing.{passed_json}
+use Rattle.capture_text.specs.Skips.{skips_json}
 use Rattle.capture_text.specs.Pieces.{address_text}
-use Rattle.capture_text.specs.Sentence.{longest_in, lost_on_all, oldest_in, up_of}
+use Rattle.capture_text.specs.Sentence.{longest_in, losses_on_all, oldest_in, up_of}
 use Rattle.capture_text.specs.SummaryText.{datagrams_of}
 use Rattle.capture_text.specs.TableJson.{sessions_json}
 
@@ -35,8 +35,8 @@ up_json None = codes "null"
 up_json (Some time) = decimal time
 
 -- The time at which a connection came up.
-abbrev pub coming_json : Connection → List ℕ
-coming_json c = up_json (up_of c.from_low c.from_high)
+abbrev pub up_time_json : Connection → List ℕ
+up_time_json c = up_json (up_of c.from_low c.from_high)
 
 -- The type of an opening in quotes, or null.
 abbrev pub opening_json : Option SessionOpening → List ℕ
@@ -93,30 +93,30 @@ unfoldable pub route_json : ℕ → Route → List ℕ
 route_json place route = place_number_json place ++ low_json route.low ++ high_json route.high
 
 -- The number of datagrams on a channel.
-unfoldable pub came_json : ℕ → List ℕ
-came_json datagrams = join_pieces (codes ",\"datagrams\":" ∷ decimal datagrams ∷ [])
+unfoldable pub datagrams_json : ℕ → List ℕ
+datagrams_json datagrams = join_pieces (codes ",\"datagrams\":" ∷ decimal datagrams ∷ [])
 
 -- The number of damaged datagrams, at the end of a channel's object.
-unfoldable pub damaged_json : ℕ → List ℕ
-damaged_json damaged = join_pieces (codes ",\"damaged\":" ∷ decimal damaged ∷ codes "}" ∷ [])
+unfoldable pub damaged_count_json : ℕ → List ℕ
+damaged_count_json damaged = join_pieces (codes ",\"damaged\":" ∷ decimal damaged ∷ codes "}" ∷ [])
 
 -- The object of a channel.
 unfoldable pub known_channel_json : ℕ → Route → Window → ℕ → List ℕ
 known_channel_json place route w damaged =
-    route_json place route ++ came_json (datagrams_of w damaged) ++ window_json w ++ damaged_json damaged
+    route_json place route ++ datagrams_json (datagrams_of w damaged) ++ window_json w ++ damaged_count_json damaged
 
 -- The comma before a channel, except the first.
 abbrev pub comma : ℕ → List ℕ
 comma place = if nat_eq place 0 then [] else codes ","
 
 -- A channel after its comma.
-unfoldable pub listed_channel_json : ℕ → Route → Window → ℕ → List ℕ
-listed_channel_json place route w damaged = comma place ++ known_channel_json place route w damaged
+unfoldable pub next_channel_json : ℕ → Route → Window → ℕ → List ℕ
+next_channel_json place route w damaged = comma place ++ known_channel_json place route w damaged
 
 -- A channel, if there is one.
 abbrev pub channel_json : ℕ → Option Route → Window → ℕ → List ℕ
 channel_json place None w damaged = []
-channel_json place (Some route) w damaged = listed_channel_json place route w damaged
+channel_json place (Some route) w damaged = next_channel_json place route w damaged
 
 -- The channel of a direction at a place.
 unfoldable pub place_json : List (Option Route) → Direction → ℕ → List ℕ
@@ -149,30 +149,30 @@ unfoldable pub ends_json : ℕ → ℕ → List ℕ
 ends_json from to = join_pieces (codes "{\"from\":" ∷ decimal from ∷ codes ",\"to\":" ∷ decimal to ∷ [])
 
 -- The type of the last opening.
-unfoldable pub opened_json : Option SessionOpening → List ℕ
-opened_json opening = codes ",\"opening\":" ++ opening_json opening
+unfoldable pub opening_type_json : Option SessionOpening → List ℕ
+opening_type_json opening = codes ",\"opening\":" ++ opening_json opening
 
 -- The number of openings.
 unfoldable pub times_json : ℕ → List ℕ
 times_json times = join_pieces (codes ",\"openings\":" ∷ decimal times ∷ [])
 
 -- The time of the last opening.
-unfoldable pub opened_at_json : ℕ → List ℕ
-opened_at_json time = codes ",\"opened\":" ++ time_json time
+unfoldable pub opening_time_json : ℕ → List ℕ
+opening_time_json time = codes ",\"opened\":" ++ time_json time
 
 -- The openings of an end: type, number, time.
 unfoldable pub openings_json : Option SessionOpening → Tally → List ℕ
-openings_json opening t = opened_json opening ++ times_json t.openings ++ opened_at_json t.opened
+openings_json opening t = opening_type_json opening ++ times_json t.openings ++ opening_time_json t.opened
 
 -- The time of the last PDU, and the disconnect.
-unfoldable pub parting_json : Tally → List ℕ
-parting_json t = codes ",\"last\":" ++ time_json t.last ++ codes ",\"left\":" ++ leaving_json t.left t.leaving
+unfoldable pub last_and_disconnect_json : Tally → List ℕ
+last_and_disconnect_json t = codes ",\"last\":" ++ time_json t.last ++ codes ",\"left\":" ++ leaving_json t.left t.leaving
 
 -- The object of a direction.
 unfoldable pub direction_json : ℕ → ℕ → Connection → Direction → List ℕ
 direction_json from to c d =
     ends_json from to ++ openings_json d.opening d.tally ++ window_json d.together ++ kinds_json d.tally ++ near_json c.last d.tally
-    ++ parting_json d.tally ++ channels_json c.routes d
+    ++ last_and_disconnect_json d.tally ++ channels_json c.routes d
 
 -- The identifiers at the start of a connection's object.
 unfoldable pub name_json : Connection → List ℕ
@@ -186,8 +186,8 @@ losses_json last everywhere alone =
     ∷ decimal alone ∷ [])
 
 -- The losses of a connection.
-unfoldable pub lost_json : Connection → List ℕ
-lost_json c = losses_json c.last (lost_on_all c) (session_sums c.sessions).alone
+unfoldable pub connection_losses_json : Connection → List ℕ
+connection_losses_json c = losses_json c.last (losses_on_all c) (session_sums c.sessions).alone
 
 -- An age and a wait.
 unfoldable pub both_json : ℕ → ℕ → List ℕ
@@ -199,7 +199,7 @@ greatest_json c = both_json (oldest_in c) (longest_in c)
 
 -- What holds for a whole connection.
 unfoldable pub whole_json : Connection → List ℕ
-whole_json c = name_json c ++ coming_json c ++ lost_json c ++ greatest_json c
+whole_json c = name_json c ++ up_time_json c ++ connection_losses_json c ++ greatest_json c
 
 -- Both directions of a connection, and the end of its object.
 unfoldable pub directions_json : Connection → List ℕ
@@ -211,12 +211,12 @@ unfoldable pub connection_json : Connection → List ℕ
 connection_json c = whole_json c ++ sessions_json c.low c.high c.sessions ++ directions_json c
 
 -- A connection after a comma.
-unfoldable pub listed_json : Connection → List ℕ
-listed_json c = codes "," ++ connection_json c
+unfoldable pub next_connection_json : Connection → List ℕ
+next_connection_json c = codes "," ++ connection_json c
 
 -- Further connections, each after a comma.
 abbrev pub more_json : List Connection → List ℕ
-more_json cs = flat_map (λ c. listed_json c) cs
+more_json cs = flat_map (λ c. next_connection_json c) cs
 
 -- All connections, separated by commas.
 abbrev pub connections_json : List Connection → List ℕ
@@ -237,7 +237,7 @@ counts_json c =
 -- The sums of all connections, and the start of their list.
 unfoldable pub all_json : Totals → CaptureCounts → List ℕ
 all_json t c =
-    decimal c.datagrams ++ numbers_json t ++ counts_json c ++ passed_json c.passed ++ codes "},\"connections\":["
+    decimal c.datagrams ++ numbers_json t ++ counts_json c ++ skips_json c.passed ++ codes "},\"connections\":["
 
 -- The whole object, with what is chosen for each connection if that is asked for (`true`).
 unfoldable pub sums_json : Scale → List Connection → Totals → CaptureCounts → Bool → List ℕ

@@ -9,14 +9,14 @@ pub mod TableJson
 pub mod Sentence
 pub mod SummaryText
 pub mod Json
-pub mod Choosing
+pub mod SettingsRule
 pub mod Distributions
 pub mod Advice
 pub mod AdviceJson
 pub mod EventText
 pub mod FaultText
 pub mod Telegrams
-pub mod Passing
+pub mod Skips
 pub mod Steps
 pub mod FrameSteps
 pub mod Lines

@@ -9,8 +9,8 @@ abbrev pub is_long : List ℕ → Bool
 is_long line = nat_lt 8192 (length line)
 
 -- The prefix of a line that is kept.
-abbrev pub cut : List ℕ → List ℕ
-cut line = take 8193 line
+abbrev pub cut_line : List ℕ → List ℕ
+cut_line line = take 8193 line
 
 -- The lines of a text, each with its line feed, after a prefix of the first one; the last may have no line feed.
 abbrev pub lines_from : List ℕ → List ℕ → List (List ℕ)

@@ -58,8 +58,8 @@ abbrev pub since_text : Clock → ℕ → List ℕ
 since_text c time = time_in c.form c.first time
 
 -- The remark on an age or a wait that reached T_max.
-abbrev pub reached_text : ℕ → ℕ → List ℕ
-reached_text t_max most = if nat_le t_max most then codes " reached" else []
+abbrev pub t_max_remark : ℕ → ℕ → List ℕ
+t_max_remark t_max most = if nat_le t_max most then codes " reached" else []
 
 -- A byte of an IPv4 address in decimal.
 abbrev pub octet_of : List ℕ → ℕ → List ℕ

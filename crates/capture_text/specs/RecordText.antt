@@ -6,9 +6,9 @@ use Rattle.red_layer.specs.pdu.FaultNames.{red_name, red_number}
 use Rattle.safe_pdu.specs.declared.SafeFault.{SafeFault}
 use Rattle.safe_pdu.specs.Names.{kind_name, safe_name, safe_number}
 use Rattle.capture.specs.declared.direction.Remarks.{Remarks}
-use Rattle.capture.specs.declared.following.Remark.{Remark}
-use Rattle.capture.specs.declared.following.Remark.TheVariants.{Pdu, NoRed, NoSafe}
-use Rattle.capture.specs.declared.heard.Header.{Header}
+use Rattle.capture.specs.declared.follower.Remark.{Remark}
+use Rattle.capture.specs.declared.follower.Remark.TheVariants.{Pdu, NoRed, NoSafe}
+use Rattle.capture.specs.declared.datagram.Header.{Header}
 use Rattle.capture.specs.declared.line.Record.{Record}
 use Rattle.pdu_text.specs.Lines.{join_pieces}
 use Rattle.capture_text.specs.declared.summary.Scale.{Scale}

@@ -2,10 +2,10 @@
 use Rattle.std.specs.Prelude.{ℕ, zero, suc, Result, Ok, Err}
 use Rattle.std.specs.declared.io.ErrorKind.{ErrorKind}
 use Rattle.std.specs.declared.io.ErrorKind.TheVariants.{BrokenPipe}
-use Rattle.capture_text.specs.declared.running.FollowStatus.{FollowStatus}
-use Rattle.capture_text.specs.declared.running.FollowStatus.TheVariants as status
-use Rattle.capture_text.specs.declared.running.Stop.{Stop}
-use Rattle.capture_text.specs.declared.running.Stop.TheVariants.{Memory, File, Unread, Output}
+use Rattle.capture_text.specs.declared.capture_run.FollowStatus.{FollowStatus}
+use Rattle.capture_text.specs.declared.capture_run.FollowStatus.TheVariants as status
+use Rattle.capture_text.specs.declared.capture_run.Stop.{Stop}
+use Rattle.capture_text.specs.declared.capture_run.Stop.TheVariants.{Memory, File, Unread, Output}
 
 -- An output that its reader has closed is read by nobody; any other failure is one of the output.
 abbrev pub output_stop : ErrorKind → Stop

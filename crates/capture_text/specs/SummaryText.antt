@@ -9,16 +9,16 @@ use Rattle.capture.specs.declared.connections.Route.{Route}
 use Rattle.capture.specs.declared.direction.Direction.{Direction}
 use Rattle.capture.specs.declared.direction.SessionOpening.{SessionOpening}
 use Rattle.capture.specs.declared.direction.Tally.{Tally}
-use Rattle.capture.specs.declared.following.Totals.{Totals}
+use Rattle.capture.specs.declared.follower.Totals.{Totals}
 use Rattle.capture.specs.declared.window.Window.{Window}
-use Rattle.capture.specs.Following.{silence_of}
-use Rattle.capture.specs.Numbers.{counted, open_window}
+use Rattle.capture.specs.Directions.{silence_of}
+use Rattle.capture.specs.Numbers.{limited_sum, open_window}
 use Rattle.capture_text.specs.declared.summary.Scale.{Scale}
 use Rattle.capture_text.specs.declared.summary.CaptureCounts.{CaptureCounts}
 use Rattle.pdu_text.specs.Lines.{join_pieces}
-use Rattle.capture_text.specs.Pieces.{address_text, channel_text, duration_text, ends_text, reached_text, since_text, utc_text}
+use Rattle.capture_text.specs.Pieces.{address_text, channel_text, duration_text, ends_text, t_max_remark, since_text, utc_text}
 use Rattle.capture_text.specs.declared.pieces.Clock.{Clock}
-use Rattle.capture_text.specs.Passing.{passed_lines}
+use Rattle.capture_text.specs.Skips.{skips_lines}
 use Rattle.capture_text.specs.Reasons.{leaving_words}
 use Rattle.capture_text.specs.Sentence.{sentence_text}
 use Rattle.capture_text.specs.TableText.{sessions_text}
@@ -53,26 +53,26 @@ silence_text silence = join_pieces (codes " silence " ∷ duration_text silence 
 -- The greatest age, and if it reached T_max.
 unfoldable pub oldest_text : ℕ → ℕ → List ℕ
 oldest_text t_max oldest =
-    join_pieces (codes " age " ∷ decimal oldest ∷ codes " of " ∷ decimal t_max ∷ reached_text t_max oldest ∷ [])
+    join_pieces (codes " age " ∷ decimal oldest ∷ codes " of " ∷ decimal t_max ∷ t_max_remark t_max oldest ∷ [])
 
 -- The longest wait for a confirmation, and if it reached T_max.
 unfoldable pub longest_text : ℕ → ℕ → List ℕ
 longest_text t_max longest =
-    join_pieces (codes " waits " ∷ decimal longest ∷ codes " of " ∷ decimal t_max ∷ reached_text t_max longest ∷ [])
+    join_pieces (codes " waits " ∷ decimal longest ∷ codes " of " ∷ decimal t_max ∷ t_max_remark t_max longest ∷ [])
 
 -- The time of the last PDU.
 abbrev pub last_text : Clock → ℕ → List ℕ
 last_text clock last = if nat_eq last 0 then codes " not heard" else codes " last " ++ since_text clock last
 
 -- The disconnect of a direction.
-abbrev pub ending_text : Option Leaving → List ℕ
-ending_text None = codes " no DiscReq"
-ending_text (Some leaving) = codes " DiscReq" ++ leaving_words leaving
+abbrev pub disconnect_text : Option Leaving → List ℕ
+disconnect_text None = codes " no DiscReq"
+disconnect_text (Some leaving) = codes " DiscReq" ++ leaving_words leaving
 
 -- The tally of a direction; silence lasts up to this time.
 unfoldable pub tally_text : Scale → ℕ → Tally → List ℕ
 tally_text s until t =
-    kinds_text t ++ silence_text (silence_of t until) ++ oldest_text s.t_max t.oldest ++ longest_text s.t_max t.longest ++ last_text s.clock t.last ++ ending_text t.leaving
+    kinds_text t ++ silence_text (silence_of t until) ++ oldest_text s.t_max t.oldest ++ longest_text s.t_max t.longest ++ last_text s.clock t.last ++ disconnect_text t.leaving
 
 -- The line of a direction.
 unfoldable pub direction_text : Scale → ℕ → ℕ → ℕ → Direction → List ℕ
@@ -83,7 +83,7 @@ direction_text s until from to d =
 -- How many datagrams came on a channel; each is in one of these counts.
 abbrev pub datagrams_of : Window → ℕ → ℕ
 datagrams_of w damaged =
-    counted (counted (counted (counted (counted w.heard w.repeats) w.late) w.differing) w.stale) damaged
+    limited_sum (limited_sum (limited_sum (limited_sum (limited_sum w.heard w.repeats) w.late) w.differing) w.stale) damaged
 
 -- The addresses of a channel.
 unfoldable pub route_text : Route → List ℕ
@@ -98,13 +98,13 @@ unfoldable pub sum_text : ℕ → ℕ → ℕ → List ℕ
 sum_text from to place = codes "sum " ++ ends_text from to ++ channel_text place
 
 -- The number of damaged datagrams, and the end of the line.
-unfoldable pub damaged_text : ℕ → List ℕ
-damaged_text damaged = join_pieces (codes " damaged " ∷ decimal damaged ∷ codes "\n" ∷ [])
+unfoldable pub damaged_count_text : ℕ → List ℕ
+damaged_count_text damaged = join_pieces (codes " damaged " ∷ decimal damaged ∷ codes "\n" ∷ [])
 
 -- The line of a channel.
 unfoldable pub known_channel_text : ℕ → ℕ → ℕ → Route → Window → ℕ → List ℕ
 known_channel_text from to place route w damaged =
-    sum_text from to place ++ route_text route ++ datagrams_text w damaged ++ numbers_text w ++ damaged_text damaged
+    sum_text from to place ++ route_text route ++ datagrams_text w damaged ++ numbers_text w ++ damaged_count_text damaged
 
 -- The line of a channel, if there is one.
 abbrev pub maybe_channel_text : ℕ → ℕ → ℕ → Option Route → Window → ℕ → List ℕ
@@ -136,8 +136,8 @@ abbrev pub connections_text : Scale → List Connection → List ℕ
 connections_text s cs = flat_map (λ c. connection_text s c) cs
 
 -- The number of datagrams in the whole capture.
-unfoldable pub came_text : ℕ → List ℕ
-came_text datagrams = join_pieces (codes "sum all datagrams " ∷ decimal datagrams ∷ [])
+unfoldable pub datagram_count_text : ℕ → List ℕ
+datagram_count_text datagrams = join_pieces (codes "sum all datagrams " ∷ decimal datagrams ∷ [])
 
 -- The repeated, late, differing and stale numbers of all connections.
 unfoldable pub other_totals_text : Totals → List ℕ
@@ -157,7 +157,7 @@ counts_text c =
 
 -- The line of all sums.
 unfoldable pub all_text : Totals → CaptureCounts → List ℕ
-all_text t c = came_text c.datagrams ++ totals_text t ++ counts_text c ++ codes "\n"
+all_text t c = datagram_count_text c.datagrams ++ totals_text t ++ counts_text c ++ codes "\n"
 
 -- The date and time of the first datagram.
 unfoldable pub date_text : ℕ → List ℕ
@@ -169,4 +169,4 @@ first_lines first = if nat_eq first 0 then [] else date_text first
 
 -- All lines of the sums.
 abbrev pub summary_text : Scale → List Connection → Totals → CaptureCounts → List ℕ
-summary_text s cs t c = first_lines s.clock.first ++ connections_text s cs ++ passed_lines c.passed ++ all_text t c
+summary_text s cs t c = first_lines s.clock.first ++ connections_text s cs ++ skips_lines c.passed ++ all_text t c

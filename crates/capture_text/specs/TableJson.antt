@@ -3,8 +3,8 @@ use Rattle.std.specs.Prelude.{ℕ, ◌%◌, Bool, true, false, List, [], ◌∷�
 use Rattle.std.specs.Fmt.{decimal}
 use Rattle.std.specs.List.{flat_map}
 use Rattle.capture.specs.declared.sessions.TheConstants.{SESSIONS}
-use Rattle.capture.specs.declared.sessions.Asking.{Asking}
-use Rattle.capture.specs.declared.sessions.Parting.{Parting}
+use Rattle.capture.specs.declared.sessions.SessionRequest.{SessionRequest}
+use Rattle.capture.specs.declared.sessions.Disconnection.{Disconnection}
 use Rattle.capture.specs.declared.sessions.Session.{Session}
 use Rattle.capture.specs.declared.sessions.SessionTotals.{SessionTotals}
 use Rattle.capture.specs.declared.sessions.Sessions.{Sessions}
@@ -24,13 +24,13 @@ maybe_time_json None = codes "null"
 maybe_time_json (Some time) = decimal time
 
 -- The time and the end of a ConnReq.
-unfoldable pub asking_json : ℕ → ℕ → List ℕ
-asking_json end time = join_pieces (codes ",\"asked\":" ∷ decimal time ∷ codes ",\"asked_by\":" ∷ decimal end ∷ [])
+unfoldable pub request_json : ℕ → ℕ → List ℕ
+request_json end time = join_pieces (codes ",\"asked\":" ∷ decimal time ∷ codes ",\"asked_by\":" ∷ decimal end ∷ [])
 
 -- The ConnReq of a session, or that it was not recorded.
-abbrev pub asked_json : ℕ → ℕ → Option Asking → List ℕ
-asked_json low high None = codes ",\"asked\":null,\"asked_by\":null"
-asked_json low high (Some a) = asking_json (asker_of low high a) a.time
+abbrev pub maybe_request_json : ℕ → ℕ → Option SessionRequest → List ℕ
+maybe_request_json low high None = codes ",\"asked\":null,\"asked_by\":null"
+maybe_request_json low high (Some a) = request_json (asker_of low high a) a.time
 
 -- The number of a session, at the start of its object.
 unfoldable pub number_json : ℕ → List ℕ
@@ -42,16 +42,16 @@ outcome_json up unanswered =
     codes ",\"up\":" ++ maybe_time_json up ++ codes ",\"unanswered\":" ++ truth_json unanswered
 
 -- The object of a DiscReq.
-unfoldable pub parting_json : Parting → List ℕ
-parting_json p =
+unfoldable pub disconnect_json : Disconnection → List ℕ
+disconnect_json p =
     join_pieces
     (codes "{\"time\":" ∷ decimal p.time ∷ codes ",\"reason\":" ∷ decimal p.leaving.reason ∷ codes ",\"detail\":" ∷ decimal p.leaving.detail
     ∷ codes ",\"follows\":" ∷ truth_json p.follows ∷ codes "}" ∷ [])
 
 -- The DiscReq of an end, or null.
-abbrev pub left_json : Option Parting → List ℕ
-left_json None = codes "null"
-left_json (Some p) = parting_json p
+abbrev pub maybe_disconnect_json : Option Disconnection → List ℕ
+maybe_disconnect_json None = codes "null"
+maybe_disconnect_json (Some p) = disconnect_json p
 
 -- The longest wait and the losses of an end.
 unfoldable pub losses_json : ℕ → ℕ → ℕ → List ℕ
@@ -67,11 +67,11 @@ again_json resent repeats = join_pieces (codes ",\"resent\":" ∷ decimal resent
 -- What an end did in a session.
 unfoldable pub side_json : Side → List ℕ
 side_json s =
-    codes "{\"left\":" ++ left_json s.left ++ losses_json s.longest s.lost (alone_of s) ++ again_json s.resent s.repeats
+    codes "{\"left\":" ++ maybe_disconnect_json s.left ++ losses_json s.longest s.lost (alone_of s) ++ again_json s.resent s.repeats
 
 -- How a session began.
-unfoldable pub beginning_json : ℕ → ℕ → Session → List ℕ
-beginning_json low high x = number_json x.number ++ asked_json low high x.asked ++ outcome_json x.up (is_unanswered_in x)
+unfoldable pub start_json : ℕ → ℕ → Session → List ℕ
+start_json low high x = number_json x.number ++ maybe_request_json low high x.asked ++ outcome_json x.up (is_unanswered_in x)
 
 -- What both ends did in a session, and the end of its object.
 unfoldable pub sides_json : Session → List ℕ
@@ -79,7 +79,7 @@ sides_json x = codes ",\"low\":" ++ side_json x.low ++ codes ",\"high\":" ++ sid
 
 -- The object of a session.
 unfoldable pub session_json : ℕ → ℕ → Session → List ℕ
-session_json low high x = beginning_json low high x ++ sides_json x
+session_json low high x = start_json low high x ++ sides_json x
 
 -- A kept session before a comma, if the place has one.
 abbrev pub slot_json : ℕ → ℕ → Option Session → List ℕ
@@ -91,15 +91,15 @@ abbrev pub slots_json : ℕ → ℕ → List (Option Session) → List ℕ
 slots_json low high xs = flat_map (λ x. slot_json low high x) xs
 
 -- The sums over all sessions: how many there were, came up, and were not answered.
-unfoldable pub came_json : ℕ → SessionTotals → List ℕ
-came_json number t =
+unfoldable pub session_counts_json : ℕ → SessionTotals → List ℕ
+session_counts_json number t =
     join_pieces
     (codes ",\"sessions\":{\"number\":" ∷ decimal number ∷ codes ",\"up\":" ∷ decimal t.up ∷ codes ",\"unanswered\":" ∷ decimal t.unanswered
     ∷ [])
 
 -- The sums over all sessions: how many an end left, and by a timeout; and the start of the table.
-unfoldable pub gone_json : SessionTotals → List ℕ
-gone_json t =
+unfoldable pub disconnect_counts_json : SessionTotals → List ℕ
+disconnect_counts_json t =
     join_pieces (codes ",\"left\":" ∷ decimal t.left ∷ codes ",\"timeouts\":" ∷ decimal t.timeouts ∷ codes ",\"table\":[" ∷ [])
 
 -- All kept sessions, the oldest one first, then the current one, and the end of the table.
@@ -110,4 +110,4 @@ table_json low high ss =
 
 -- The sums over all sessions of a connection, and its table.
 unfoldable pub sessions_json : ℕ → ℕ → Sessions → List ℕ
-sessions_json low high ss = came_json ss.current.number (session_sums ss) ++ gone_json (session_sums ss) ++ table_json low high ss
+sessions_json low high ss = session_counts_json ss.current.number (session_sums ss) ++ disconnect_counts_json (session_sums ss) ++ table_json low high ss

@@ -3,11 +3,11 @@ use Rattle.std.specs.Prelude.{ℕ, ◌%◌, ◌&&◌, Bool, true, false, List, [
 use Rattle.std.specs.Fmt.{decimal}
 use Rattle.std.specs.List.{flat_map}
 use Rattle.capture.specs.declared.sessions.TheConstants.{SESSIONS}
-use Rattle.capture.specs.declared.sessions.Asking.{Asking}
-use Rattle.capture.specs.declared.sessions.Parting.{Parting}
+use Rattle.capture.specs.declared.sessions.SessionRequest.{SessionRequest}
+use Rattle.capture.specs.declared.sessions.Disconnection.{Disconnection}
 use Rattle.capture.specs.declared.sessions.Session.{Session}
 use Rattle.capture.specs.declared.sessions.Sessions.{Sessions}
-use Rattle.capture.specs.Numbers.{counted}
+use Rattle.capture.specs.Numbers.{limited_sum}
 use Rattle.capture.specs.Sessions.{alone_in, is_unanswered_in, lost_in_session}
 use Rattle.pdu_text.specs.Lines.{join_pieces}
 use Rattle.capture_text.specs.declared.pieces.Clock.{Clock}
@@ -20,21 +20,21 @@ number_text number low high =
     join_pieces (codes "session " ∷ decimal number ∷ codes " of " ∷ decimal low ∷ codes "-" ∷ decimal high ∷ [])
 
 -- The end that asked for a session.
-abbrev pub asker_of : ℕ → ℕ → Asking → ℕ
+abbrev pub asker_of : ℕ → ℕ → SessionRequest → ℕ
 asker_of low high a = if a.by_low then low else high
 
 -- The ConnReq of a session: end and time.
-unfoldable pub asking_text : Clock → ℕ → ℕ → List ℕ
-asking_text clock end time = join_pieces (codes ", " ∷ decimal end ∷ codes " asked at " ∷ []) ++ since_text clock time
+unfoldable pub request_text : Clock → ℕ → ℕ → List ℕ
+request_text clock end time = join_pieces (codes ", " ∷ decimal end ∷ codes " asked at " ∷ []) ++ since_text clock time
 
 -- The ConnReq of a session, or that it was not recorded.
-abbrev pub asked_text : Clock → ℕ → ℕ → Option Asking → List ℕ
-asked_text clock low high None = codes ", its ConnReq was not recorded"
-asked_text clock low high (Some a) = asking_text clock (asker_of low high a) a.time
+abbrev pub maybe_request_text : Clock → ℕ → ℕ → Option SessionRequest → List ℕ
+maybe_request_text clock low high None = codes ", its ConnReq was not recorded"
+maybe_request_text clock low high (Some a) = request_text clock (asker_of low high a) a.time
 
 -- The time at which a session came up.
-unfoldable pub came_up_text : Clock → ℕ → List ℕ
-came_up_text clock time = codes ", came up at " ++ since_text clock time
+unfoldable pub up_text : Clock → ℕ → List ℕ
+up_text clock time = codes ", came up at " ++ since_text clock time
 
 -- A session that did not come up: if nobody answered, that.
 abbrev pub down_text : Bool → List ℕ
@@ -43,13 +43,13 @@ down_text false = codes ", was not seen to come up"
 
 -- The time at which a session came up, or that it did not.
 abbrev pub outcome_text : Clock → Option ℕ → Bool → List ℕ
-outcome_text clock (Some time) unanswered = came_up_text clock time
+outcome_text clock (Some time) unanswered = up_text clock time
 outcome_text clock None unanswered = down_text unanswered
 
 -- How a session began: number, ConnReq, ConnResp.
-unfoldable pub beginning_text : Clock → ℕ → ℕ → Session → List ℕ
-beginning_text clock low high x =
-    number_text x.number low high ++ asked_text clock low high x.asked ++ outcome_text clock x.up (is_unanswered_in x)
+unfoldable pub start_text : Clock → ℕ → ℕ → Session → List ℕ
+start_text clock low high x =
+    number_text x.number low high ++ maybe_request_text clock low high x.asked ++ outcome_text clock x.up (is_unanswered_in x)
 
 -- Whose leaving was the first.
 abbrev pub own_text : Bool → List ℕ
@@ -57,37 +57,37 @@ own_text true = codes " after the other"
 own_text false = codes " by itself"
 
 -- The DiscReq of an end: who, when, own or after that of the other end, reason.
-unfoldable pub leaving_text : Clock → ℕ → Parting → List ℕ
-leaving_text clock end p =
+unfoldable pub disconnect_text : Clock → ℕ → Disconnection → List ℕ
+disconnect_text clock end p =
     join_pieces (codes ", " ∷ decimal end ∷ codes " left at " ∷ []) ++ since_text clock p.time ++ own_text p.follows ++ leaving_words p.leaving
 
 -- The DiscReq of an end, if it sent one.
-abbrev pub left_text : Clock → ℕ → Option Parting → List ℕ
-left_text clock end None = []
-left_text clock end (Some p) = leaving_text clock end p
+abbrev pub maybe_disconnect_text : Clock → ℕ → Option Disconnection → List ℕ
+maybe_disconnect_text clock end None = []
+maybe_disconnect_text clock end (Some p) = disconnect_text clock end p
 
 -- Neither end left.
 abbrev pub is_kept : Session → Bool
 is_kept x = is_none x.low.left && is_none x.high.left
 
 -- That neither end left.
-abbrev pub kept_text : Bool → List ℕ
-kept_text true = codes ", nobody left"
-kept_text false = []
+abbrev pub no_disconnect_text : Bool → List ℕ
+no_disconnect_text true = codes ", nobody left"
+no_disconnect_text false = []
 
 -- How a session ended.
-unfoldable pub ended_text : Clock → ℕ → ℕ → Session → List ℕ
-ended_text clock low high x = left_text clock low x.low.left ++ left_text clock high x.high.left ++ kept_text (is_kept x)
+unfoldable pub end_text : Clock → ℕ → ℕ → Session → List ℕ
+end_text clock low high x = maybe_disconnect_text clock low x.low.left ++ maybe_disconnect_text clock high x.high.left ++ no_disconnect_text (is_kept x)
 
 -- The longest wait of each end.
-unfoldable pub waited_text : ℕ → ℕ → ℕ → ℕ → List ℕ
-waited_text low high one other =
+unfoldable pub waits_text : ℕ → ℕ → ℕ → ℕ → List ℕ
+waits_text low high one other =
     join_pieces
     (codes ", " ∷ decimal low ∷ codes " waited " ∷ decimal one ∷ codes " ms, " ∷ decimal high ∷ codes " waited " ∷ decimal other ∷ codes " ms" ∷ [])
 
 -- The losses, in words that name what is counted.
-unfoldable pub lost_text : ℕ → ℕ → List ℕ
-lost_text everywhere alone =
+unfoldable pub session_losses_text : ℕ → ℕ → List ℕ
+session_losses_text everywhere alone =
     join_pieces
     (codes ", PDUs lost on every channel " ∷ decimal everywhere ∷ codes ", datagrams lost on one channel whose PDU came on another " ∷ decimal alone
     ∷ [])
@@ -98,21 +98,21 @@ again_text resent repeats = join_pieces (codes ", sent again " ∷ decimal resen
 
 -- The units that both ends sent again.
 abbrev pub resent_in : Session → ℕ
-resent_in x = counted x.low.resent x.high.resent
+resent_in x = limited_sum x.low.resent x.high.resent
 
 -- The PDUs of both ends that came twice on one channel.
 abbrev pub repeats_in : Session → ℕ
-repeats_in x = counted x.low.repeats x.high.repeats
+repeats_in x = limited_sum x.low.repeats x.high.repeats
 
 -- What happened in a session, and the end of its line.
-unfoldable pub happened_text : ℕ → ℕ → Session → List ℕ
-happened_text low high x =
-    waited_text low high x.low.longest x.high.longest ++ lost_text (lost_in_session x) (alone_in x) ++ again_text (resent_in x) (repeats_in x)
+unfoldable pub session_events_text : ℕ → ℕ → Session → List ℕ
+session_events_text low high x =
+    waits_text low high x.low.longest x.high.longest ++ session_losses_text (lost_in_session x) (alone_in x) ++ again_text (resent_in x) (repeats_in x)
 
 -- The line of a session.
 unfoldable pub session_text : Clock → ℕ → ℕ → Session → List ℕ
 session_text clock low high x =
-    beginning_text clock low high x ++ ended_text clock low high x ++ happened_text low high x
+    start_text clock low high x ++ end_text clock low high x ++ session_events_text low high x
 
 -- The line of a kept session, if the place has one.
 abbrev pub slot_text : Clock → ℕ → ℕ → Option Session → List ℕ

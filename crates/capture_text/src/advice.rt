@@ -2,10 +2,10 @@
 
 ghost use Rattle.std.specs.Prelude.{◌≡◌, OnOk};
 ghost use Rattle.std.specs.Io.KnownBytes.{Appends};
-ghost use Rattle.capture_text.specs.Advice.{advice_lines, advice_text, advices_text, connection_text, delay_reason, delay_text, difference_reason, difference_text, few_word, from_text, load_text, named_text, none_text, rule_text, settings_lines, settings_text, t_h_text, t_max_text, t_seq_text, three_text, units_text, units_word, window_text, within_delay};
+ghost use Rattle.capture_text.specs.Advice.{advice_lines, advice_text, advices_text, connection_text, delay_reason, delay_text, difference_reason, difference_text, few_word, from_text, load_text, advice_front, none_text, rule_text, settings_lines, settings_text, t_h_text, t_max_text, t_seq_text, three_text, units_text, units_word, window_text, within_delay};
 
-use crate::choosing::{ChosenSettings, Delays, Network, choose, find_delays, observe};
 use crate::distributions::write_measured;
+use crate::settings_rule::{ChosenSettings, Delays, Network, choose, find_delays, observe};
 use capture::{Connection, Entry};
 use pdu_text::write_text;
 use std::io;
@@ -79,11 +79,11 @@ fn write_network<W: Write>(writer: &mut W, ends: (u32, u32), network: &Network) 
 }
 
 /// Writes the begin of a line about a connection.
-#[tactic(auto, unfolding(crate::specs::Advice::named_text))]
+#[tactic(auto, unfolding(crate::specs::Advice::advice_front))]
 fn write_named<W: Write>(writer: &mut W, ends: (u32, u32)) -> io::Result<()>
     // On success both identifiers are appended after the word of these lines.
     ensures { OnOk result (Appends (W.contents writer.old) (W.contents writer.new)
-        (named_text ends.0 ends.1)) }
+        (advice_front ends.0 ends.1)) }
 {
     let low = ends.0;
     let high = ends.1;

@@ -2,10 +2,10 @@
 
 ghost use Rattle.std.specs.Prelude.{◌≡◌, OnOk};
 ghost use Rattle.std.specs.Io.KnownBytes.{Appends};
-ghost use Rattle.capture_text.specs.AdviceJson.{advice_json, advices_json, chosen_json, delays_json, end_json, list_json, listed_json, name_json, network_json, rest_json, seen_json, settings_json, sides_json, truth_word, units_json, window_json};
+ghost use Rattle.capture_text.specs.AdviceJson.{advice_json, advices_json, chosen_settings_json, delays_json, end_json, list_json, next_advice_json, name_json, network_json, rest_json, seen_times_json, settings_json, sides_json, truth_word, units_json, window_json};
 
-use crate::choosing::{ChosenSettings, Delays, Network, choose, find_delays, observe};
 use crate::distributions::write_measured_json;
+use crate::settings_rule::{ChosenSettings, Delays, Network, choose, find_delays, observe};
 use capture::{Connection, Entry, Measures};
 use pdu_text::write_text;
 use std::io;
@@ -68,10 +68,10 @@ fn write_rest<W: Write>(writer: &mut W, connections: &[Entry]) -> io::Result<()>
 }
 
 /// Writes what is chosen for a connection, after a comma.
-#[tactic(auto, unfolding(crate::specs::AdviceJson::listed_json))]
+#[tactic(auto, unfolding(crate::specs::AdviceJson::next_advice_json))]
 fn write_listed<W: Write>(writer: &mut W, connection: &Connection) -> io::Result<()>
     // On success a comma and what is chosen for this `connection` are appended.
-    ensures { OnOk result (Appends (W.contents writer.old) (W.contents writer.new) (listed_json connection.now)) }
+    ensures { OnOk result (Appends (W.contents writer.old) (W.contents writer.new) (next_advice_json connection.now)) }
 {
     write_text(writer, ",")?;
     write_connection(writer, connection)
@@ -127,11 +127,11 @@ fn write_network<W: Write>(writer: &mut W, network: &Network) -> io::Result<()>
 }
 
 /// Writes which times were seen.
-#[tactic(auto, unfolding(crate::specs::AdviceJson::seen_json))]
+#[tactic(auto, unfolding(crate::specs::AdviceJson::seen_times_json))]
 fn write_seen<W: Write>(writer: &mut W, round_trips: &str, skews: &str) -> io::Result<()>
     // On success both words are appended as members, that of `round_trips` first.
     ensures { OnOk result (Appends (W.contents writer.old) (W.contents writer.new)
-        (seen_json round_trips.now skews.now)) }
+        (seen_times_json round_trips.now skews.now)) }
 {
     write!(
         writer,
@@ -175,8 +175,8 @@ fn write_delays<W: Write>(writer: &mut W, delays: Delays) -> io::Result<()>
 
 /// Writes the settings, or null, and ends the object of the connection.
 fn write_chosen<W: Write>(writer: &mut W, chosen: Option<ChosenSettings>) -> io::Result<()>
-    // On success the member `settings` is appended with what was `chosen` (`chosen_json`).
-    ensures { OnOk result (Appends (W.contents writer.old) (W.contents writer.new) (chosen_json chosen)) }
+    // On success the member `settings` is appended with what was `chosen` (`chosen_settings_json`).
+    ensures { OnOk result (Appends (W.contents writer.old) (W.contents writer.new) (chosen_settings_json chosen)) }
 {
     match chosen {
         None => write_text(writer, ",\"settings\":null}"),

@@ -2,22 +2,22 @@
 
 ghost use Rattle.std.specs.Prelude.{◌≡◌, ◌≤◌, [], None, Some, take, OnOk, IfOk};
 ghost use Rattle.std.specs.Io.KnownBytes.{Appends};
-ghost use Rattle.capture.specs.Hearing.{heard_of};
+ghost use Rattle.capture.specs.Datagrams.{datagram_of};
 ghost use Rattle.capture.specs.Lines.{line_of};
-ghost use Rattle.capture.specs.Numbers.{counted};
-ghost use Rattle.capture.specs.Whole.{connections_after, damaged_after, forgotten_after, gone_after, no_totals, remark_of};
+ghost use Rattle.capture.specs.Numbers.{limited_sum};
+ghost use Rattle.capture.specs.WholeCapture.{connections_after, damaged_count_after, forgotten_count_after, forgotten_totals_after, no_totals, remark_of};
 ghost use Rattle.capture_text.specs.FaultText.{fault_text, fault_word};
-ghost use Rattle.capture_text.specs.Passing.{no_passed, passed_behind};
-ghost use Rattle.capture_text.specs.Steps.{asked_telegrams, connections_behind, counts_of, course_text, damaged_behind, due_next, due_text, datagrams_behind, fault_in, first_behind, first_of, forgotten_behind, found_in, found_text, gone_behind, heard_chosen, heard_line, is_due, latest_behind, miscoded_behind, next_period, payload_in, scale_from, told_in, told_text, unreadable_behind};
+ghost use Rattle.capture_text.specs.Skips.{no_skips, count_line_skip};
+ghost use Rattle.capture_text.specs.Steps.{asked_telegrams, connections_after_line, counts_of, course_text, damaged_count_after_line, due_next, due_text, datagrams_after_line, fault_in, first_time_after_line, first_of, forgotten_count_after_line, line_remark, line_text, forgotten_totals_after_line, followed_datagram, line_datagram, is_due, latest_time_after_line, miscoded_count_after_line, next_period, payload_in, scale_from, form_text, chosen_text, unreadable_count_after_line};
 
 use crate::advice::write_advice;
 use crate::choice::{Remarkable, is_wanted};
 use crate::events::write_events;
-use crate::frames::{Skipped, first_with, skip};
+use crate::frames::{SkipReason, first_with, skip};
 use crate::json::write_json;
-use crate::passed::PassedOver;
 use crate::pieces::{Clock, TimeForm};
 use crate::record::write_record;
+use crate::skips::SkipCounts;
 use crate::summary::{CaptureCounts, Scale, write_summary};
 use crate::telegrams::write_telegrams;
 use capture::{
@@ -71,7 +71,7 @@ pub(crate) enum SkipCause {
     /// The line is not a datagram.
     Fault(LineFault),
     /// Its datagram is passed over.
-    Chosen(Skipped),
+    Chosen(SkipReason),
 }
 
 /// The state of a capture that is being read.
@@ -86,7 +86,7 @@ pub struct CaptureReading {
     /// How many of them were not a datagram.
     pub unreadable: u64,
     /// How many of them were passed over, by kind.
-    pub passed: PassedOver,
+    pub passed: SkipCounts,
     /// The time of the last datagram that was followed, in microseconds; 0 before it.
     pub latest: u64,
     /// The time from which on sums are due, in microseconds; `None` before the first datagram.
@@ -119,7 +119,7 @@ impl CaptureReading {
         // A new `CaptureReading` has no unreadable line.
         ensures unreadable { IfOk result (λ course. course.unreadable ≡ 0) }
         // A new `CaptureReading` has passed over nothing.
-        ensures passed { IfOk result (λ course. course.passed ≡ no_passed) }
+        ensures passed { IfOk result (λ course. course.passed ≡ no_skips) }
         // A new `CaptureReading` has no time of a last datagram.
         ensures latest { IfOk result (λ course. course.latest ≡ 0) }
         // A new `CaptureReading` has no time at which sums are due.
@@ -130,7 +130,7 @@ impl CaptureReading {
             first: None,
             lines: 0,
             unreadable: 0,
-            passed: PassedOver::new(),
+            passed: SkipCounts::new(),
             latest: 0,
             due: None,
         })
@@ -152,58 +152,58 @@ impl CaptureReading {
         writer: &mut W,
     ) -> io::Result<Option<LineFault>>
         // The count of lines grows by 1 for every line.
-        ensures lines { self.new.lines ≡ counted self.old.lines 1 }
-        // The first datagram of a chosen port sets the time; no other line changes it (`first_behind`).
-        ensures first { self.new.first ≡ first_behind self.old.first
-            (found_in self.old.following.connections (counted self.old.lines 1)
-            (heard_line asked.now self.old.first (line_of line.now))) }
+        ensures lines { self.new.lines ≡ limited_sum self.old.lines 1 }
+        // The first datagram of a chosen port sets the time; no other line changes it (`first_time_after_line`).
+        ensures first { self.new.first ≡ first_time_after_line self.old.first
+            (line_remark self.old.following.connections (limited_sum self.old.lines 1)
+            (line_datagram asked.now self.old.first (line_of line.now))) }
         // The count of unreadable lines grows by 1 exactly if the line is not a datagram; one without a chosen port
-        // is not counted here (`heard_line`).
-        ensures unreadable { self.new.unreadable ≡ unreadable_behind self.old.unreadable
-            (found_in self.old.following.connections (counted self.old.lines 1)
-            (heard_line asked.now self.old.first (line_of line.now))) }
+        // is not counted here (`line_datagram`).
+        ensures unreadable { self.new.unreadable ≡ unreadable_count_after_line self.old.unreadable
+            (line_remark self.old.following.connections (limited_sum self.old.lines 1)
+            (line_datagram asked.now self.old.first (line_of line.now))) }
         // A followed datagram changes the connections as `connections_after` says; any other line changes none.
         ensures connections { self.new.following.connections
-            ≡ connections_behind self.old.following.connections (counted self.old.lines 1)
-            (heard_line asked.now self.old.first (line_of line.now)) }
-        // The count of datagrams grows by 1 exactly if the datagram of the line is followed (`datagrams_behind`).
+            ≡ connections_after_line self.old.following.connections (limited_sum self.old.lines 1)
+            (line_datagram asked.now self.old.first (line_of line.now)) }
+        // The count of datagrams grows by 1 exactly if the datagram of the line is followed (`datagrams_after_line`).
         ensures datagrams { self.new.following.datagrams
-            ≡ datagrams_behind self.old.following.datagrams (heard_line asked.now self.old.first (line_of line.now)) }
+            ≡ datagrams_after_line self.old.following.datagrams (line_datagram asked.now self.old.first (line_of line.now)) }
         // If a connection is forgotten for the datagram, its sums are added to those of the forgotten ones
-        // (`gone_behind`).
+        // (`forgotten_totals_after_line`).
         ensures gone { self.new.following.gone
-            ≡ gone_behind self.old.following.gone self.old.following.connections
-            (heard_line asked.now self.old.first (line_of line.now)) }
+            ≡ forgotten_totals_after_line self.old.following.gone self.old.following.connections
+            (line_datagram asked.now self.old.first (line_of line.now)) }
         // The count of damaged datagrams grows by 1 exactly if a followed datagram is not a PDU.
         ensures damaged { self.new.following.damaged
-            ≡ damaged_behind self.old.following.damaged (heard_line asked.now self.old.first (line_of line.now)) }
+            ≡ damaged_count_after_line self.old.following.damaged (line_datagram asked.now self.old.first (line_of line.now)) }
         // The count of datagrams with another safety code grows by 1 exactly if a followed datagram has another, as
-        // long as none has the right one (`miscoded_behind`).
+        // long as none has the right one (`miscoded_count_after_line`).
         ensures miscoded { self.new.following.miscoded
-            ≡ miscoded_behind self.old.following.miscoded (heard_line asked.now self.old.first (line_of line.now)) }
-        // If a connection is forgotten for the datagram, the count of forgotten ones grows by 1 (`forgotten_behind`).
+            ≡ miscoded_count_after_line self.old.following.miscoded (line_datagram asked.now self.old.first (line_of line.now)) }
+        // If a connection is forgotten for the datagram, the count of forgotten ones grows by 1 (`forgotten_count_after_line`).
         ensures forgotten { self.new.following.forgotten
-            ≡ forgotten_behind self.old.following.forgotten self.old.following.connections
-            (heard_line asked.now self.old.first (line_of line.now)) }
+            ≡ forgotten_count_after_line self.old.following.forgotten self.old.following.connections
+            (line_datagram asked.now self.old.first (line_of line.now)) }
         // A datagram without a chosen port, or at another time than is asked for, is counted as passed over; any other
         // line is not.
-        ensures passed { self.new.passed ≡ passed_behind self.old.passed (heard_line asked.now self.old.first (line_of line.now)) }
-        // A datagram that is followed sets the time of the last one; no other line changes it (`latest_behind`).
-        ensures latest { self.new.latest ≡ latest_behind self.old.latest
-            (found_in self.old.following.connections (counted self.old.lines 1)
-            (heard_line asked.now self.old.first (line_of line.now))) }
+        ensures passed { self.new.passed ≡ count_line_skip self.old.passed (line_datagram asked.now self.old.first (line_of line.now)) }
+        // A datagram that is followed sets the time of the last one; no other line changes it (`latest_time_after_line`).
+        ensures latest { self.new.latest ≡ latest_time_after_line self.old.latest
+            (line_remark self.old.following.connections (limited_sum self.old.lines 1)
+            (line_datagram asked.now self.old.first (line_of line.now))) }
         // The time at which sums are due stays.
         ensures due { self.new.due ≡ self.old.due }
         // The result is the fault of a line that is not a datagram, and `None` for any other line.
         ensures fault { IfOk result (λ fault. fault ≡ fault_in
-            (found_in self.old.following.connections (counted self.old.lines 1)
-            (heard_line asked.now self.old.first (line_of line.now)))) }
+            (line_remark self.old.following.connections (limited_sum self.old.lines 1)
+            (line_datagram asked.now self.old.first (line_of line.now)))) }
         // On success the line of a followed datagram is appended, if its remark is chosen and the form is lines; then
         // its telegrams, if they are asked for. For any other line nothing is appended.
         ensures written { OnOk result (Appends (W.contents writer.old) (W.contents writer.new)
-            (found_text asked.now self.old.first (counted self.old.lines 1) (payload_in (line_of line.now))
-            (found_in self.old.following.connections (counted self.old.lines 1)
-            (heard_line asked.now self.old.first (line_of line.now))))) }
+            (line_text asked.now self.old.first (limited_sum self.old.lines 1) (payload_in (line_of line.now))
+            (line_remark self.old.following.connections (limited_sum self.old.lines 1)
+            (line_datagram asked.now self.old.first (line_of line.now))))) }
     {
         self.lines = self.lines.saturating_add(1);
         let (size, heard) = hear_line(asked, self.first, line, buffer);
@@ -225,9 +225,9 @@ impl CaptureReading {
         // A line that is too long does not set the time of the first datagram.
         ensures first { self.new.first ≡ self.old.first }
         // A line that is too long is counted as a line.
-        ensures lines { self.new.lines ≡ counted self.old.lines 1 }
+        ensures lines { self.new.lines ≡ limited_sum self.old.lines 1 }
         // A line that is too long is counted as unreadable.
-        ensures unreadable { self.new.unreadable ≡ counted self.old.unreadable 1 }
+        ensures unreadable { self.new.unreadable ≡ limited_sum self.old.unreadable 1 }
     {
         let unreadable = self.unreadable;
         self.lines = self.lines.saturating_add(1);
@@ -245,7 +245,7 @@ impl CaptureReading {
         // Printing changes nothing in the connections and their counts.
         ensures following { self.new.following ≡ self.old.following }
         // A datagram that was `found` sets the time of the last one.
-        ensures latest { self.new.latest ≡ latest_behind self.old.latest found }
+        ensures latest { self.new.latest ≡ latest_time_after_line self.old.latest found }
         // Printing does not change when sums are due.
         ensures due { self.new.due ≡ self.old.due }
         // Printing does not count what is passed over.
@@ -253,15 +253,15 @@ impl CaptureReading {
         // Printing does not count a line.
         ensures lines { self.new.lines ≡ self.old.lines }
         // A datagram that was `found` sets the time of the first one, if that is not set.
-        ensures first { self.new.first ≡ first_behind self.old.first found }
+        ensures first { self.new.first ≡ first_time_after_line self.old.first found }
         // A fault that was `found` is counted as unreadable.
-        ensures unreadable { self.new.unreadable ≡ unreadable_behind self.old.unreadable found }
+        ensures unreadable { self.new.unreadable ≡ unreadable_count_after_line self.old.unreadable found }
         // The result is the fault that was `found`, if any.
         ensures fault { IfOk result (λ fault. fault ≡ fault_in found) }
         // On success the text of the `datagram` that was found is appended; for a fault or a datagram that is not
         // followed, nothing is.
         ensures written { OnOk result (Appends (W.contents writer.old) (W.contents writer.new)
-            (found_text asked.now self.old.first self.old.lines datagram.now found)) }
+            (line_text asked.now self.old.first self.old.lines datagram.now found)) }
     {
         match found {
             Ok((record, remark)) => {
@@ -407,8 +407,8 @@ fn hear_line(
     line: &[u8],
     buffer: &mut Buffer,
 ) -> (usize, Result<(Record, DecodedDatagram), SkipCause>)
-    // The second result is the decoded datagram of the line, or the reason why none is followed (`heard_line`).
-    ensures heard { result.1 ≡ heard_line asked.now first (line_of line.now) }
+    // The second result is the decoded datagram of the line, or the reason why none is followed (`line_datagram`).
+    ensures heard { result.1 ≡ line_datagram asked.now first (line_of line.now) }
     // The first bytes of the `buffer`, as many as the first result, are the payload of the line.
     ensures payload { take result.0 buffer.new ≡ payload_in (line_of line.now) }
     // The size of the payload is at most `PAYLOAD_ROOM`.
@@ -424,9 +424,9 @@ fn hear_line(
 }
 
 /// Counts a line whose datagram is passed over.
-fn pass_line(passed: &mut PassedOver, heard: &Result<(Record, DecodedDatagram), SkipCause>)
-    // Only a datagram that is passed over is counted, by its kind (`passed_behind`).
-    ensures { passed.new ≡ passed_behind passed.old heard.now }
+fn pass_line(passed: &mut SkipCounts, heard: &Result<(Record, DecodedDatagram), SkipCause>)
+    // Only a datagram that is passed over is counted, by its kind (`count_line_skip`).
+    ensures { passed.new ≡ count_line_skip passed.old heard.now }
 {
     match heard {
         Ok(_) | Err(SkipCause::Fault(_)) => {}
@@ -441,8 +441,8 @@ fn hear_chosen(
     record: &Record,
     octets: &[u8],
 ) -> Result<(Record, DecodedDatagram), SkipCause>
-    // The result is the decoded datagram if it is followed, or the reason why it is passed over (`heard_chosen`).
-    ensures { result ≡ heard_chosen asked.now first «record».now octets.now }
+    // The result is the decoded datagram if it is followed, or the reason why it is passed over (`followed_datagram`).
+    ensures { result ≡ followed_datagram asked.now first «record».now octets.now }
 {
     match skip(asked, first, record) {
         None => Ok((*record, hear(octets, &asked.rule))),
@@ -456,23 +456,23 @@ fn follow(
     number: u64,
     heard: Result<(Record, DecodedDatagram), SkipCause>,
 ) -> Result<(Record, Remark), SkipCause>
-    // The result is the remark on a datagram that is followed; the reason for any other stays (`found_in`).
-    ensures found { result ≡ found_in following.old.connections number heard }
+    // The result is the remark on a datagram that is followed; the reason for any other stays (`line_remark`).
+    ensures found { result ≡ line_remark following.old.connections number heard }
     // Only a datagram that is followed changes the connections.
     ensures connections { following.new.connections
-        ≡ connections_behind following.old.connections number heard }
+        ≡ connections_after_line following.old.connections number heard }
     // Only a datagram that is followed adds to the count of datagrams.
-    ensures datagrams { following.new.datagrams ≡ datagrams_behind following.old.datagrams heard }
+    ensures datagrams { following.new.datagrams ≡ datagrams_after_line following.old.datagrams heard }
     // Only a followed datagram that is not a PDU adds to the count of damaged ones.
-    ensures damaged { following.new.damaged ≡ damaged_behind following.old.damaged heard }
+    ensures damaged { following.new.damaged ≡ damaged_count_after_line following.old.damaged heard }
     // Only a followed datagram changes the count of those with another safety code.
-    ensures miscoded { following.new.miscoded ≡ miscoded_behind following.old.miscoded heard }
+    ensures miscoded { following.new.miscoded ≡ miscoded_count_after_line following.old.miscoded heard }
     // If the datagram makes a connection forgotten, its sums are kept.
     ensures gone { following.new.gone
-        ≡ gone_behind following.old.gone following.old.connections heard }
+        ≡ forgotten_totals_after_line following.old.gone following.old.connections heard }
     // If the datagram makes a connection forgotten, that is counted.
     ensures forgotten { following.new.forgotten
-        ≡ forgotten_behind following.old.forgotten following.old.connections heard }
+        ≡ forgotten_count_after_line following.old.forgotten following.old.connections heard }
 {
     match heard {
         Ok((record, heard)) => {
@@ -495,7 +495,7 @@ pub(crate) fn write_wanted<W: Write>(
 ) -> io::Result<()>
     // On success the text of the datagram is appended if its remark is chosen (`is_asked`); otherwise nothing is.
     ensures { OnOk result (Appends (W.contents writer.old) (W.contents writer.new)
-        (told_text asked.now first number «record».now remark.now datagram.now)) }
+        (chosen_text asked.now first number «record».now remark.now datagram.now)) }
 {
     if !is_wanted(asked.only, asked.t_max, remark) {
         return Ok(());
@@ -513,9 +513,9 @@ fn write_told<W: Write>(
     remark: &Remark,
     datagram: &[u8],
 ) -> io::Result<()>
-    // On success its line and telegrams, or its events, are appended; with `Json` nothing is (`told_in`).
+    // On success its line and telegrams, or its events, are appended; with `Json` nothing is (`form_text`).
     ensures { OnOk result (Appends (W.contents writer.old) (W.contents writer.new)
-        (told_in asked.now.form asked.now first number «record».now remark.now datagram.now)) }
+        (form_text asked.now.form asked.now first number «record».now remark.now datagram.now)) }
 {
     match asked.form {
         OutputForm::Lines => {

@@ -2,7 +2,7 @@
 
 ghost use Rattle.std.specs.Prelude.{◌≡◌, OnOk};
 ghost use Rattle.std.specs.Io.KnownBytes.{Appends};
-ghost use Rattle.capture_text.specs.Distributions.{after_mark, bracket_json, count_sum, counts_text, distribution_json, distribution_text, measured_json, measured_text, number_text, one_counted};
+ghost use Rattle.capture_text.specs.Distributions.{after_mark, bracket_json, count_sum, counts_text, distribution_json, distribution_text, measurements_json, measurements_text, number_text, sum_with};
 
 use crate::pieces::write_ends;
 use capture::{Distribution, Measurements, class};
@@ -11,7 +11,7 @@ use std::io;
 use std::io::Write;
 
 /// Writes a line for each distribution of an end; `ends` are the sender and the receiver.
-#[tactic(auto, unfolding(crate::specs::Distributions::measured_text))]
+#[tactic(auto, unfolding(crate::specs::Distributions::measurements_text))]
 pub(crate) fn write_measured<W: Write>(
     writer: &mut W,
     ends: (u32, u32),
@@ -19,7 +19,7 @@ pub(crate) fn write_measured<W: Write>(
 ) -> io::Result<()>
     // On success the lines of round trips, skews, silences and waits are appended, in this order.
     ensures { OnOk result (Appends (W.contents writer.old) (W.contents writer.new)
-        (measured_text ends.0 ends.1 measured.now)) }
+        (measurements_text ends.0 ends.1 measured.now)) }
 {
     write_distribution(writer, ends, " round trip ", &measured.round_trips)?;
     write_distribution(writer, ends, " skew ", &measured.skews)?;
@@ -80,7 +80,7 @@ fn number(distribution: &Distribution) -> u64
 /// Adds a count to a sum.
 fn add_count(sum: u64, count: u32) -> u64
     // The sum is limited to 2^64 - 1.
-    ensures { result ≡ one_counted sum count }
+    ensures { result ≡ sum_with sum count }
 {
     sum.saturating_add(count as u64)
 }
@@ -108,14 +108,14 @@ fn write_count<W: Write>(writer: &mut W, mark: &str, count: u32) -> io::Result<(
 }
 
 /// Writes the distributions of an end as an object.
-#[tactic(auto, unfolding(crate::specs::Distributions::measured_json))]
+#[tactic(auto, unfolding(crate::specs::Distributions::measurements_json))]
 pub(crate) fn write_measured_json<W: Write>(
     writer: &mut W,
     measured: &Measurements,
 ) -> io::Result<()>
     // On success the object with round trips, skews, silences and waits is appended.
     ensures { OnOk result (Appends (W.contents writer.old) (W.contents writer.new)
-        (measured_json measured.now)) }
+        (measurements_json measured.now)) }
 {
     write_distribution_json(writer, "{\"round_trip\":", &measured.round_trips)?;
     write_distribution_json(writer, ",\"skew\":", &measured.skews)?;

@@ -2,7 +2,7 @@
 
 ghost use Rattle.std.specs.Prelude.{◌≡◌, OnOk};
 ghost use Rattle.std.specs.Io.KnownBytes.{Appends};
-ghost use Rattle.capture_text.specs.EventText.{channel_event, channel_number, damaged_json, event_json, event_line, event_lines, event_name, fault_json, head_json, late_json, left_by, left_event, left_json, line_json, lost_json, maybe_line, named_json, no_red_line, no_safe_line, number_event, opening_event, order_lines, other_lines, pdu_lines, quote_of, quoted_json, resent_event, spot_of, wait_event, waits_json, way_json, when_json};
+ghost use Rattle.capture_text.specs.EventText.{channel_event, channel_number, damage_json, event_json, event_line, event_lines, event_name, fault_json, head_json, late_json, disconnect_event, new_disconnect_event, disconnect_json, line_json, losses_json, maybe_line, event_name_json, no_red_line, no_safe_line, number_event, opening_event, order_lines, other_lines, pdu_lines, quote_of, address_json, resent_event, spot_of, wait_event, waits_json, way_json, when_json};
 
 use crate::choice::is_half_of;
 use crate::pieces::{Clock, TimeForm, write_address, write_since};
@@ -11,7 +11,7 @@ use crate::table_json::name_truth;
 use capture::{Address, Header, NumberOrder, Record, Remark, Remarks, is_first_copy};
 use pdu_text::write_text;
 use red_layer::pdu::RedFault;
-use safe_pdu::{Kind, Leaving, SafeFault};
+use safe_pdu::{Identifier, Kind, Leaving, SafeFault};
 use std::io;
 use std::io::Write;
 
@@ -58,9 +58,9 @@ pub(crate) struct Spot {
     /// The number of its line or frame.
     pub line: u64,
     /// The end that sent its PDU.
-    pub sender: u32,
+    pub sender: Identifier,
     /// The end that the PDU is for.
-    pub receiver: u32,
+    pub receiver: Identifier,
     /// The number of the channel, from 0; `CHANNELS` for any further channel.
     pub route: usize,
 }
@@ -240,7 +240,7 @@ fn wait(t_max: u32, waits: Option<u32>) -> Option<Event>
 /// Returns the event of a DiscReq.
 fn leave(remarks: &Remarks) -> Option<Event>
     // There is an event exactly if the PDU is new and has a reason.
-    ensures { result ≡ left_event remarks.now }
+    ensures { result ≡ new_disconnect_event remarks.now }
 {
     if is_first_copy(remarks.together) {
         leave_by(remarks.leaving)
@@ -252,7 +252,7 @@ fn leave(remarks: &Remarks) -> Option<Event>
 /// Returns the event of a reason.
 fn leave_by(leaving: Option<Leaving>) -> Option<Event>
     // Without a reason there is no event.
-    ensures { result ≡ left_by leaving }
+    ensures { result ≡ disconnect_event leaving }
 {
     match leaving {
         None => None,
@@ -325,10 +325,10 @@ fn write_head<W: Write>(
 }
 
 /// Writes the name of an event.
-#[tactic(auto, unfolding(crate::specs::EventText::named_json))]
+#[tactic(auto, unfolding(crate::specs::EventText::event_name_json))]
 fn write_name<W: Write>(writer: &mut W, name: &str) -> io::Result<()>
     // On success the start of an object with this `name` is appended, up to its time.
-    ensures { OnOk result (Appends (W.contents writer.old) (W.contents writer.new) (named_json name.now)) }
+    ensures { OnOk result (Appends (W.contents writer.old) (W.contents writer.new) (event_name_json name.now)) }
 {
     write!(writer, "{{\"event\":\"{name}\",\"time\":")
 }
@@ -367,7 +367,12 @@ fn write_line<W: Write>(writer: &mut W, line: u64) -> io::Result<()>
 
 /// Writes the ends and the channel of a PDU.
 #[tactic(auto, unfolding(crate::specs::EventText::way_json))]
-fn write_way<W: Write>(writer: &mut W, sender: u32, receiver: u32, route: usize) -> io::Result<()>
+fn write_way<W: Write>(
+    writer: &mut W,
+    sender: Identifier,
+    receiver: Identifier,
+    route: usize,
+) -> io::Result<()>
     // On success `sender`, `receiver` and the number of the channel are appended; a further channel is null.
     ensures { OnOk result (Appends (W.contents writer.old) (W.contents writer.new) (way_json sender receiver route)) }
 {
@@ -410,10 +415,10 @@ fn write_rest<W: Write>(writer: &mut W, event: Event) -> io::Result<()>
 }
 
 /// Writes how many numbers are missing, and where.
-#[tactic(auto, unfolding(crate::specs::EventText::lost_json))]
+#[tactic(auto, unfolding(crate::specs::EventText::losses_json))]
 fn write_lost<W: Write>(writer: &mut W, missing: u32, everywhere: bool) -> io::Result<()>
     // On success it is appended if they are missing on every channel, and how many are `missing`.
-    ensures { OnOk result (Appends (W.contents writer.old) (W.contents writer.new) (lost_json missing everywhere)) }
+    ensures { OnOk result (Appends (W.contents writer.old) (W.contents writer.new) (losses_json missing everywhere)) }
 {
     let on_all = name_truth(everywhere);
     write!(
@@ -442,10 +447,10 @@ fn write_waits<W: Write>(writer: &mut W, waits: u32) -> io::Result<()>
 }
 
 /// Writes reason and detail.
-#[tactic(auto, unfolding(crate::specs::EventText::left_json))]
+#[tactic(auto, unfolding(crate::specs::EventText::disconnect_json))]
 fn write_left<W: Write>(writer: &mut W, leaving: Leaving) -> io::Result<()>
     // On success both numbers of `leaving` are appended.
-    ensures { OnOk result (Appends (W.contents writer.old) (W.contents writer.new) (left_json leaving)) }
+    ensures { OnOk result (Appends (W.contents writer.old) (W.contents writer.new) (disconnect_json leaving)) }
 {
     let reason = leaving.reason;
     let detail = leaving.detail;
@@ -487,7 +492,7 @@ fn write_no_red<W: Write>(
 }
 
 /// Writes the line of a damaged datagram up to its fault.
-#[tactic(auto, unfolding(crate::specs::EventText::damaged_json))]
+#[tactic(auto, unfolding(crate::specs::EventText::damage_json))]
 fn write_damaged<W: Write>(
     writer: &mut W,
     clock: Clock,
@@ -496,7 +501,7 @@ fn write_damaged<W: Write>(
 ) -> io::Result<()>
     // On success the name of the event, its time and line, and both addresses are appended.
     ensures { OnOk result (Appends (W.contents writer.old) (W.contents writer.new)
-        (damaged_json clock line «record».now)) }
+        (damage_json clock line «record».now)) }
 {
     write_head(writer, "damaged", clock, record.time, line)?;
     write_quoted(writer, ",\"source\":\"", record.source)?;
@@ -504,10 +509,10 @@ fn write_damaged<W: Write>(
 }
 
 /// Writes an address in quotes, after what names it.
-#[tactic(auto, unfolding(crate::specs::EventText::quoted_json))]
+#[tactic(auto, unfolding(crate::specs::EventText::address_json))]
 fn write_quoted<W: Write>(writer: &mut W, front: &str, address: Address) -> io::Result<()>
     // On success `front`, the `address` and a quote are appended.
-    ensures { OnOk result (Appends (W.contents writer.old) (W.contents writer.new) (quoted_json front.now address)) }
+    ensures { OnOk result (Appends (W.contents writer.old) (W.contents writer.new) (address_json front.now address)) }
 {
     write_text(writer, front)?;
     write_address(writer, address)?;

@@ -2,17 +2,19 @@
 
 ghost use Rattle.std.specs.Prelude.{◌≡◌, Some, ◌≤◌, ◌^◌, ◌<◌, length, OnOk, IfOk};
 ghost use Rattle.std.specs.Io.KnownBytes.{Appends};
-ghost use Rattle.capture.specs.Hearing.{heard_of};
-ghost use Rattle.capture.specs.Numbers.{counted};
-ghost use Rattle.capture.specs.Whole.{connections_after, damaged_after, forgotten_after, gone_after, miscoded_after, remark_of};
-ghost use Rattle.capture.specs.Frames.{found_in};
+ghost use Rattle.capture.specs.Datagrams.{datagram_of};
+ghost use Rattle.capture.specs.Numbers.{limited_sum};
+ghost use Rattle.capture.specs.WholeCapture.{connections_after, damaged_count_after, forgotten_count_after, forgotten_totals_after, miscoded_count_after, remark_of};
+ghost use Rattle.capture.specs.Frames.{datagram_in_frame};
 ghost use Rattle.capture_text.specs.FaultText.{frame_text, frame_word};
-ghost use Rattle.capture_text.specs.FrameSteps.{connections_seen, damaged_seen, datagrams_seen, fault_seen, first_seen, forgotten_seen, frame_seen, gone_seen, latest_seen, miscoded_seen, payload_at, record_found, seen_chosen, seen_found, seen_passed, seen_text, unreadable_seen, IsWithin};
-ghost use Rattle.capture_text.specs.Passing.{passed_within};
-ghost use Rattle.capture_text.specs.Steps.{first_of, first_skipped, skipped_by, told_text};
+ghost use Rattle.capture_text.specs.FrameSteps.{connections_after_frame, damaged_count_after_frame, datagrams_after_frame, fault_of_frame, first_time_after_frame, forgotten_count_after_frame, frame_content, forgotten_totals_after_frame, latest_time_after_frame, miscoded_count_after_frame, payload_at, record_of_frame, chosen_content, found_content, content_without_datagram, content_text, unreadable_count_after_frame, IsWithin};
+ghost use Rattle.capture_text.specs.Skips.{count_frame_skip};
+ghost use Rattle.capture_text.specs.Steps.{first_of, first_skipped, skip_reason, chosen_text};
 
 use crate::course::{CaptureReading, FollowOptions, start, write_wanted};
-use capture::{Found, Link, Passed, Record, find_datagram, hear, is_between, is_followed};
+use capture::{
+    FoundDatagram, Link, NoDatagramCause, Record, find_datagram, hear, is_between, is_followed,
+};
 use std::io;
 use std::io::Write;
 
@@ -31,7 +33,7 @@ pub enum FrameFault {
 
 /// Why a frame or a line is passed over without a fault.
 #[derive(Clone, Copy, Debug, PartialEq, Eq)]
-pub(crate) enum Skipped {
+pub(crate) enum SkipReason {
     /// Its datagram has no chosen port.
     Port,
     /// Its datagram came at this time, in microseconds, which is not asked for.
@@ -46,11 +48,11 @@ pub(crate) enum Skipped {
 
 /// The datagram of a frame.
 #[derive(Clone, Copy, Debug, PartialEq, Eq)]
-pub(crate) enum Seen {
+pub(crate) enum FrameContent {
     /// A datagram, with the places of its payload in the frame.
     Datagram(Record, usize, usize),
     /// Something that is not followed.
-    Other(Skipped),
+    Other(SkipReason),
     /// A datagram that is not read.
     Unread(FrameFault),
 }
@@ -73,65 +75,65 @@ impl CaptureReading {
     ) -> io::Result<Option<FrameFault>>
         requires { length octets.now < 2 ^ 32 }
         // The count of lines grows by 1 for every frame.
-        ensures lines { self.new.lines ≡ counted self.old.lines 1 }
-        // The first frame with a datagram of a chosen port sets the time; no other frame changes it (`frame_seen`).
-        ensures first { self.new.first ≡ first_seen self.old.first (frame_seen asked.now self.old.first link time octets.now) }
+        ensures lines { self.new.lines ≡ limited_sum self.old.lines 1 }
+        // The first frame with a datagram of a chosen port sets the time; no other frame changes it (`frame_content`).
+        ensures first { self.new.first ≡ first_time_after_frame self.old.first (frame_content asked.now self.old.first link time octets.now) }
         // The count of unreadable frames grows by 1 exactly if the datagram is not read; one without a chosen port is
         // not counted here.
         ensures unreadable { self.new.unreadable
-            ≡ unreadable_seen self.old.unreadable (frame_seen asked.now self.old.first link time octets.now) }
+            ≡ unreadable_count_after_frame self.old.unreadable (frame_content asked.now self.old.first link time octets.now) }
         // A followed datagram changes the connections as `connections_after` says; any other frame changes none.
         ensures connections { self.new.following.connections
-            ≡ connections_seen asked.now.rule self.old.following.connections (counted self.old.lines 1) octets.now
-            (frame_seen asked.now self.old.first link time octets.now) }
+            ≡ connections_after_frame asked.now.rule self.old.following.connections (limited_sum self.old.lines 1) octets.now
+            (frame_content asked.now self.old.first link time octets.now) }
         // The count of datagrams grows by 1 exactly if the datagram of the frame is followed.
         ensures datagrams { self.new.following.datagrams
-            ≡ datagrams_seen self.old.following.datagrams (frame_seen asked.now self.old.first link time octets.now) }
+            ≡ datagrams_after_frame self.old.following.datagrams (frame_content asked.now self.old.first link time octets.now) }
         // The count of damaged datagrams grows by 1 exactly if the frame has a followed datagram that is not a PDU.
         ensures damaged { self.new.following.damaged
-            ≡ damaged_seen asked.now.rule self.old.following.damaged octets.now
-            (frame_seen asked.now self.old.first link time octets.now) }
+            ≡ damaged_count_after_frame asked.now.rule self.old.following.damaged octets.now
+            (frame_content asked.now self.old.first link time octets.now) }
         // The count of datagrams with another safety code grows by 1 exactly if the frame has a followed one, as long
-        // as none has the right code (`miscoded_seen`).
+        // as none has the right code (`miscoded_count_after_frame`).
         ensures miscoded { self.new.following.miscoded
-            ≡ miscoded_seen asked.now.rule self.old.following.miscoded octets.now
-            (frame_seen asked.now self.old.first link time octets.now) }
+            ≡ miscoded_count_after_frame asked.now.rule self.old.following.miscoded octets.now
+            (frame_content asked.now self.old.first link time octets.now) }
         // If a connection is forgotten for the datagram, its sums are added to those of the forgotten ones.
         ensures gone { self.new.following.gone
-            ≡ gone_seen asked.now.rule self.old.following.gone self.old.following.connections octets.now
-            (frame_seen asked.now self.old.first link time octets.now) }
+            ≡ forgotten_totals_after_frame asked.now.rule self.old.following.gone self.old.following.connections octets.now
+            (frame_content asked.now self.old.first link time octets.now) }
         // If a connection is forgotten for the datagram, the count of forgotten ones grows by 1.
         ensures forgotten { self.new.following.forgotten
-            ≡ forgotten_seen asked.now.rule self.old.following.forgotten self.old.following.connections octets.now
-            (frame_seen asked.now self.old.first link time octets.now) }
-        // A frame without a followed datagram adds 1 to the count of its kind; any other changes none (`passed_within`).
-        ensures passed { self.new.passed ≡ passed_within self.old.passed (frame_seen asked.now self.old.first link time octets.now) }
-        // A datagram that is followed sets the time of the last one; no other frame changes it (`latest_seen`).
+            ≡ forgotten_count_after_frame asked.now.rule self.old.following.forgotten self.old.following.connections octets.now
+            (frame_content asked.now self.old.first link time octets.now) }
+        // A frame without a followed datagram adds 1 to the count of its kind; any other changes none (`count_frame_skip`).
+        ensures passed { self.new.passed ≡ count_frame_skip self.old.passed (frame_content asked.now self.old.first link time octets.now) }
+        // A datagram that is followed sets the time of the last one; no other frame changes it (`latest_time_after_frame`).
         ensures latest { self.new.latest
-            ≡ latest_seen self.old.latest (frame_seen asked.now self.old.first link time octets.now) }
+            ≡ latest_time_after_frame self.old.latest (frame_content asked.now self.old.first link time octets.now) }
         // A frame does not change when sums are due.
         ensures due { self.new.due ≡ self.old.due }
         // The result is the fault of a frame that is not read, and `None` for any other frame.
-        ensures fault { IfOk result (λ fault. fault ≡ fault_seen (frame_seen asked.now self.old.first link time octets.now)) }
+        ensures fault { IfOk result (λ fault. fault ≡ fault_of_frame (frame_content asked.now self.old.first link time octets.now)) }
         // On success the line and telegrams of a followed datagram are appended, as far as they are asked for; for
-        // any other frame, nothing is (`seen_text`).
+        // any other frame, nothing is (`content_text`).
         ensures written { OnOk result (Appends (W.contents writer.old) (W.contents writer.new)
-            (seen_text asked.now self.old.first self.old.following.connections (counted self.old.lines 1) octets.now
-            (frame_seen asked.now self.old.first link time octets.now))) }
+            (content_text asked.now self.old.first self.old.following.connections (limited_sum self.old.lines 1) octets.now
+            (frame_content asked.now self.old.first link time octets.now))) }
     {
         self.lines = self.lines.saturating_add(1);
         let seen = look(asked, self.first, link, time, octets);
         self.passed.count_frame(&seen);
         match seen {
-            Seen::Other(why) => {
+            FrameContent::Other(why) => {
                 self.first = first_with(self.first, why);
                 Ok(None)
             }
-            Seen::Unread(fault) => {
+            FrameContent::Unread(fault) => {
                 self.unreadable = self.unreadable.saturating_add(1);
                 Ok(Some(fault))
             }
-            Seen::Datagram(record, start, end) => {
+            FrameContent::Datagram(record, start, end) => {
                 self.take_datagram(asked, &record, &octets[start..end], writer)?;
                 Ok(None)
             }
@@ -161,28 +163,28 @@ impl CaptureReading {
         // The connections are those after this datagram, decoded with the rule that was `asked`.
         ensures connections { self.new.following.connections
             ≡ connections_after self.old.following.connections self.old.lines «record».now
-            (heard_of asked.now.rule payload.now) }
+            (datagram_of asked.now.rule payload.now) }
         // The datagram is counted.
-        ensures datagrams { self.new.following.datagrams ≡ counted self.old.following.datagrams 1 }
+        ensures datagrams { self.new.following.datagrams ≡ limited_sum self.old.following.datagrams 1 }
         // The datagram is counted as damaged exactly if it is not a PDU.
         ensures damaged { self.new.following.damaged
-            ≡ damaged_after self.old.following.damaged (heard_of asked.now.rule payload.now) }
+            ≡ damaged_count_after self.old.following.damaged (datagram_of asked.now.rule payload.now) }
         // The datagram is counted as one with another safety code, or shows that the code is right.
         ensures miscoded { self.new.following.miscoded
-            ≡ miscoded_after self.old.following.miscoded (heard_of asked.now.rule payload.now) }
+            ≡ miscoded_count_after self.old.following.miscoded (datagram_of asked.now.rule payload.now) }
         // The sums of a connection that is forgotten for the datagram are kept.
         ensures gone { self.new.following.gone
-            ≡ gone_after self.old.following.gone self.old.following.connections «record».now
-            (heard_of asked.now.rule payload.now) }
+            ≡ forgotten_totals_after self.old.following.gone self.old.following.connections «record».now
+            (datagram_of asked.now.rule payload.now) }
         // A connection that is forgotten for the datagram is counted.
         ensures forgotten { self.new.following.forgotten
-            ≡ forgotten_after self.old.following.forgotten self.old.following.connections «record».now
-            (heard_of asked.now.rule payload.now) }
+            ≡ forgotten_count_after self.old.following.forgotten self.old.following.connections «record».now
+            (datagram_of asked.now.rule payload.now) }
         // On success the line and the telegrams of the datagram are appended, as far as they are asked for.
         ensures written { OnOk result (Appends (W.contents writer.old) (W.contents writer.new)
-            (told_text asked.now (first_of self.old.first «record».now.time) self.old.lines «record».now
+            (chosen_text asked.now (first_of self.old.first «record».now.time) self.old.lines «record».now
             (remark_of self.old.following.connections self.old.lines «record».now
-            (heard_of asked.now.rule payload.now)) payload.now)) }
+            (datagram_of asked.now.rule payload.now)) payload.now)) }
     {
         let number = self.lines;
         let heard = hear(payload, &asked.rule);
@@ -201,16 +203,16 @@ fn look(
     link: Option<Link>,
     time: u64,
     octets: &[u8],
-) -> Seen
+) -> FrameContent
     requires { length octets.now < 2 ^ 32 }
     // An unknown link header is a fault. A datagram that is found is kept if one of its ports is chosen and its time
-    // is asked for, and is otherwise passed over (`frame_seen`).
-    ensures seen { result ≡ frame_seen asked.now first link time octets.now }
+    // is asked for, and is otherwise passed over (`frame_content`).
+    ensures seen { result ≡ frame_content asked.now first link time octets.now }
     // The places of a payload are within the frame.
     ensures within { IsWithin (length octets.now) result }
 {
     match link {
-        None => Seen::Unread(FrameFault::Link),
+        None => FrameContent::Unread(FrameFault::Link),
         Some(link) => match find_datagram(link, octets) {
             Ok(found) => choose(
                 asked,
@@ -231,50 +233,50 @@ fn choose(
     record: Record,
     start: usize,
     end: usize,
-) -> Seen
+) -> FrameContent
     requires { start ≤ end }
-    // A datagram is followed if one of its ports is chosen and its time is asked for (`seen_chosen`).
-    ensures seen { result ≡ seen_chosen asked.now first «record» start end }
+    // A datagram is followed if one of its ports is chosen and its time is asked for (`chosen_content`).
+    ensures seen { result ≡ chosen_content asked.now first «record» start end }
     // The places of a chosen payload are those that were found.
     ensures within { IsWithin end result }
 {
     match skip(asked, first, &record) {
-        None => Seen::Datagram(record, start, end),
-        Some(why) => Seen::Other(why),
+        None => FrameContent::Datagram(record, start, end),
+        Some(why) => FrameContent::Other(why),
     }
 }
 
 /// Returns why a datagram is passed over; `None` if it is followed.
-pub(crate) fn skip(asked: &FollowOptions, first: Option<u64>, record: &Record) -> Option<Skipped>
-    // A datagram without a chosen port is passed over, then one whose time is not asked for (`skipped_by`).
-    ensures { result ≡ skipped_by asked.now first «record».now }
+pub(crate) fn skip(asked: &FollowOptions, first: Option<u64>, record: &Record) -> Option<SkipReason>
+    // A datagram without a chosen port is passed over, then one whose time is not asked for (`skip_reason`).
+    ensures { result ≡ skip_reason asked.now first «record».now }
 {
     if !is_followed(&asked.ports, record) {
-        return Some(Skipped::Port);
+        return Some(SkipReason::Port);
     }
     let time = record.time;
     if is_between(&asked.span, start(first, time), time) {
         return None;
     }
-    Some(Skipped::Time(time))
+    Some(SkipReason::Time(time))
 }
 
 /// Returns the time of the first datagram after something that is passed over.
-pub(crate) fn first_with(first: Option<u64>, why: Skipped) -> Option<u64>
+pub(crate) fn first_with(first: Option<u64>, why: SkipReason) -> Option<u64>
     // A datagram whose time is not asked for can be the first one; anything else is not (`first_skipped`).
     ensures { result ≡ first_skipped first why }
 {
     match why {
-        Skipped::Time(time) => Some(start(first, time)),
-        Skipped::Port | Skipped::NoIp | Skipped::NoUdp | Skipped::Tunnel => first,
+        SkipReason::Time(time) => Some(start(first, time)),
+        SkipReason::Port | SkipReason::NoIp | SkipReason::NoUdp | SkipReason::Tunnel => first,
     }
 }
 
 /// Returns the record of a datagram that was found.
-fn record_of(time: u64, found: &Found) -> Record
+fn record_of(time: u64, found: &FoundDatagram) -> Record
     requires { found.now.start ≤ found.now.end }
     // The record has the `time` of the frame, both addresses, and the size of the payload.
-    ensures { result ≡ record_found time found.now }
+    ensures { result ≡ record_of_frame time found.now }
 {
     Record {
         time,
@@ -285,19 +287,19 @@ fn record_of(time: u64, found: &Found) -> Record
 }
 
 /// Returns what a frame without a readable datagram is.
-fn pass(why: Passed) -> Seen
-    // What is not UDP over IP is passed over; any other reason is a fault (`seen_passed`).
-    ensures seen { result ≡ seen_passed why }
+fn pass(why: NoDatagramCause) -> FrameContent
+    // What is not UDP over IP is passed over; any other reason is a fault (`content_without_datagram`).
+    ensures seen { result ≡ content_without_datagram why }
     // A frame that is passed over has no payload outside of it.
     ensures within { IsWithin 0 result }
 {
     match why {
-        Passed::NoIp => Seen::Other(Skipped::NoIp),
-        Passed::NoUdp => Seen::Other(Skipped::NoUdp),
-        Passed::Tunnel => Seen::Other(Skipped::Tunnel),
-        Passed::Truncated => Seen::Unread(FrameFault::Truncated),
-        Passed::Fragment => Seen::Unread(FrameFault::Fragment),
-        Passed::Length => Seen::Unread(FrameFault::Length),
+        NoDatagramCause::NoIp => FrameContent::Other(SkipReason::NoIp),
+        NoDatagramCause::NoUdp => FrameContent::Other(SkipReason::NoUdp),
+        NoDatagramCause::Tunnel => FrameContent::Other(SkipReason::Tunnel),
+        NoDatagramCause::Truncated => FrameContent::Unread(FrameFault::Truncated),
+        NoDatagramCause::Fragment => FrameContent::Unread(FrameFault::Fragment),
+        NoDatagramCause::Length => FrameContent::Unread(FrameFault::Length),
     }
 }
 

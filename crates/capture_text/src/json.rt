@@ -3,13 +3,13 @@
 ghost use Rattle.std.specs.Prelude.{◌≡◌, ◌<◌, OnOk, None, Some};
 ghost use Rattle.std.specs.Fmt.{decimal};
 ghost use Rattle.std.specs.Io.KnownBytes.{Appends};
-ghost use Rattle.capture.specs.Whole.{totals_of};
-ghost use Rattle.capture_text.specs.Json.{ages_json, all_json, both_json, came_json, channel_json, channels_json, coming_json, comma, connection_json, connections_json, counts_json, damaged_json, direction_json, directions_json, ends_json, greatest_json, high_json, kinds_json, known_channel_json, leaving_json, listed_channel_json, listed_json, losses_json, lost_json, low_json, more_json, name_json, near_json, numbers_json, opened_at_json, opened_json, opening_json, openings_json, others_json, parting_json, place_json, place_number_json, reasons_json, route_json, scale_json, sums_json, time_json, times_json, totals_in, up_json, whole_json, window_json};
+ghost use Rattle.capture.specs.WholeCapture.{totals_of};
+ghost use Rattle.capture_text.specs.Json.{ages_json, all_json, both_json, datagrams_json, channel_json, channels_json, up_time_json, comma, connection_json, connections_json, counts_json, damaged_count_json, direction_json, directions_json, ends_json, greatest_json, high_json, kinds_json, known_channel_json, leaving_json, next_channel_json, next_connection_json, losses_json, connection_losses_json, low_json, more_json, name_json, near_json, numbers_json, opening_time_json, opening_type_json, opening_json, openings_json, others_json, last_and_disconnect_json, place_json, place_number_json, reasons_json, route_json, scale_json, sums_json, time_json, times_json, totals_in, up_json, whole_json, window_json};
 
 use crate::advice_json::write_end;
-use crate::passed::write_passed_json;
 use crate::pieces::write_address;
 use crate::sentence::{longest, oldest, on_all, up};
+use crate::skips::write_passed_json;
 use crate::summary::{CaptureCounts, Scale, datagrams};
 use crate::table_json::write_sessions_json;
 use capture::{
@@ -17,7 +17,7 @@ use capture::{
     add_up_sessions, silence, sum_up,
 };
 use pdu_text::write_text;
-use safe_pdu::Leaving;
+use safe_pdu::{Identifier, Leaving};
 use std::io;
 use std::io::Write;
 
@@ -170,10 +170,10 @@ fn write_more<W: Write>(writer: &mut W, connections: &[Entry]) -> io::Result<()>
 }
 
 /// Writes a connection after a comma.
-#[tactic(auto, unfolding(crate::specs::Json::listed_json))]
+#[tactic(auto, unfolding(crate::specs::Json::next_connection_json))]
 fn write_listed<W: Write>(writer: &mut W, connection: &Connection) -> io::Result<()>
     // On success a comma and the object of this `connection` are appended.
-    ensures { OnOk result (Appends (W.contents writer.old) (W.contents writer.new) (listed_json connection.now)) }
+    ensures { OnOk result (Appends (W.contents writer.old) (W.contents writer.new) (next_connection_json connection.now)) }
 {
     write_text(writer, ",")?;
     write_connection(writer, connection)
@@ -239,7 +239,7 @@ fn write_name<W: Write>(writer: &mut W, connection: &Connection) -> io::Result<(
 fn write_coming<W: Write>(writer: &mut W, connection: &Connection) -> io::Result<()>
     // On success the time at which this `connection` came up is appended, or null (`up_of`).
     ensures { OnOk result (Appends (W.contents writer.old) (W.contents writer.new)
-        (coming_json connection.now)) }
+        (up_time_json connection.now)) }
 {
     write_up(writer, up(&connection.from_low, &connection.from_high))
 }
@@ -256,11 +256,11 @@ fn write_up<W: Write>(writer: &mut W, up: Option<u64>) -> io::Result<()>
 }
 
 /// Writes the losses of a connection.
-#[tactic(auto, unfolding(crate::specs::Json::lost_json))]
+#[tactic(auto, unfolding(crate::specs::Json::connection_losses_json))]
 fn write_lost<W: Write>(writer: &mut W, connection: &Connection) -> io::Result<()>
     // On success the time of the last PDU, the PDUs lost on every channel, and the datagrams lost on one channel
     // only are appended.
-    ensures { OnOk result (Appends (W.contents writer.old) (W.contents writer.new) (lost_json connection.now)) }
+    ensures { OnOk result (Appends (W.contents writer.old) (W.contents writer.new) (connection_losses_json connection.now)) }
 {
     let totals = add_up_sessions(&connection.sessions);
     write_losses(writer, connection.last, on_all(connection), totals.alone)
@@ -322,7 +322,7 @@ fn write_direction<W: Write>(
 
 /// Writes the sender and the receiver.
 #[tactic(auto, unfolding(crate::specs::Json::ends_json))]
-fn write_ends<W: Write>(writer: &mut W, sender: u32, receiver: u32) -> io::Result<()>
+fn write_ends<W: Write>(writer: &mut W, sender: Identifier, receiver: Identifier) -> io::Result<()>
     // On success the identifiers of `sender` and `receiver` are appended.
     ensures { OnOk result (Appends (W.contents writer.old) (W.contents writer.new) (ends_json sender receiver)) }
 {
@@ -347,10 +347,10 @@ fn write_openings<W: Write>(
 }
 
 /// Writes the type of the last opening.
-#[tactic(auto, unfolding(crate::specs::Json::opened_json))]
+#[tactic(auto, unfolding(crate::specs::Json::opening_type_json))]
 fn write_opened<W: Write>(writer: &mut W, opening: Option<SessionOpening>) -> io::Result<()>
     // On success the member with the type of `opening` is appended.
-    ensures { OnOk result (Appends (W.contents writer.old) (W.contents writer.new) (opened_json opening)) }
+    ensures { OnOk result (Appends (W.contents writer.old) (W.contents writer.new) (opening_type_json opening)) }
 {
     write_text(writer, ",\"opening\":")?;
     write_opening(writer, opening)?;
@@ -367,10 +367,10 @@ fn write_times<W: Write>(writer: &mut W, times: u64) -> io::Result<()>
 }
 
 /// Writes the time of the last opening.
-#[tactic(auto, unfolding(crate::specs::Json::opened_at_json))]
+#[tactic(auto, unfolding(crate::specs::Json::opening_time_json))]
 fn write_opened_at<W: Write>(writer: &mut W, time: u64) -> io::Result<()>
     // On success the `time` of the opening is appended, or null if it is 0.
-    ensures { OnOk result (Appends (W.contents writer.old) (W.contents writer.new) (opened_at_json time)) }
+    ensures { OnOk result (Appends (W.contents writer.old) (W.contents writer.new) (opening_time_json time)) }
 {
     write_text(writer, ",\"opened\":")?;
     write_time(writer, time)?;
@@ -451,10 +451,10 @@ fn write_ages<W: Write>(writer: &mut W, silence: u64, age: u32, waits: u32) -> i
 }
 
 /// Writes the time of the last PDU, and the disconnect.
-#[tactic(auto, unfolding(crate::specs::Json::parting_json))]
+#[tactic(auto, unfolding(crate::specs::Json::last_and_disconnect_json))]
 fn write_parting<W: Write>(writer: &mut W, tally: &Tally) -> io::Result<()>
     // On success the time of the last PDU, or null, and the disconnect, or null, are appended.
-    ensures { OnOk result (Appends (W.contents writer.old) (W.contents writer.new) (parting_json tally.now)) }
+    ensures { OnOk result (Appends (W.contents writer.old) (W.contents writer.new) (last_and_disconnect_json tally.now)) }
 {
     write_text(writer, ",\"last\":")?;
     write_time(writer, tally.last)?;
@@ -549,7 +549,7 @@ fn write_maybe_channel<W: Write>(
 }
 
 /// Writes a channel, after a comma if it is not the first.
-#[tactic(auto, unfolding(crate::specs::Json::listed_channel_json))]
+#[tactic(auto, unfolding(crate::specs::Json::next_channel_json))]
 fn write_listed_channel<W: Write>(
     writer: &mut W,
     place: usize,
@@ -560,7 +560,7 @@ fn write_listed_channel<W: Write>(
     requires { place < CHANNELS }
     // On success a comma, except at place 0, and the object of this channel are appended.
     ensures { OnOk result (Appends (W.contents writer.old) (W.contents writer.new)
-        (listed_channel_json place route window.now damaged)) }
+        (next_channel_json place route window.now damaged)) }
 {
     write_text(writer, comma_before(place))?;
     write_channel(writer, place, route, window, damaged)
@@ -641,19 +641,19 @@ fn write_high<W: Write>(writer: &mut W, address: Address) -> io::Result<()>
 }
 
 /// Writes how many datagrams came on a channel.
-#[tactic(auto, unfolding(crate::specs::Json::came_json))]
+#[tactic(auto, unfolding(crate::specs::Json::datagrams_json))]
 fn write_came<W: Write>(writer: &mut W, datagrams: u64) -> io::Result<()>
     // On success the number of `datagrams` is appended.
-    ensures { OnOk result (Appends (W.contents writer.old) (W.contents writer.new) (came_json datagrams)) }
+    ensures { OnOk result (Appends (W.contents writer.old) (W.contents writer.new) (datagrams_json datagrams)) }
 {
     write!(writer, ",\"datagrams\":{datagrams}")
 }
 
 /// Writes the damaged datagrams of a channel, and ends its object.
-#[tactic(auto, unfolding(crate::specs::Json::damaged_json))]
+#[tactic(auto, unfolding(crate::specs::Json::damaged_count_json))]
 fn write_damaged<W: Write>(writer: &mut W, damaged: u64) -> io::Result<()>
     // On success the number of `damaged` ones is appended, and the object is closed.
-    ensures { OnOk result (Appends (W.contents writer.old) (W.contents writer.new) (damaged_json damaged)) }
+    ensures { OnOk result (Appends (W.contents writer.old) (W.contents writer.new) (damaged_count_json damaged)) }
 {
     write!(writer, ",\"damaged\":{damaged}}}")
 }

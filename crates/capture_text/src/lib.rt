@@ -8,39 +8,39 @@
 
 mod advice;
 mod advice_json;
+mod capture_run;
 mod choice;
-mod choosing;
 mod course;
 mod dates;
 mod distributions;
 mod events;
 mod frames;
 mod json;
-mod passed;
+mod line_reader;
 mod pieces;
-mod reading;
 mod reasons;
 mod record;
 mod remarks;
-mod running;
 mod sentence;
+mod settings_rule;
+mod skips;
 mod summary;
 mod table;
 mod table_json;
 mod telegrams;
 
+pub use capture_run::{
+    FollowStatus, ForeignForm, Stop, foreign, is_whole, name_of_file_fault, name_of_foreign,
+    read_whole, run, status_after, stop_at_output,
+};
 pub use choice::{Remarkable, is_wanted};
 pub use course::{CaptureReading, FollowOptions, OutputForm, write_fault};
 pub use events::write_events;
 pub use frames::{FrameFault, write_frame_fault};
 pub use json::write_json;
-pub use passed::PassedOver;
 pub use pieces::{Clock, TimeForm, write_address, write_duration};
 pub use record::write_record;
 pub use remarks::write_remarks;
-pub use running::{
-    FollowStatus, ForeignForm, Stop, foreign, is_whole, name_of_file_fault, name_of_foreign,
-    read_whole, run, status_after, stop_at_output,
-};
+pub use skips::SkipCounts;
 pub use summary::{CaptureCounts, Scale, write_summary};
 pub use telegrams::write_telegrams;

@@ -2,10 +2,11 @@
 
 ghost use Rattle.std.specs.Prelude.{◌≡◌, ◌<◌, OnOk};
 ghost use Rattle.std.specs.Io.KnownBytes.{Appends};
-ghost use Rattle.capture_text.specs.Pieces.{address_text, channel_text, difference_text, duration_text, ends_text, moment_digits, moment_text, reached_text, since_text, six_digits, utc_text, v4_text, v6_text};
+ghost use Rattle.capture_text.specs.Pieces.{address_text, channel_text, difference_text, duration_text, ends_text, moment_digits, moment_text, t_max_remark, since_text, six_digits, utc_text, v4_text, v6_text};
 
 use crate::dates::{Date, date_of_day};
 use capture::{Address, Host};
+use safe_pdu::Identifier;
 use std::io;
 use std::io::Write;
 use std::net::Ipv6Addr;
@@ -179,7 +180,11 @@ fn write_v6<W: Write>(writer: &mut W, host: [u8; 16], port: u16) -> io::Result<(
 
 /// Writes which end sends to which.
 #[tactic(auto, unfolding(crate::specs::Pieces::ends_text))]
-pub(crate) fn write_ends<W: Write>(writer: &mut W, sender: u32, receiver: u32) -> io::Result<()>
+pub(crate) fn write_ends<W: Write>(
+    writer: &mut W,
+    sender: Identifier,
+    receiver: Identifier,
+) -> io::Result<()>
     // On success both identifiers are appended, with an arrow from `sender` to `receiver`.
     ensures { OnOk result (Appends (W.contents writer.old) (W.contents writer.new) (ends_text sender receiver)) }
 {
@@ -201,9 +206,9 @@ pub(crate) fn channel_name(route: usize) -> &'static str
 }
 
 /// Returns a remark if an age or a wait reached T_max; all in milliseconds.
-pub(crate) fn reached(t_max: u32, most: u32) -> &'static str
+pub(crate) fn remark_on_limit(t_max: u32, most: u32) -> &'static str
     // The word "reached" is returned if `most` is at least `t_max`, otherwise an empty text.
-    ensures { result.now ≡ reached_text t_max most }
+    ensures { result.now ≡ t_max_remark t_max most }
 {
     if t_max <= most { " reached" } else { "" }
 }

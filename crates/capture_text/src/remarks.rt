@@ -2,7 +2,7 @@
 
 ghost use Rattle.std.specs.Prelude.{◌≡◌, OnOk, codes};
 ghost use Rattle.std.specs.Io.KnownBytes.{Appends};
-ghost use Rattle.capture_text.specs.RemarkText.{again_text, age_text, asked_text, asks_text, damage_text, judged_text, leaving_text, maybe_text, opens_text, order_text, other_text, remarks_text, resent_text, wait_text, waits_text};
+ghost use Rattle.capture_text.specs.RemarkText.{again_text, age_text, requested_line_text, maybe_requested_line_text, damage_text, number_order_text, leaving_text, maybe_text, opening_word, order_text, other_text, remarks_text, resent_text, wait_text, long_wait_text};
 
 use crate::choice::is_half_of;
 use crate::reasons::write_reasons;
@@ -84,7 +84,7 @@ fn write_maybe<W: Write>(writer: &mut W, name: &str, judged: Option<NumberOrder>
 fn write_judged<W: Write>(writer: &mut W, name: &str, judged: NumberOrder) -> io::Result<()>
     // On success the `name` of the numbers and the judgement are appended, with the gap or the earlier line; for the
     // first and the next, nothing is.
-    ensures { OnOk result (Appends (W.contents writer.old) (W.contents writer.new) (judged_text name.now judged)) }
+    ensures { OnOk result (Appends (W.contents writer.old) (W.contents writer.new) (number_order_text name.now judged)) }
 {
     match judged {
         NumberOrder::First | NumberOrder::Next => Ok(()),
@@ -100,7 +100,7 @@ fn write_judged<W: Write>(writer: &mut W, name: &str, judged: NumberOrder) -> io
 /// Writes the word of an opening.
 fn write_opens<W: Write>(writer: &mut W, opens: bool) -> io::Result<()>
     // On success the word is appended exactly if the PDU `opens` a session.
-    ensures { OnOk result (Appends (W.contents writer.old) (W.contents writer.new) (opens_text opens)) }
+    ensures { OnOk result (Appends (W.contents writer.old) (W.contents writer.new) (opening_word opens)) }
 {
     if opens {
         return writer.write_all(b" opens");
@@ -133,7 +133,7 @@ fn write_damage<W: Write>(writer: &mut W, damaged: Option<u64>) -> io::Result<()
 /// Writes the line that a RetrReq asks for.
 fn write_asks<W: Write>(writer: &mut W, asks: Option<u64>) -> io::Result<()>
     // On success the words and the line are appended if it asks for a line.
-    ensures { OnOk result (Appends (W.contents writer.old) (W.contents writer.new) (asks_text asks)) }
+    ensures { OnOk result (Appends (W.contents writer.old) (W.contents writer.new) (maybe_requested_line_text asks)) }
 {
     match asks {
         Some(line) => write_asked(writer, line),
@@ -142,10 +142,10 @@ fn write_asks<W: Write>(writer: &mut W, asks: Option<u64>) -> io::Result<()>
 }
 
 /// Writes a line that a RetrReq asks for.
-#[tactic(auto, unfolding(crate::specs::RemarkText::asked_text))]
+#[tactic(auto, unfolding(crate::specs::RemarkText::requested_line_text))]
 fn write_asked<W: Write>(writer: &mut W, line: u64) -> io::Result<()>
     // On success the words and the number of the `line` are appended.
-    ensures { OnOk result (Appends (W.contents writer.old) (W.contents writer.new) (asked_text line)) }
+    ensures { OnOk result (Appends (W.contents writer.old) (W.contents writer.new) (requested_line_text line)) }
 {
     write!(writer, " asks for line {line}")
 }
@@ -164,7 +164,7 @@ fn write_age<W: Write>(writer: &mut W, age: Option<u32>) -> io::Result<()>
 /// Writes how long an end has waited, if that is remarkable.
 fn write_waits<W: Write>(writer: &mut W, t_max: u32, waits: Option<u32>) -> io::Result<()>
     // On success the wait is appended if there is one of at least half of `t_max`; otherwise nothing is.
-    ensures { OnOk result (Appends (W.contents writer.old) (W.contents writer.new) (waits_text t_max waits)) }
+    ensures { OnOk result (Appends (W.contents writer.old) (W.contents writer.new) (long_wait_text t_max waits)) }
 {
     match waits {
         Some(waits) if is_half_of(t_max, waits) => write_wait(writer, waits),

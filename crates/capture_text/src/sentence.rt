@@ -2,9 +2,9 @@
 
 ghost use Rattle.std.specs.Prelude.{◌≡◌, OnOk, None, Some};
 ghost use Rattle.std.specs.Io.KnownBytes.{Appends};
-ghost use Rattle.capture_text.specs.Sentence.{came_text, course_text, gone_text, has_answered, has_asked, is_answered, last_heard_text, longest_in, losses_text, lost_on_all, name_text, near_text, nearness_text, oldest_in, sentence_text, up_of};
+ghost use Rattle.capture_text.specs.Sentence.{session_counts_text, course_text, disconnect_counts_text, has_answered, has_asked, is_answered, last_pdu_text, longest_in, losses_text, losses_on_all, name_text, near_text, nearness_text, oldest_in, sentence_text, up_of};
 
-use crate::pieces::{Clock, reached, write_since};
+use crate::pieces::{Clock, remark_on_limit, write_since};
 use crate::summary::Scale;
 use crate::table::write_lost;
 use capture::{Connection, Direction, SessionOpening, SessionTotals, add_up_sessions};
@@ -48,10 +48,10 @@ fn write_course<W: Write>(writer: &mut W, connection: &Connection) -> io::Result
 }
 
 /// Writes how many sessions a connection had, how many came up, and how many nobody answered.
-#[tactic(auto, unfolding(crate::specs::Sentence::came_text))]
+#[tactic(auto, unfolding(crate::specs::Sentence::session_counts_text))]
 fn write_came<W: Write>(writer: &mut W, number: u64, totals: SessionTotals) -> io::Result<()>
     // On success the `number` and two of the `totals` are appended.
-    ensures { OnOk result (Appends (W.contents writer.old) (W.contents writer.new) (came_text number totals)) }
+    ensures { OnOk result (Appends (W.contents writer.old) (W.contents writer.new) (session_counts_text number totals)) }
 {
     let up = totals.up;
     let unanswered = totals.unanswered;
@@ -62,10 +62,10 @@ fn write_came<W: Write>(writer: &mut W, number: u64, totals: SessionTotals) -> i
 }
 
 /// Writes how many sessions an end left, and how many by a timeout.
-#[tactic(auto, unfolding(crate::specs::Sentence::gone_text))]
+#[tactic(auto, unfolding(crate::specs::Sentence::disconnect_counts_text))]
 fn write_gone<W: Write>(writer: &mut W, totals: SessionTotals) -> io::Result<()>
     // On success the other two of the `totals` are appended.
-    ensures { OnOk result (Appends (W.contents writer.old) (W.contents writer.new) (gone_text totals)) }
+    ensures { OnOk result (Appends (W.contents writer.old) (W.contents writer.new) (disconnect_counts_text totals)) }
 {
     let left = totals.left;
     let timeouts = totals.timeouts;
@@ -74,7 +74,7 @@ fn write_gone<W: Write>(writer: &mut W, totals: SessionTotals) -> io::Result<()>
 
 /// Writes both losses of a connection.
 fn write_losses<W: Write>(writer: &mut W, connection: &Connection) -> io::Result<()>
-    // On success the PDUs lost on every channel (`lost_on_all`) and the datagrams lost on one
+    // On success the PDUs lost on every channel (`losses_on_all`) and the datagrams lost on one
     // channel only are appended.
     ensures { OnOk result (Appends (W.contents writer.old) (W.contents writer.new)
         (losses_text connection.now)) }
@@ -148,10 +148,10 @@ fn responds(opening: Option<SessionOpening>) -> bool
 }
 
 /// Writes the time of the last PDU of a connection.
-#[tactic(auto, unfolding(crate::specs::Sentence::last_heard_text))]
+#[tactic(auto, unfolding(crate::specs::Sentence::last_pdu_text))]
 fn write_last_heard<W: Write>(writer: &mut W, clock: Clock, last: u64) -> io::Result<()>
     // On success the time of the `last` PDU by this `clock` is appended.
-    ensures { OnOk result (Appends (W.contents writer.old) (W.contents writer.new) (last_heard_text clock last)) }
+    ensures { OnOk result (Appends (W.contents writer.old) (W.contents writer.new) (last_pdu_text clock last)) }
 {
     write_text(writer, ", last PDU at ")?;
     write_since(writer, clock, last)?;
@@ -160,8 +160,8 @@ fn write_last_heard<W: Write>(writer: &mut W, clock: Clock, last: u64) -> io::Re
 
 /// Returns how many numbers were lost on all channels.
 pub(crate) fn on_all(connection: &Connection) -> u64
-    // The result is the sum of missing numbers in the windows over all channels of both directions (`lost_on_all`).
-    ensures { result ≡ lost_on_all connection.now }
+    // The result is the sum of missing numbers in the windows over all channels of both directions (`losses_on_all`).
+    ensures { result ≡ losses_on_all connection.now }
 {
     let low = connection.from_low.together.missing;
     low.saturating_add(connection.from_high.together.missing)
@@ -191,6 +191,6 @@ fn write_near<W: Write>(writer: &mut W, t_max: u32, longest: u32) -> io::Result<
     // On success the wait, T_max, the word "reached" if the wait is at least `t_max`, and a line feed are appended.
     ensures { OnOk result (Appends (W.contents writer.old) (W.contents writer.new) (near_text t_max longest)) }
 {
-    let reached = reached(t_max, longest);
+    let reached = remark_on_limit(t_max, longest);
     writeln!(writer, ", waits {longest} of {t_max}{reached}")
 }

@@ -2,15 +2,16 @@
 
 ghost use Rattle.std.specs.Prelude.{◌≡◌, ◌<◌, OnOk};
 ghost use Rattle.std.specs.Io.KnownBytes.{Appends};
-ghost use Rattle.capture.specs.Whole.{totals_of};
-ghost use Rattle.capture_text.specs.SummaryText.{all_text, came_text, connection_text, connections_text, counts_text, damaged_text, date_text, datagrams_of, datagrams_text, direction_text, ending_text, first_lines, half_text, kinds_text, known_channel_text, last_text, longest_text, maybe_channel_text, numbers_text, oldest_text, opening_text, other_totals_text, others_text, place_text, places_text, route_text, silence_text, sum_text, summary_text, tally_text, totals_text};
+ghost use Rattle.capture.specs.WholeCapture.{totals_of};
+ghost use Rattle.capture_text.specs.SummaryText.{all_text, datagram_count_text, connection_text, connections_text, counts_text, damaged_count_text, date_text, datagrams_of, datagrams_text, direction_text, disconnect_text, first_lines, half_text, kinds_text, known_channel_text, last_text, longest_text, maybe_channel_text, numbers_text, oldest_text, opening_text, other_totals_text, others_text, place_text, places_text, route_text, silence_text, sum_text, summary_text, tally_text, totals_text};
 
-use crate::passed::{PassedOver, write_passed};
 use crate::pieces::{
-    Clock, channel_name, reached, write_address, write_duration, write_ends, write_since, write_utc,
+    Clock, channel_name, remark_on_limit, write_address, write_duration, write_ends, write_since,
+    write_utc,
 };
 use crate::reasons::write_reasons;
 use crate::sentence::write_sentence;
+use crate::skips::{SkipCounts, write_passed};
 use crate::table::write_sessions;
 use capture::{
     CHANNELS, Connection, Direction, Entry, Route, SessionOpening, Tally, Totals, Window, silence,
@@ -44,7 +45,7 @@ pub struct CaptureCounts {
     /// Lines or frames that were read.
     pub frames: u64,
     /// Lines or frames that were passed over, by kind.
-    pub passed: PassedOver,
+    pub passed: SkipCounts,
 }
 
 /// Writes the sums: the date of the first datagram; for each connection a line for each direction, with one for each of
@@ -285,7 +286,7 @@ fn write_oldest<W: Write>(writer: &mut W, t_max: u32, oldest: u32) -> io::Result
     // On success the age, `t_max`, and the word "reached" if the age is at least that are appended.
     ensures { OnOk result (Appends (W.contents writer.old) (W.contents writer.new) (oldest_text t_max oldest)) }
 {
-    let reached = reached(t_max, oldest);
+    let reached = remark_on_limit(t_max, oldest);
     write!(writer, " age {oldest} of {t_max}{reached}")
 }
 
@@ -295,7 +296,7 @@ fn write_longest<W: Write>(writer: &mut W, t_max: u32, longest: u32) -> io::Resu
     // On success the wait, `t_max`, and the word "reached" if the wait is at least that are appended.
     ensures { OnOk result (Appends (W.contents writer.old) (W.contents writer.new) (longest_text t_max longest)) }
 {
-    let reached = reached(t_max, longest);
+    let reached = remark_on_limit(t_max, longest);
     write!(writer, " waits {longest} of {t_max}{reached}")
 }
 
@@ -314,7 +315,7 @@ fn write_last<W: Write>(writer: &mut W, clock: Clock, last: u64) -> io::Result<(
 /// Writes the disconnect of a direction.
 fn write_ending<W: Write>(writer: &mut W, leaving: Option<Leaving>) -> io::Result<()>
     // On success the reason of the last DiscReq is appended, or that there was none.
-    ensures { OnOk result (Appends (W.contents writer.old) (W.contents writer.new) (ending_text leaving)) }
+    ensures { OnOk result (Appends (W.contents writer.old) (W.contents writer.new) (disconnect_text leaving)) }
 {
     match leaving {
         None => write_text(writer, " no DiscReq"),
@@ -390,10 +391,10 @@ fn write_channel<W: Write>(
 }
 
 /// Writes how many datagrams on a channel were not a PDU, and ends the line.
-#[tactic(auto, unfolding(crate::specs::SummaryText::damaged_text))]
+#[tactic(auto, unfolding(crate::specs::SummaryText::damaged_count_text))]
 fn write_damaged<W: Write>(writer: &mut W, damaged: u64) -> io::Result<()>
     // On success the number of `damaged` datagrams and a line feed are appended.
-    ensures { OnOk result (Appends (W.contents writer.old) (W.contents writer.new) (damaged_text damaged)) }
+    ensures { OnOk result (Appends (W.contents writer.old) (W.contents writer.new) (damaged_count_text damaged)) }
 {
     writeln!(writer, " damaged {damaged}")
 }
@@ -461,10 +462,10 @@ fn write_all<W: Write>(writer: &mut W, totals: Totals, counts: CaptureCounts) ->
 }
 
 /// Writes how many datagrams came.
-#[tactic(auto, unfolding(crate::specs::SummaryText::came_text))]
+#[tactic(auto, unfolding(crate::specs::SummaryText::datagram_count_text))]
 fn write_came<W: Write>(writer: &mut W, datagrams: u64) -> io::Result<()>
     // On success the number of all `datagrams` of the capture is appended.
-    ensures { OnOk result (Appends (W.contents writer.old) (W.contents writer.new) (came_text datagrams)) }
+    ensures { OnOk result (Appends (W.contents writer.old) (W.contents writer.new) (datagram_count_text datagrams)) }
 {
     write!(writer, "sum all datagrams {datagrams}")
 }

@@ -2,11 +2,13 @@
 
 ghost use Rattle.std.specs.Prelude.{◌≡◌, OnOk, None, Some};
 ghost use Rattle.std.specs.Io.KnownBytes.{Appends};
-ghost use Rattle.capture_text.specs.TableText.{again_text, asked_text, asker_of, asking_text, beginning_text, came_up_text, down_text, ended_text, happened_text, is_kept, kept_text, leaving_text, left_text, lost_text, number_text, outcome_text, own_text, repeats_in, resent_in, session_text, sessions_text, slot_text, slots_text, waited_text};
+ghost use Rattle.capture_text.specs.TableText.{again_text, maybe_request_text, asker_of, request_text, start_text, up_text, down_text, end_text, session_events_text, is_kept, no_disconnect_text, disconnect_text, maybe_disconnect_text, session_losses_text, number_text, outcome_text, own_text, repeats_in, resent_in, session_text, sessions_text, slot_text, slots_text, waits_text};
 
 use crate::pieces::{Clock, write_since};
 use crate::reasons::write_reasons;
-use capture::{Asking, Parting, Session, Sessions, is_unanswered, lost_alone, lost_everywhere};
+use capture::{
+    Disconnection, Session, SessionRequest, Sessions, is_unanswered, lost_alone, lost_everywhere,
+};
 use pdu_text::write_text;
 use std::io;
 use std::io::Write;
@@ -84,7 +86,7 @@ fn write_session<W: Write>(
 }
 
 /// Writes how a session began.
-#[tactic(auto, unfolding(crate::specs::TableText::beginning_text))]
+#[tactic(auto, unfolding(crate::specs::TableText::start_text))]
 fn write_beginning<W: Write>(
     writer: &mut W,
     clock: Clock,
@@ -93,7 +95,7 @@ fn write_beginning<W: Write>(
 ) -> io::Result<()>
     // On success its number, its ConnReq and its ConnResp are appended, or that they were not recorded.
     ensures { OnOk result (Appends (W.contents writer.old) (W.contents writer.new)
-        (beginning_text clock ends.0 ends.1 session.now)) }
+        (start_text clock ends.0 ends.1 session.now)) }
 {
     let unanswered = is_unanswered(session);
     write_number(writer, session.number, ends)?;
@@ -118,11 +120,11 @@ fn write_asked<W: Write>(
     writer: &mut W,
     clock: Clock,
     ends: (u32, u32),
-    asked: Option<Asking>,
+    asked: Option<SessionRequest>,
 ) -> io::Result<()>
     // On success the end that `asked` and the time are appended, or that the ConnReq was not recorded.
     ensures { OnOk result (Appends (W.contents writer.old) (W.contents writer.new)
-        (asked_text clock ends.0 ends.1 asked)) }
+        (maybe_request_text clock ends.0 ends.1 asked)) }
 {
     match asked {
         None => write_text(writer, ", its ConnReq was not recorded"),
@@ -131,7 +133,7 @@ fn write_asked<W: Write>(
 }
 
 /// Returns the end that asked for a session.
-pub(crate) fn asker(ends: (u32, u32), asking: &Asking) -> u32
+pub(crate) fn asker(ends: (u32, u32), asking: &SessionRequest) -> u32
     // The result is the lower identifier if that end sent the ConnReq, otherwise the higher one.
     ensures { result ≡ asker_of ends.0 ends.1 asking.now }
 {
@@ -139,11 +141,11 @@ pub(crate) fn asker(ends: (u32, u32), asking: &Asking) -> u32
 }
 
 /// Writes which end asked for a session, and when.
-#[tactic(auto, unfolding(crate::specs::TableText::asking_text))]
+#[tactic(auto, unfolding(crate::specs::TableText::request_text))]
 fn write_asking<W: Write>(writer: &mut W, clock: Clock, end: u32, time: u64) -> io::Result<()>
     // On success the identifier of `end` and the time since `clock` are appended.
     ensures { OnOk result (Appends (W.contents writer.old) (W.contents writer.new)
-        (asking_text clock end time)) }
+        (request_text clock end time)) }
 {
     write!(writer, ", {end} asked at ")?;
     write_since(writer, clock, time)
@@ -179,17 +181,17 @@ fn name_down(unanswered: bool) -> &'static str
 }
 
 /// Writes when a session came up.
-#[tactic(auto, unfolding(crate::specs::TableText::came_up_text))]
+#[tactic(auto, unfolding(crate::specs::TableText::up_text))]
 fn write_came_up<W: Write>(writer: &mut W, clock: Clock, time: u64) -> io::Result<()>
     // On success the words "came up at" and the time since `clock` are appended.
-    ensures { OnOk result (Appends (W.contents writer.old) (W.contents writer.new) (came_up_text clock time)) }
+    ensures { OnOk result (Appends (W.contents writer.old) (W.contents writer.new) (up_text clock time)) }
 {
     write!(writer, ", came up at ")?;
     write_since(writer, clock, time)
 }
 
 /// Writes how a session ended.
-#[tactic(auto, unfolding(crate::specs::TableText::ended_text))]
+#[tactic(auto, unfolding(crate::specs::TableText::end_text))]
 fn write_ended<W: Write>(
     writer: &mut W,
     clock: Clock,
@@ -198,7 +200,7 @@ fn write_ended<W: Write>(
 ) -> io::Result<()>
     // On success the DiscReq of the lower end and that of the other end are appended, or that nobody left.
     ensures { OnOk result (Appends (W.contents writer.old) (W.contents writer.new)
-        (ended_text clock ends.0 ends.1 session.now)) }
+        (end_text clock ends.0 ends.1 session.now)) }
 {
     let (low, high) = ends;
     write_left(writer, clock, low, session.low.left)?;
@@ -218,7 +220,7 @@ fn keeps(session: &Session) -> bool
 /// Returns the words for a session that nobody left.
 fn name_kept(kept: bool) -> &'static str
     // The words are empty if an end left.
-    ensures { result.now ≡ kept_text kept }
+    ensures { result.now ≡ no_disconnect_text kept }
 {
     if kept { ", nobody left" } else { "" }
 }
@@ -228,10 +230,10 @@ fn write_left<W: Write>(
     writer: &mut W,
     clock: Clock,
     end: u32,
-    left: Option<Parting>,
+    left: Option<Disconnection>,
 ) -> io::Result<()>
     // On success the DiscReq is appended if the end `left`; otherwise nothing is.
-    ensures { OnOk result (Appends (W.contents writer.old) (W.contents writer.new) (left_text clock end left)) }
+    ensures { OnOk result (Appends (W.contents writer.old) (W.contents writer.new) (maybe_disconnect_text clock end left)) }
 {
     match left {
         None => Ok(()),
@@ -240,17 +242,17 @@ fn write_left<W: Write>(
 }
 
 /// Writes the DiscReq of an end.
-#[tactic(auto, unfolding(crate::specs::TableText::leaving_text))]
+#[tactic(auto, unfolding(crate::specs::TableText::disconnect_text))]
 fn write_leaving<W: Write>(
     writer: &mut W,
     clock: Clock,
     end: u32,
-    parting: Parting,
+    parting: Disconnection,
 ) -> io::Result<()>
     // On success the identifier of `end`, the time since `clock`, whether the other end had left before, and the
     // reason are appended.
     ensures { OnOk result (Appends (W.contents writer.old) (W.contents writer.new)
-        (leaving_text clock end parting)) }
+        (disconnect_text clock end parting)) }
 {
     write!(writer, ", {end} left at ")?;
     write_since(writer, clock, parting.time)?;
@@ -271,14 +273,14 @@ fn name_own(follows: bool) -> &'static str
 }
 
 /// Writes what happened in a session, and ends its line.
-#[tactic(auto, unfolding(crate::specs::TableText::happened_text))]
+#[tactic(auto, unfolding(crate::specs::TableText::session_events_text))]
 fn write_happened<W: Write>(writer: &mut W, ends: (u32, u32), session: &Session) -> io::Result<()>
     // On success the longest waits, both losses, what was sent again and the repeats are appended.
     ensures { OnOk result (Appends (W.contents writer.old) (W.contents writer.new)
-        (happened_text ends.0 ends.1 session.now)) }
+        (session_events_text ends.0 ends.1 session.now)) }
 {
-    let resent = resent(session);
-    let repeats = repeats(session);
+    let resent = resent_count(session);
+    let repeats = repeat_count(session);
     write_waited(writer, ends, session.low.longest, session.high.longest)?;
     write_lost(writer, lost_everywhere(session), lost_alone(session))?;
     write_again(writer, resent, repeats)?;
@@ -286,21 +288,21 @@ fn write_happened<W: Write>(writer: &mut W, ends: (u32, u32), session: &Session)
 }
 
 /// Writes the longest wait of each end.
-#[tactic(auto, unfolding(crate::specs::TableText::waited_text))]
+#[tactic(auto, unfolding(crate::specs::TableText::waits_text))]
 fn write_waited<W: Write>(writer: &mut W, ends: (u32, u32), one: u32, other: u32) -> io::Result<()>
     // On success each identifier is appended with its wait in milliseconds.
     ensures { OnOk result (Appends (W.contents writer.old) (W.contents writer.new)
-        (waited_text ends.0 ends.1 one other)) }
+        (waits_text ends.0 ends.1 one other)) }
 {
     let (low, high) = ends;
     write!(writer, ", {low} waited {one} ms, {high} waited {other} ms")
 }
 
 /// Writes how many PDUs were lost on every channel, and how many datagrams on one channel whose PDU came on another.
-#[tactic(auto, unfolding(crate::specs::TableText::lost_text))]
+#[tactic(auto, unfolding(crate::specs::TableText::session_losses_text))]
 pub(crate) fn write_lost<W: Write>(writer: &mut W, everywhere: u64, alone: u64) -> io::Result<()>
     // On success both losses are appended, each after the words that say what it counts.
-    ensures { OnOk result (Appends (W.contents writer.old) (W.contents writer.new) (lost_text everywhere alone)) }
+    ensures { OnOk result (Appends (W.contents writer.old) (W.contents writer.new) (session_losses_text everywhere alone)) }
 {
     write!(
         writer,
@@ -309,7 +311,7 @@ pub(crate) fn write_lost<W: Write>(writer: &mut W, everywhere: u64, alone: u64) 
 }
 
 /// Returns how many units both ends sent again.
-fn resent(session: &Session) -> u64
+fn resent_count(session: &Session) -> u64
     // The counts of both sides are added.
     ensures { result ≡ resent_in session.now }
 {
@@ -317,7 +319,7 @@ fn resent(session: &Session) -> u64
 }
 
 /// Returns how many PDUs of both ends came twice on one channel.
-fn repeats(session: &Session) -> u64
+fn repeat_count(session: &Session) -> u64
     // The repeats of both sides are added.
     ensures { result ≡ repeats_in session.now }
 {

@@ -2,11 +2,12 @@
 
 ghost use Rattle.std.specs.Prelude.{◌≡◌, OnOk, None, Some};
 ghost use Rattle.std.specs.Io.KnownBytes.{Appends};
-ghost use Rattle.capture_text.specs.TableJson.{again_json, asked_json, asking_json, beginning_json, came_json, gone_json, left_json, losses_json, maybe_time_json, number_json, outcome_json, parting_json, session_json, sessions_json, side_json, sides_json, slot_json, slots_json, table_json, truth_json};
+ghost use Rattle.capture_text.specs.TableJson.{again_json, maybe_request_json, request_json, start_json, session_counts_json, disconnect_counts_json, maybe_disconnect_json, losses_json, maybe_time_json, number_json, outcome_json, disconnect_json, session_json, sessions_json, side_json, sides_json, slot_json, slots_json, table_json, truth_json};
 
 use crate::table::asker;
 use capture::{
-    Asking, Parting, Session, SessionTotals, Sessions, Side, add_up_sessions, alone, is_unanswered,
+    Disconnection, Session, SessionRequest, SessionTotals, Sessions, Side, add_up_sessions, alone,
+    is_unanswered,
 };
 use pdu_text::write_text;
 use std::io;
@@ -31,10 +32,10 @@ pub(crate) fn write_sessions_json<W: Write>(
 }
 
 /// Writes how many sessions there were, how many came up, and how many nobody answered.
-#[tactic(auto, unfolding(crate::specs::TableJson::came_json))]
+#[tactic(auto, unfolding(crate::specs::TableJson::session_counts_json))]
 fn write_came<W: Write>(writer: &mut W, number: u64, totals: SessionTotals) -> io::Result<()>
     // On success the number of sessions and two of the `totals` are appended.
-    ensures { OnOk result (Appends (W.contents writer.old) (W.contents writer.new) (came_json number totals)) }
+    ensures { OnOk result (Appends (W.contents writer.old) (W.contents writer.new) (session_counts_json number totals)) }
 {
     let up = totals.up;
     let unanswered = totals.unanswered;
@@ -45,10 +46,10 @@ fn write_came<W: Write>(writer: &mut W, number: u64, totals: SessionTotals) -> i
 }
 
 /// Writes how many sessions an end left, how many by a timeout, and the start of the table.
-#[tactic(auto, unfolding(crate::specs::TableJson::gone_json))]
+#[tactic(auto, unfolding(crate::specs::TableJson::disconnect_counts_json))]
 fn write_gone<W: Write>(writer: &mut W, totals: SessionTotals) -> io::Result<()>
     // On success the other two of the `totals` are appended, and the list is opened.
-    ensures { OnOk result (Appends (W.contents writer.old) (W.contents writer.new) (gone_json totals)) }
+    ensures { OnOk result (Appends (W.contents writer.old) (W.contents writer.new) (disconnect_counts_json totals)) }
 {
     let left = totals.left;
     let timeouts = totals.timeouts;
@@ -118,11 +119,11 @@ fn write_session<W: Write>(writer: &mut W, ends: (u32, u32), session: &Session) 
 }
 
 /// Writes how a session began.
-#[tactic(auto, unfolding(crate::specs::TableJson::beginning_json))]
+#[tactic(auto, unfolding(crate::specs::TableJson::start_json))]
 fn write_beginning<W: Write>(writer: &mut W, ends: (u32, u32), session: &Session) -> io::Result<()>
     // On success its number, its ConnReq, and its outcome are appended.
     ensures { OnOk result (Appends (W.contents writer.old) (W.contents writer.new)
-        (beginning_json ends.0 ends.1 session.now)) }
+        (start_json ends.0 ends.1 session.now)) }
 {
     let unanswered = is_unanswered(session);
     write_number(writer, session.number)?;
@@ -141,10 +142,14 @@ fn write_number<W: Write>(writer: &mut W, number: u64) -> io::Result<()>
 }
 
 /// Writes the ConnReq of a session.
-fn write_asked<W: Write>(writer: &mut W, ends: (u32, u32), asked: Option<Asking>) -> io::Result<()>
+fn write_asked<W: Write>(
+    writer: &mut W,
+    ends: (u32, u32),
+    asked: Option<SessionRequest>,
+) -> io::Result<()>
     // On success its time and its end are appended; both are null if it was not recorded.
     ensures { OnOk result (Appends (W.contents writer.old) (W.contents writer.new)
-        (asked_json ends.0 ends.1 asked)) }
+        (maybe_request_json ends.0 ends.1 asked)) }
 {
     match asked {
         None => write_text(writer, ",\"asked\":null,\"asked_by\":null"),
@@ -153,10 +158,10 @@ fn write_asked<W: Write>(writer: &mut W, ends: (u32, u32), asked: Option<Asking>
 }
 
 /// Writes the time and the end of a ConnReq.
-#[tactic(auto, unfolding(crate::specs::TableJson::asking_json))]
+#[tactic(auto, unfolding(crate::specs::TableJson::request_json))]
 fn write_asking<W: Write>(writer: &mut W, end: u32, time: u64) -> io::Result<()>
     // On success both members are appended, with this `time` and this `end`.
-    ensures { OnOk result (Appends (W.contents writer.old) (W.contents writer.new) (asking_json end time)) }
+    ensures { OnOk result (Appends (W.contents writer.old) (W.contents writer.new) (request_json end time)) }
 {
     write!(writer, ",\"asked\":{time},\"asked_by\":{end}")
 }
@@ -223,9 +228,9 @@ fn write_side<W: Write>(writer: &mut W, side: &Side) -> io::Result<()>
 }
 
 /// Writes the DiscReq of an end, or null.
-fn write_left<W: Write>(writer: &mut W, left: Option<Parting>) -> io::Result<()>
+fn write_left<W: Write>(writer: &mut W, left: Option<Disconnection>) -> io::Result<()>
     // On success the object of the DiscReq is appended if the end `left`, otherwise null.
-    ensures { OnOk result (Appends (W.contents writer.old) (W.contents writer.new) (left_json left)) }
+    ensures { OnOk result (Appends (W.contents writer.old) (W.contents writer.new) (maybe_disconnect_json left)) }
 {
     match left {
         None => write_text(writer, "null"),
@@ -234,10 +239,10 @@ fn write_left<W: Write>(writer: &mut W, left: Option<Parting>) -> io::Result<()>
 }
 
 /// Writes the object of a DiscReq.
-#[tactic(auto, unfolding(crate::specs::TableJson::parting_json))]
-fn write_parting<W: Write>(writer: &mut W, parting: Parting) -> io::Result<()>
+#[tactic(auto, unfolding(crate::specs::TableJson::disconnect_json))]
+fn write_parting<W: Write>(writer: &mut W, parting: Disconnection) -> io::Result<()>
     // On success its time, reason and detail are appended, and whether the other end had left before.
-    ensures { OnOk result (Appends (W.contents writer.old) (W.contents writer.new) (parting_json parting)) }
+    ensures { OnOk result (Appends (W.contents writer.old) (W.contents writer.new) (disconnect_json parting)) }
 {
     let time = parting.time;
     let reason = parting.leaving.reason;

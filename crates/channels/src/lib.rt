@@ -5,7 +5,7 @@
 #![tactic(auto)]
 
 ghost use Rattle.std.specs.Prelude.{◌≡◌, ◌≤◌, length, is_ok, IfOk, IfSome};
-ghost use Rattle.channels.specs.Told.{ChannelHistory, Sends, after_receive};
+ghost use Rattle.channels.specs.ChannelHistory.{ChannelHistory, Sends, after_receive};
 
 mod memory;
 mod note;

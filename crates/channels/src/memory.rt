@@ -4,7 +4,7 @@
 ghost use Rattle.std.specs.Prelude.{◌≡◌, ◌≤◌, length, option_map, is_ok, if◌then◌else◌, nat_lt, IfErr, IfOk, IfSome, slice_get};
 ghost use Rattle.channels.specs.declared.ChannelFault.TheVariants.{Room};
 ghost use Rattle.octets.specs.declared.limits.TheConstants.{RED_PDU_MAX};
-ghost use Rattle.channels.specs.Told.{Sends, after_receive};
+ghost use Rattle.channels.specs.ChannelHistory.{Sends, after_receive};
 ghost use Rattle.channels.specs.Memory.{told_of, new_kept, with_more_room, with_waiting, goes_out, with_sending, with_reception};
 
 use crate::{ChannelFault, Channels};
@@ -63,9 +63,9 @@ pub struct MemChannels<A: Allocator = Global> {
 
 impl<A: Allocator> Model for MemChannels<A> {
     ghost use Rattle.std.specs.Prelude.{◌+◌, ◌≤◌, map, option_map, vec_len, vec_capacity};
-    ghost use Rattle.channels.specs.Memory.{Kept};
+    ghost use Rattle.channels.specs.Memory.{MemoryValue};
 
-    ghost Value = { Kept };
+    ghost Value = { MemoryValue };
 
     ghost view = { λ m. record {
       sent = map (λ s. (s.0, s.1.items)) m.sent.items;

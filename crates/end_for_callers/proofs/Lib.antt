@@ -1,8 +1,8 @@
 pub mod Pieces
-pub mod Posting
+pub mod Deliveries
 pub mod Rows
-pub mod Sharing
+pub mod Shares
 pub mod Effects
-pub mod Keeping
+pub mod StationBounds
 pub mod Loads
 pub mod Sizes

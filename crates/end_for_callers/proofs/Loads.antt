@@ -23,8 +23,8 @@ use Rattle.safe_machine.specs.Connections.{in_turn, is_closed}
 use Rattle.safe_machine.specs.Deadlines.{beat_due, overdue}
 use Rattle.safe_machine.specs.Decision.{distance}
 use Rattle.safe_machine.specs.Made.{Made}
-use Rattle.safe_machine.specs.Octets.{move_of, octets_turn as machine_hears, octets_units, decoded_answer}
-use Rattle.safe_machine.specs.Turned.{turn as machine_turn_of}
+use Rattle.safe_machine.specs.Octets.{move_of, octets_turn as machine_octets_turn, octets_units, decoded_answer}
+use Rattle.safe_machine.specs.TurnLaws.{turn as machine_turn_of}
 use Rattle.safe_machine.specs.Turns.{Turn as MachineTurn, answer_ahead_turn, answer_early_turn, answer_next_turn, request_turn, heartbeat_turn, goes_on, guard_turn, has_room, leave_turn, move_past}
 use Rattle.safe_machine.specs.Turns.{both_confirmed, reply_turn, mark_answered, resend_turn, response_turn, sending_turn, send_turn, send_unit_turn, still, tick_turn, units_confirmed, acceptance_turn}
 use Rattle.safe_machine.specs.Turns.{connection_turn, moved_to, rejection_turn, resume, take_next_turn}
@@ -40,23 +40,23 @@ use Rattle.red_layer.specs.Redundancy.{Datagram, Input, Receiver, ReceiverStep, 
 use Rattle.red_layer.specs.Redundancy.{step_decoded as red_heard, is_due, judge, least_waiting, parts_passed, parts_due, run_from}
 use Rattle.red_layer.specs.declared.pdu.RedFault.{RedFault}
 use Rattle.red_layer.specs.pdu.RedText.{red_text}
-use Rattle.channels.specs.Told.{Sending}
+use Rattle.channels.specs.ChannelHistory.{SentDatagram}
 use Rattle.stack_end.specs.Bounds.{IsBounded}
 use Rattle.stack_end.specs.Datagrams.{on_channels}
 use Rattle.stack_end.specs.Departures.{own_departure}
 use Rattle.stack_end.specs.Dialogue.{Dialogue, Leaving, process_event}
 use Rattle.stack_end.specs.Ends.Call.{Close, Deliver, InitDone, Put, Tick}
-use Rattle.stack_end.specs.Turns.{accepts as accepts_in, Fields, Inside, Turn, above as above_red, arrives as end_arrives, can_pack, closes, closing}
-use Rattle.stack_end.specs.Turns.{completes, counts, datagrams, departs, dialogue_of, followed, goes_on as end_goes_on, goes_up, is_over, judged_at}
-use Rattle.stack_end.specs.Turns.{leaves as end_leaves, machine_turn, next_number, notes, packs, packs_up_to, part, parts, passes, puts, receives}
-use Rattle.stack_end.specs.Turns.{sends as end_sends, session_turn, settles, still as end_still, waited, with_units}
+use Rattle.stack_end.specs.Turns.{count_accepted as accepts_in, Fields, Inside, Turn, upper_turn as above_red, arrival_turn as end_arrival_turn, can_pack, close_turn, closing_departure}
+use Rattle.stack_end.specs.Turns.{init_done_turn, count_turn, datagrams, departure_turn, dialogue_of, turn_then, input_and_send_turn as end_goes_on, up_turn, is_over, judge_part}
+use Rattle.stack_end.specs.Turns.{leave_turn as end_leave_turn, machine_turn, next_number, note_request_turn, pack_turn, pack_up_to_turn, part_turn, parts_turn, time_turn, put_turn, input_turn}
+use Rattle.stack_end.specs.Turns.{send_turn as end_send_turn, session_turn, end_session_turn, still as end_still, waiting_time, with_units}
 use Rattle.stack_end.specs.declared.departure.Departure.{Departure}
 use Rattle.end_for_callers.proofs.Effects.{read-body, responds-has}
 use Rattle.end_for_callers.specs.Loads.{LoadLaw, sent_on}
 
 -- datagrams of lists of PDUs
-pub on-append : (k : ℕ) (xs ys : List Sending) → sent_on k (xs ++ ys) ≡ sent_on k xs + sent_on k ys
-on-append k xs ys = sum_by-append (λ (x : Sending). if x.0 == k then 1 else 0) xs ys
+pub on-append : (k : ℕ) (xs ys : List SentDatagram) → sent_on k (xs ++ ys) ≡ sent_on k xs + sent_on k ys
+on-append k xs ys = sum_by-append (λ (x : SentDatagram). if x.0 == k then 1 else 0) xs ys
 
 one-if : (b : Bool) → (if b then 1 else 0) ≤ 1
 one-if b = grind (arith, nat_tests)
@@ -245,7 +245,7 @@ heard-few : (rule : CodeRule) (octets : List ℕ) (now : ℕ) (v : View) (read :
 heard-few rule octets now v (Ok p) e h = guarded-few now v (response_turn p now) 3 h (λ w k. responds-few p now w (read-body rule octets p e) k)
 heard-few rule octets now v (Err fault) e h = few-more 3 4 (guard_turn now v) (omega arith) (single-few v (guard_turn now v) h (guards-single now v))
 
-pub hears-few : (octets : List ℕ) (now : ℕ) (v : View) → Held v → Few 4 (machine_hears octets now v)
+pub hears-few : (octets : List ℕ) (now : ℕ) (v : View) → Held v → Few 4 (machine_octets_turn octets now v)
 hears-few octets now v h = heard-few v.settings.rule octets now v (safe_seen v.settings.rule octets) refl h
 
 -- The layers above the redundancy layer.
@@ -270,12 +270,12 @@ still-quiet v = record { sent = refl; machine = refl }
 session-quiet : (d : Dialogue) (v : Fields) → Quiet v (session_turn d v)
 session-quiet d v = record { sent = refl; machine = refl }
 
-settles-quiet : (v : Fields) → Quiet v (settles v)
+settles-quiet : (v : Fields) → Quiet v (end_session_turn v)
 settles-quiet v =
     quiet-if v (is_closed v.machine.connection) (session_turn (process_event Closes (dialogue_of v)) v) (end_still v)
     (session-quiet (process_event Closes (dialogue_of v)) v) (still-quiet v)
 
-quiet-then : (k n : ℕ) (t : Turn Fields) (next : Fields → Turn Fields) → Sparse k n t → Quiet t.left (next t.left) → Sparse k n (followed t next)
+quiet-then : (k n : ℕ) (t : Turn Fields) (next : Fields → Turn Fields) → Sparse k n t → Quiet t.left (next t.left) → Sparse k n (turn_then t next)
 quiet-then k n t next h q =
     record {
       sent = omega (arith, on-append k t.sent (next t.left).sent, ap (sent_on k) q.sent, ap (λ (m : View). length m.ring) q.machine, h.sent);
@@ -287,7 +287,7 @@ machine-sparse k n t v h =
     record { sent = omega (arith, datagrams-on k v.machine.settings.rule v.count v.numbers t.made, h.made); held = h.held }
 
 -- the end disconnects, if it is asked to
-leaves-then : (k n now : ℕ) (why : Option Leaving) (t : Turn Fields) → Sparse k n t → Sparse k (n + 1) (followed t (end_leaves now why))
+leaves-then : (k n now : ℕ) (why : Option Leaving) (t : Turn Fields) → Sparse k n t → Sparse k (n + 1) (turn_then t (end_leave_turn now why))
 leaves-then k n now None t h =
     record { sent = omega (arith, on-append k t.sent [], h.sent); held = h.held }
 leaves-then k n now (Some why) t h =
@@ -306,60 +306,60 @@ leaves-then k n now (Some why) t h =
       held = held-as v.machine m.left s.ring s.window h.held;
     }
 
-notes-quiet : (before : ConnectionState) (octets : List ℕ) (v : Fields) → Quiet v (notes before octets v)
+notes-quiet : (before : ConnectionState) (octets : List ℕ) (v : Fields) → Quiet v (note_request_turn before octets v)
 notes-quiet before octets v = record { sent = refl; machine = refl }
 
-goes_up-quiet : (before : ConnectionState) (v : Fields) → Quiet v (goes_up before v)
+goes_up-quiet : (before : ConnectionState) (v : Fields) → Quiet v (up_turn before v)
 goes_up-quiet before v = record { sent = refl; machine = refl }
 
-departs-quiet : (cause : Option Departure) (v : Fields) → Quiet v (departs cause v)
+departs-quiet : (cause : Option Departure) (v : Fields) → Quiet v (departure_turn cause v)
 departs-quiet cause v = record { sent = refl; machine = refl }
 
-counts-quiet : (answer : Outcome) (waited now : ℕ) (v : Fields) → Quiet v (counts answer waited now v)
-counts-quiet answer waited now v = record { sent = refl; machine = refl }
+counts-quiet : (answer : Outcome) (waiting_time now : ℕ) (v : Fields) → Quiet v (count_turn answer waiting_time now v)
+counts-quiet answer waiting_time now v = record { sent = refl; machine = refl }
 
 -- a part that goes up
-part-sparse : (k now : ℕ) (octets : List ℕ) (v : Fields) → Held v.machine → Sparse k 5 (part now octets v)
+part-sparse : (k now : ℕ) (octets : List ℕ) (v : Fields) → Held v.machine → Sparse k 5 (part_turn now octets v)
 part-sparse k now octets v h =
     let before = v.machine.connection in
-    let judge = judged_at now octets v in
+    let judge = judge_part now octets v in
     let answer = decoded_answer (safe_seen v.machine.settings.rule octets) now v.machine in
-    let t0 = with_units (octets_units octets now v.machine) (machine_turn (machine_hears octets now v.machine) v) in
-    let t1 = followed t0 (session_turn judge.left) in
-    let t2 = followed t1 (notes before octets) in
-    let t3 = followed t2 (goes_up before) in
-    let t4 = followed t3 (end_leaves now judge.leaving) in
-    let t5 = followed t4 settles in
-    let t6 = followed t5 (departs (closing now octets v)) in
-    let g = machine-sparse k 4 (machine_hears octets now v.machine) v (hears-few octets now v.machine h) in
+    let t0 = with_units (octets_units octets now v.machine) (machine_turn (machine_octets_turn octets now v.machine) v) in
+    let t1 = turn_then t0 (session_turn judge.left) in
+    let t2 = turn_then t1 (note_request_turn before octets) in
+    let t3 = turn_then t2 (up_turn before) in
+    let t4 = turn_then t3 (end_leave_turn now judge.leaving) in
+    let t5 = turn_then t4 end_session_turn in
+    let t6 = turn_then t5 (departure_turn (closing_departure now octets v)) in
+    let g = machine-sparse k 4 (machine_octets_turn octets now v.machine) v (hears-few octets now v.machine h) in
     let h0 : Sparse k 4 t0 = record { sent = g.sent; held = g.held } in
     let h1 = quiet-then k 4 t0 (session_turn judge.left) h0 (session-quiet judge.left t0.left) in
-    let h2 = quiet-then k 4 t1 (notes before octets) h1 (notes-quiet before octets t1.left) in
-    let h3 = quiet-then k 4 t2 (goes_up before) h2 (goes_up-quiet before t2.left) in
+    let h2 = quiet-then k 4 t1 (note_request_turn before octets) h1 (notes-quiet before octets t1.left) in
+    let h3 = quiet-then k 4 t2 (up_turn before) h2 (goes_up-quiet before t2.left) in
     let h4 = leaves-then k 4 now judge.leaving t3 h3 in
-    let h5 = quiet-then k 5 t4 settles h4 (settles-quiet t4.left) in
-    let h6 = quiet-then k 5 t5 (departs (closing now octets v)) h5 (departs-quiet (closing now octets v) t5.left) in
-    quiet-then k 5 t6 (counts answer (waited now v) now) h6 (counts-quiet answer (waited now v) now t6.left)
+    let h5 = quiet-then k 5 t4 end_session_turn h4 (settles-quiet t4.left) in
+    let h6 = quiet-then k 5 t5 (departure_turn (closing_departure now octets v)) h5 (departs-quiet (closing_departure now octets v) t5.left) in
+    quiet-then k 5 t6 (count_turn answer (waiting_time now v) now) h6 (counts-quiet answer (waiting_time now v) now t6.left)
 
 -- the parts that go up, with the units that may then be packed
 record Laden (k most : ℕ) (t : Turn Fields) : Type 0 where
   sent : sent_on k t.sent + (32 - length t.left.machine.ring) ≤ most
   held : Held t.left.machine
 
-parts-laden : (k now : ℕ) (ps : List Part) (v : Fields) → Held v.machine → Laden k (length ps * 37 + (32 - length v.machine.ring)) (parts now ps v)
+parts-laden : (k now : ℕ) (ps : List Part) (v : Fields) → Held v.machine → Laden k (length ps * 37 + (32 - length v.machine.ring)) (parts_turn now ps v)
 parts-laden k now [] v h = record { sent = omega arith; held = h }
 parts-laden k now (p ∷ ps) v h =
-    let t = part now p.1 v in
+    let t = part_turn now p.1 v in
     let one = part-sparse k now p.1 v h in
     let more = parts-laden k now ps t.left one.held in
-    record { sent = omega (arith, on-append k t.sent (parts now ps t.left).sent, one.sent, one.held.ring, more.sent); held = more.held }
+    record { sent = omega (arith, on-append k t.sent (parts_turn now ps t.left).sent, one.sent, one.held.ring, more.sent); held = more.held }
 
-some-laden : (k now : ℕ) (p : Part) (ps : List Part) (v : Fields) → Held v.machine → Laden k (length ps * 37 + 37) (parts now (p ∷ ps) v)
+some-laden : (k now : ℕ) (p : Part) (ps : List Part) (v : Fields) → Held v.machine → Laden k (length ps * 37 + 37) (parts_turn now (p ∷ ps) v)
 some-laden k now p ps v h =
-    let t = part now p.1 v in
+    let t = part_turn now p.1 v in
     let one = part-sparse k now p.1 v h in
     let more = parts-laden k now ps t.left one.held in
-    record { sent = omega (arith, on-append k t.sent (parts now ps t.left).sent, one.sent, one.held.ring, more.sent); held = more.held }
+    record { sent = omega (arith, on-append k t.sent (parts_turn now ps t.left).sent, one.sent, one.held.ring, more.sent); held = more.held }
 
 -- Sending the messages that wait.
 
@@ -379,26 +379,26 @@ room-left v may small =
     let r = ltb-true (length v.ring) v.window (and_parts (in_turn v.connection) (nat_lt (length v.ring) v.window) may).1 in
     omega (arith, r, small)
 
-packs-few : (k n now : ℕ) (v : Fields) → v.machine.window ≤ 32 → sent_on k (packs_up_to n now v).sent ≤ 32 - length v.machine.ring
+packs-few : (k n now : ℕ) (v : Fields) → v.machine.window ≤ 32 → sent_on k (pack_up_to_turn n now v).sent ≤ 32 - length v.machine.ring
 packs-few k zero now v small = omega arith
 packs-few k (suc n) now v small =
-    by_cond (λ (t : Turn Fields). sent_on k t.sent ≤ 32 - length v.machine.ring) (can_pack v) (followed (packs now v) (packs_up_to n now)) (end_still v)
+    by_cond (λ (t : Turn Fields). sent_on k t.sent ≤ 32 - length v.machine.ring) (can_pack v) (turn_then (pack_turn now v) (pack_up_to_turn n now)) (end_still v)
     (λ can.
     let may = (and_parts (not (is_nil v.waiting)) (has_room v.machine) can).1 in
     let m = send_turn (unit_text (take v.max v.waiting)) now v.machine in
     let one : SendsOne v.machine m = may-send (unit_text (take v.max v.waiting)) now v.machine may in
-    let t = packs now v in
+    let t = pack_turn now v in
     let first : sent_on k t.sent ≤ 1 = omega (
       arith,
       on-append k (machine_turn m v).sent [],
       datagrams-on k v.machine.settings.rule v.count v.numbers m.made,
       one.made,
     ) in
-    let rest : sent_on k (packs_up_to n now t.left).sent ≤ 32 - length m.left.ring = packs-few k n now t.left (omega (arith, one.window, small)) in
-    omega (arith, on-append k t.sent (packs_up_to n now t.left).sent, first, rest, one.ring, room-left v.machine may small))
+    let rest : sent_on k (pack_up_to_turn n now t.left).sent ≤ 32 - length m.left.ring = packs-few k n now t.left (omega (arith, one.window, small)) in
+    omega (arith, on-append k t.sent (pack_up_to_turn n now t.left).sent, first, rest, one.ring, room-left v.machine may small))
     (λ _. omega arith)
 
-sends-few : (k now : ℕ) (v : Fields) → v.machine.window ≤ 32 → sent_on k (end_sends now v).sent ≤ 32 - length v.machine.ring
+sends-few : (k now : ℕ) (v : Fields) → v.machine.window ≤ 32 → sent_on k (end_send_turn now v).sent ≤ 32 - length v.machine.ring
 sends-few k now v small = packs-few k (length v.waiting) now v small
 
 -- The parts that go up in one call.
@@ -448,26 +448,26 @@ record Brief (k most : ℕ) (t : Turn Fields) : Type 0 where
   sent : sent_on k t.sent ≤ most
   held : Held t.left.machine
 
-short-then : (k n : ℕ) (t : Turn Fields) (next : Fields → Turn Fields) → Brief k n t → Quiet t.left (next t.left) → Brief k n (followed t next)
+short-then : (k n : ℕ) (t : Turn Fields) (next : Fields → Turn Fields) → Brief k n t → Quiet t.left (next t.left) → Brief k n (turn_then t next)
 short-then k n t next h q =
     record { sent = omega (arith, on-append k t.sent (next t.left).sent, ap (sent_on k) q.sent, h.sent); held = subst Held (sym q.machine) h.held }
 
 -- the machine takes a turn, a closed machine ends the session, and the departure is recorded
 abbrev pub settled : MachineTurn → Option Departure → Fields → Turn Fields
-settled t cause v = followed (followed (machine_turn t v) settles) (departs cause)
+settled t cause v = turn_then (turn_then (machine_turn t v) end_session_turn) (departure_turn cause)
 
 settled-short : (k n : ℕ) (t : MachineTurn) (cause : Option Departure) (v : Fields) → length t.made ≤ n → Held t.left → Brief k n (settled t cause v)
 settled-short k n t cause v few held =
     let t0 = machine_turn t v in
-    let t1 = followed t0 settles in
+    let t1 = turn_then t0 end_session_turn in
     let h0 : Brief k n t0 = record { sent = omega (arith, datagrams-on k v.machine.settings.rule v.count v.numbers t.made, few); held = held } in
-    let h1 = short-then k n t0 settles h0 (settles-quiet t0.left) in
-    short-then k n t1 (departs cause) h1 (departs-quiet cause t1.left)
+    let h1 = short-then k n t0 end_session_turn h0 (settles-quiet t0.left) in
+    short-then k n t1 (departure_turn cause) h1 (departs-quiet cause t1.left)
 
 settled-machine : (t : MachineTurn) (cause : Option Departure) (v : Fields) → (settled t cause v).left.machine ≡ t.left
 settled-machine t cause v = (settles-quiet (machine_turn t v).left).machine
 
-closes-few : (k now : ℕ) (v : Fields) → Held v.machine → sent_on k (closes now v).sent ≤ 1
+closes-few : (k now : ℕ) (v : Fields) → Held v.machine → sent_on k (close_turn now v).sent ≤ 1
 closes-few k now v h =
     let t = leave_turn ClosedByUser Unspecified now v.machine in
     let s = leaves-single ClosedByUser Unspecified now v.machine in
@@ -476,26 +476,26 @@ closes-few k now v h =
 
 -- the parts of an input, and then what waits
 goes-few : (k now n : ℕ) (ps : List Part) (v : Fields) → Held v.machine → length ps ≤ n → 1 ≤ n
-    → sent_on k (parts now ps v).sent + sent_on k (end_sends now (parts now ps v).left).sent ≤ n * 37
+    → sent_on k (parts_turn now ps v).sent + sent_on k (end_send_turn now (parts_turn now ps v).left).sent ≤ n * 37
 goes-few k now n [] v h few some = omega (arith, sends-few k now v h.window, some)
 goes-few k now n (p ∷ ps) v h few some =
     let all = some-laden k now p ps v h in
-    let w = (parts now (p ∷ ps) v).left in
+    let w = (parts_turn now (p ∷ ps) v).left in
     omega (arith, all.sent, sends-few k now w all.held.window, few)
 
 goes_on-few : (k now n : ℕ) (i : Input) (v : Inside) → Held v.upper.machine → length (parts_passed i v.red) ≤ n → 1 ≤ n
     → sent_on k (end_goes_on now i v).sent ≤ n * 37
 goes_on-few k now n i v h few some =
-    let t = receives now i v in
-    by_cond (λ (u : Turn Inside). sent_on k u.sent ≤ n * 37) (is_over v) (end_still v) (followed t (above_red (end_sends now))) (λ _. omega arith)
-    (λ _. omega (arith, on-append k t.sent (end_sends now t.left.upper).sent, goes-few k now n (parts_passed i v.red) v.upper h few some))
+    let t = input_turn now i v in
+    by_cond (λ (u : Turn Inside). sent_on k u.sent ≤ n * 37) (is_over v) (end_still v) (turn_then t (above_red (end_send_turn now))) (λ _. omega arith)
+    (λ _. omega (arith, on-append k t.sent (end_send_turn now t.left.upper).sent, goes-few k now n (parts_passed i v.red) v.upper h few some))
 
 over-still : (now : ℕ) (i : Input) (v : Inside) → is_over v ≡ true → end_goes_on now i v ≡ end_still v
-over-still now i v e = ap (λ (b : Bool). if b then end_still v else followed (receives now i v) (above_red (end_sends now))) e
+over-still now i v e = ap (λ (b : Bool). if b then end_still v else turn_then (input_turn now i v) (above_red (end_send_turn now))) e
 
 -- the timeout check of an arrival: the end closes, and nothing follows, or nothing is sent
 abbrev checked : ℕ → List ℕ → Option Departure → Inside → MachineTurn → Turn Inside
-checked now octets cause v t = followed (above_red (settled t cause) v) (end_goes_on now (Datagram octets now))
+checked now octets cause v t = turn_then (above_red (settled t cause) v) (end_goes_on now (Datagram octets now))
 
 checked-closed : (k now : ℕ) (octets : List ℕ) (cause : Option Departure) (v : Inside) (t : MachineTurn) → length t.made ≤ 1 → Held t.left
     → is_closed t.left.connection ≡ true → sent_on k (checked now octets cause v t).sent ≤ 333
@@ -522,7 +522,7 @@ checked-open k now octets cause v t few held defer =
 leaves-closed : (reason : Reason) (detail : Detail) (now : ℕ) (v : View) → is_closed (leave_turn reason detail now v).left.connection ≡ true
 leaves-closed reason detail now v = refl
 
-arrives-few : (k now : ℕ) (octets : List ℕ) (v : Inside) → Held v.upper.machine → length v.red.waiting ≤ 8 → sent_on k (end_arrives now octets v).sent ≤ 333
+arrives-few : (k now : ℕ) (octets : List ℕ) (v : Inside) → Held v.upper.machine → length v.red.waiting ≤ 8 → sent_on k (end_arrival_turn now octets v).sent ≤ 333
 arrives-few k now octets v h defer =
     let m = v.upper.machine in
     let cause = own_departure (overdue now m) now in
@@ -550,27 +550,27 @@ ticks-held now v h =
     let b = beats-single now (guard_turn now v).left in
     held-as (guard_turn now v).left (tick_turn now v).left b.ring b.window (held-as v (guard_turn now v).left g.ring g.window h)
 
-passes-few : (k now : ℕ) (v : Inside) → Held v.upper.machine → length v.red.waiting ≤ 8 → sent_on k (passes now v).sent ≤ 333
+passes-few : (k now : ℕ) (v : Inside) → Held v.upper.machine → length v.red.waiting ≤ 8 → sent_on k (time_turn now v).sent ≤ 333
 passes-few k now v h defer =
     let m = v.upper.machine in
     let cause = own_departure (overdue now m) now in
     let first = above_red (settled (tick_turn now m) cause) v in
-    by_cond (λ (u : Turn Inside). sent_on k u.sent ≤ 333) (is_over v) (end_still v) (followed first (end_goes_on now (RedTick now))) (λ _. omega arith)
+    by_cond (λ (u : Turn Inside). sent_on k u.sent ≤ 333) (is_over v) (end_still v) (turn_then first (end_goes_on now (RedTick now))) (λ _. omega arith)
     (λ _.
     let s = settled-short k 2 (tick_turn now m) cause v.upper (ticks-two now m) (ticks-held now m h) in
     let rest = goes_on-few k now 8 (RedTick now) first.left s.held (omega (arith, tick-parts now v.red, defer)) (omega arith) in
     omega (arith, on-append k first.sent (end_goes_on now (RedTick now) first.left).sent, s.sent, rest))
 
-puts-few : (k kind now : ℕ) (payload : List ℕ) (v : Fields) → Held v.machine → sent_on k (puts kind payload now v).sent ≤ 333
+puts-few : (k kind now : ℕ) (payload : List ℕ) (v : Fields) → Held v.machine → sent_on k (put_turn kind payload now v).sent ≤ 333
 puts-few k kind now payload v h =
     let d = process_event (Puts kind payload (length v.waiting)) (dialogue_of v) in
     let first = session_turn d (accepts_in d v) in
-    omega (arith, on-append k first.sent (end_sends now first.left).sent, sends-few k now first.left h.window)
+    omega (arith, on-append k first.sent (end_send_turn now first.left).sent, sends-few k now first.left h.window)
 
-completes-few : (k now : ℕ) (v : Fields) → Held v.machine → sent_on k (completes now v).sent ≤ 333
+completes-few : (k now : ℕ) (v : Fields) → Held v.machine → sent_on k (init_done_turn now v).sent ≤ 333
 completes-few k now v h =
     let first = session_turn (process_event (Completes (length v.waiting)) (dialogue_of v)) v in
-    omega (arith, on-append k first.sent (end_sends now first.left).sent, sends-few k now first.left h.window)
+    omega (arith, on-append k first.sent (end_send_turn now first.left).sent, sends-few k now first.left h.window)
 
 -- the bounds of an end are those of its machine
 held-within : (v : Inside) → IsBounded v → Held v.upper.machine

@@ -12,7 +12,7 @@ use Rattle.byteorder.specs.Endian.{little_bytes}
 use Rattle.octets.proofs.Fields.{field_reads}
 use Rattle.pdi_session.specs.telegram.Names.{HasCharacters, IsName, is_character}
 use Rattle.pdi_session.proofs.NameLemmas.{HasCharacters-ascii, name_read-ok, read_cases}
-use Rattle.end_settings.specs.Configured.{code_of}
+use Rattle.end_settings.specs.ConfigValue.{code_of}
 use Rattle.end_settings.specs.EndSettings.{EndSettings}
 use Rattle.end_settings.specs.declared.Side.{Side}
 use Rattle.end_for_callers.specs.Plain.{ListsSeen, config_with, front_of, lists_in, name_in, opening_of, side_in, text_size, words_of}

@@ -26,8 +26,8 @@ use Rattle.safe_machine.specs.Connections.{in_turn, is_closed, is_live}
 use Rattle.safe_machine.specs.Deadlines.{beat_due, overdue}
 use Rattle.safe_machine.specs.Decision.{distance}
 use Rattle.safe_machine.specs.Made.{Made}
-use Rattle.safe_machine.specs.Octets.{move_of, octets_turn as machine_hears, decoded_answer, octets_units}
-use Rattle.safe_machine.specs.Turned.{turn as machine_turn_of}
+use Rattle.safe_machine.specs.Octets.{move_of, octets_turn as machine_octets_turn, decoded_answer, octets_units}
+use Rattle.safe_machine.specs.TurnLaws.{turn as machine_turn_of}
 use Rattle.safe_machine.specs.Turns.{Turn as MachineTurn, answer_ahead_turn, request_turn, heartbeat_turn, both_confirmed, goes_on, guard_turn, has_room, leave_turn, moved_to, move_past}
 use Rattle.safe_machine.specs.Turns.{reply_turn, mark_answered, resend_turn, response_turn, sending_turn, send_turn, still, tick_turn, units_confirmed}
 use Rattle.safe_machine.specs.View.{View}
@@ -56,13 +56,13 @@ use Rattle.red_layer.specs.Redundancy.{Datagram, Input, Tick as RedTick, parts_p
 use Rattle.red_layer.specs.pdu.RedText.{red_text}
 use Rattle.stack_end.specs.Datagrams.{on_channels}
 use Rattle.stack_end.specs.Departures.{own_departure}
-use Rattle.stack_end.specs.Dialogue.{Dialogue, Judged, Leaving, judge_messages, judge_read, judge_units, judge_unpacked, process_event, session_in, unless_leaving}
+use Rattle.stack_end.specs.Dialogue.{Dialogue, Judgement, Leaving, judge_messages, judge_read, judge_units, judge_unpacked, process_event, session_in, unless_leaving}
 use Rattle.stack_end.specs.Ends.{Call}
 use Rattle.stack_end.specs.Ends.Call.{Close, Deliver, InitDone, Put, Tick}
-use Rattle.stack_end.specs.Turns.{Fields, Inside, Turn, above as above_red, accepts as accepts_in, arrives as end_arrives, can_pack, closes, closing}
-use Rattle.stack_end.specs.Turns.{comes_up, completes, counts, datagrams, departs, dialogue_of, followed, goes_on as end_goes_on, goes_up, is_over, judged_at}
-use Rattle.stack_end.specs.Turns.{leaves as end_leaves, machine_turn, next_number, notes, packs, packs_up_to, part, parts, passes, puts, receives}
-use Rattle.stack_end.specs.Turns.{rises, sends as end_sends, session_turn, settles, still as end_still, turn, waited, with_units}
+use Rattle.stack_end.specs.Turns.{Fields, Inside, Turn, upper_turn as above_red, count_accepted as accepts_in, arrival_turn as end_arrival_turn, can_pack, close_turn, closing_departure}
+use Rattle.stack_end.specs.Turns.{comes_up, init_done_turn, count_turn, datagrams, departure_turn, dialogue_of, turn_then, input_and_send_turn as end_goes_on, up_turn, is_over, judge_part}
+use Rattle.stack_end.specs.Turns.{leave_turn as end_leave_turn, machine_turn, next_number, note_request_turn, pack_turn, pack_up_to_turn, part_turn, parts_turn, time_turn, put_turn, input_turn}
+use Rattle.stack_end.specs.Turns.{bring_up, send_turn as end_send_turn, session_turn, end_session_turn, still as end_still, turn, waiting_time, with_units}
 use Rattle.stack_end.specs.declared.departure.Departure.{Departure}
 use Rattle.end_for_callers.proofs.Effects.{responds-has}
 use Rattle.end_for_callers.proofs.Loads.{settled}
@@ -199,7 +199,7 @@ heard-keeps (Ok p) now v h =
     let g = guards-keeps now v h in keeps-then (guard_turn now v) (response_turn p now) g (responds-keeps p now (guard_turn now v).left g.ring)
 heard-keeps (Err fault) now v h = guards-keeps now v h
 
-hears-keeps : (octets : List ℕ) (now : ℕ) (v : View) → AreShortUnits v.ring → Keeps (machine_hears octets now v)
+hears-keeps : (octets : List ℕ) (now : ℕ) (v : View) → AreShortUnits v.ring → Keeps (machine_octets_turn octets now v)
 hears-keeps octets now v h = heard-keeps (safe_seen v.settings.rule octets) now v h
 
 ticks-keeps : (now : ℕ) (v : View) → AreShortUnits v.ring → Keeps (tick_turn now v)
@@ -286,7 +286,7 @@ meets-talks e d h =
       messages = all-append IsShortMessage d.waiting (texts (added_by e (session_in d))) h.messages (added-short e (session_in d) h.named);
     }
 
-unless-talks : (why : Option Leaving) (first rest : Judged) → Talks first.left → Talks rest.left → Talks (unless_leaving why first rest).left
+unless-talks : (why : Option Leaving) (first rest : Judgement) → Talks first.left → Talks rest.left → Talks (unless_leaving why first rest).left
 unless-talks None first rest h k = k
 unless-talks (Some why) first rest h k = h
 
@@ -312,7 +312,7 @@ units-talk (u ∷ us) d h =
     let k = unpacked-talks (unit_seen u) d h in
     unless-talks first.leaving first (judge_units us first.left) k (units-talk us first.left k)
 
-rises-talks : (up : Bool) (d : Dialogue) → Talks d → Talks (rises up d)
+rises-talks : (up : Bool) (d : Dialogue) → Talks d → Talks (bring_up up d)
 rises-talks true d h = meets-talks GoesUp d h
 rises-talks false d h = h
 
@@ -354,7 +354,7 @@ record Good (n : ℕ) (t : Turn Fields) : Type 0 where
   placed : AllByRecursion (IsPlaced n) t.sent
   able : Able n t.left
 
-good-then : (n : ℕ) (t : Turn Fields) (next : Fields → Turn Fields) → Good n t → Good n (next t.left) → Good n (followed t next)
+good-then : (n : ℕ) (t : Turn Fields) (next : Fields → Turn Fields) → Good n t → Good n (next t.left) → Good n (turn_then t next)
 good-then n t next h k = record { placed = all-append (IsPlaced n) t.sent (next t.left).sent h.placed k.placed; able = k.able }
 
 able-as : (n : ℕ) (v w : Fields) → Able n v → AreShortUnits w.machine.ring → AreShort w.waiting → Named w.session → w.max ≡ v.max → w.count ≡ v.count → Able n w
@@ -400,55 +400,55 @@ same-good n v w h machine waiting session max count =
 session-good : (n : ℕ) (d : Dialogue) (v : Fields) → Able n v → Talks d → Good n (session_turn d v)
 session-good n d v h k = record { placed = tt; able = able-as n v (session_turn d v).left h h.sized.units k.messages k.named refl refl }
 
-settles-good : (n : ℕ) (v : Fields) → Able n v → Good n (settles v)
+settles-good : (n : ℕ) (v : Fields) → Able n v → Good n (end_session_turn v)
 settles-good n v h =
     by_cond (Good n) (is_closed v.machine.connection) (session_turn (process_event Closes (dialogue_of v)) v) (end_still v)
     (λ _. session-good n (process_event Closes (dialogue_of v)) v h (meets-talks Closes (dialogue_of v) (talks-of v h.sized)))
     (λ _. same-good n v v h refl refl refl refl refl)
 
-end_leaves-good : (n now : ℕ) (why : Option Leaving) (v : Fields) → Able n v → Good n (end_leaves now why v)
+end_leaves-good : (n now : ℕ) (why : Option Leaving) (v : Fields) → Able n v → Good n (end_leave_turn now why v)
 end_leaves-good n now None v h = same-good n v v h refl refl refl refl refl
 end_leaves-good n now (Some why) v h =
     machine-good n (leave_turn why.0 why.1 now v.machine) v h (leaves-keeps why.0 why.1 now v.machine h.sized.units)
 
-departs-good : (n : ℕ) (cause : Option Departure) (v : Fields) → Able n v → Good n (departs cause v)
-departs-good n cause v h = same-good n v (departs cause v).left h refl refl refl refl refl
+departs-good : (n : ℕ) (cause : Option Departure) (v : Fields) → Able n v → Good n (departure_turn cause v)
+departs-good n cause v h = same-good n v (departure_turn cause v).left h refl refl refl refl refl
 
-goes_up-good : (n : ℕ) (before : ConnectionState) (v : Fields) → Able n v → Good n (goes_up before v)
+goes_up-good : (n : ℕ) (before : ConnectionState) (v : Fields) → Able n v → Good n (up_turn before v)
 goes_up-good n before v h =
     let up = comes_up before v.machine.connection in
-    session-good n (rises up (dialogue_of v)) v h (rises-talks up (dialogue_of v) (talks-of v h.sized))
+    session-good n (bring_up up (dialogue_of v)) v h (rises-talks up (dialogue_of v) (talks-of v h.sized))
 
-part-good : (n now : ℕ) (octets : List ℕ) (v : Fields) → Able n v → Good n (part now octets v)
+part-good : (n now : ℕ) (octets : List ℕ) (v : Fields) → Able n v → Good n (part_turn now octets v)
 part-good n now octets v h =
     let before = v.machine.connection in
-    let judged = judged_at now octets v in
+    let judged = judge_part now octets v in
     let answer = decoded_answer (safe_seen v.machine.settings.rule octets) now v.machine in
-    let t0 = with_units (octets_units octets now v.machine) (machine_turn (machine_hears octets now v.machine) v) in
-    let t1 = followed t0 (session_turn judged.left) in
-    let t2 = followed t1 (notes before octets) in
-    let t3 = followed t2 (goes_up before) in
-    let t4 = followed t3 (end_leaves now judged.leaving) in
-    let t5 = followed t4 settles in
-    let t6 = followed t5 (departs (closing now octets v)) in
+    let t0 = with_units (octets_units octets now v.machine) (machine_turn (machine_octets_turn octets now v.machine) v) in
+    let t1 = turn_then t0 (session_turn judged.left) in
+    let t2 = turn_then t1 (note_request_turn before octets) in
+    let t3 = turn_then t2 (up_turn before) in
+    let t4 = turn_then t3 (end_leave_turn now judged.leaving) in
+    let t5 = turn_then t4 end_session_turn in
+    let t6 = turn_then t5 (departure_turn (closing_departure now octets v)) in
     let talk = units-talk (octets_units octets now v.machine) (dialogue_of v) (talks-of v h.sized) in
-    let g = machine-good n (machine_hears octets now v.machine) v h (hears-keeps octets now v.machine h.sized.units) in
+    let g = machine-good n (machine_octets_turn octets now v.machine) v h (hears-keeps octets now v.machine h.sized.units) in
     let h0 : Good n t0 = record { placed = g.placed; able = g.able } in
     let h1 = good-then n t0 (session_turn judged.left) h0 (session-good n judged.left t0.left h0.able talk) in
-    let h2 = good-then n t1 (notes before octets) h1 (same-good n t1.left (notes before octets t1.left).left h1.able refl refl refl refl refl) in
-    let h3 = good-then n t2 (goes_up before) h2 (goes_up-good n before t2.left h2.able) in
-    let h4 = good-then n t3 (end_leaves now judged.leaving) h3 (end_leaves-good n now judged.leaving t3.left h3.able) in
-    let h5 = good-then n t4 settles h4 (settles-good n t4.left h4.able) in
-    let h6 = good-then n t5 (departs (closing now octets v)) h5 (departs-good n (closing now octets v) t5.left h5.able) in
-    good-then n t6 (counts answer (waited now v) now) h6
-    (same-good n t6.left (counts answer (waited now v) now t6.left).left h6.able refl refl refl refl refl)
+    let h2 = good-then n t1 (note_request_turn before octets) h1 (same-good n t1.left (note_request_turn before octets t1.left).left h1.able refl refl refl refl refl) in
+    let h3 = good-then n t2 (up_turn before) h2 (goes_up-good n before t2.left h2.able) in
+    let h4 = good-then n t3 (end_leave_turn now judged.leaving) h3 (end_leaves-good n now judged.leaving t3.left h3.able) in
+    let h5 = good-then n t4 end_session_turn h4 (settles-good n t4.left h4.able) in
+    let h6 = good-then n t5 (departure_turn (closing_departure now octets v)) h5 (departs-good n (closing_departure now octets v) t5.left h5.able) in
+    good-then n t6 (count_turn answer (waiting_time now v) now) h6
+    (same-good n t6.left (count_turn answer (waiting_time now v) now t6.left).left h6.able refl refl refl refl refl)
 
-parts-good : (n now : ℕ) (ps : List Part) (v : Fields) → Able n v → Good n (parts now ps v)
+parts-good : (n now : ℕ) (ps : List Part) (v : Fields) → Able n v → Good n (parts_turn now ps v)
 parts-good n now [] v h = same-good n v v h refl refl refl refl refl
 parts-good n now (p ∷ ps) v h =
-    let one = part-good n now p.1 v h in good-then n (part now p.1 v) (parts now ps) one (parts-good n now ps (part now p.1 v).left one.able)
+    let one = part-good n now p.1 v h in good-then n (part_turn now p.1 v) (parts_turn now ps) one (parts-good n now ps (part_turn now p.1 v).left one.able)
 
-packs-good : (n now : ℕ) (v : Fields) → Able n v → Good n (packs now v)
+packs-good : (n now : ℕ) (v : Fields) → Able n v → Good n (pack_turn now v)
 packs-good n now v h =
     let unit = unit_text (take v.max v.waiting) in
     let t = machine_turn (send_turn unit now v.machine) v in
@@ -462,23 +462,23 @@ packs-good n now v h =
           (all-drop IsShortMessage v.max v.waiting h.sized.messages) (named-in t.left one.able.sized) refl refl;
     })
 
-packs_up_to-good : (n k now : ℕ) (v : Fields) → Able n v → Good n (packs_up_to k now v)
+packs_up_to-good : (n k now : ℕ) (v : Fields) → Able n v → Good n (pack_up_to_turn k now v)
 packs_up_to-good n zero now v h = same-good n v v h refl refl refl refl refl
 packs_up_to-good n (suc k) now v h =
-    by_cond (Good n) (can_pack v) (followed (packs now v) (packs_up_to k now)) (end_still v)
-    (λ _. let one = packs-good n now v h in good-then n (packs now v) (packs_up_to k now) one (packs_up_to-good n k now (packs now v).left one.able))
+    by_cond (Good n) (can_pack v) (turn_then (pack_turn now v) (pack_up_to_turn k now)) (end_still v)
+    (λ _. let one = packs-good n now v h in good-then n (pack_turn now v) (pack_up_to_turn k now) one (packs_up_to-good n k now (pack_turn now v).left one.able))
     (λ _. same-good n v v h refl refl refl refl refl)
 
-sends-good : (n now : ℕ) (v : Fields) → Able n v → Good n (end_sends now v)
+sends-good : (n now : ℕ) (v : Fields) → Able n v → Good n (end_send_turn now v)
 sends-good n now v h = packs_up_to-good n (length v.waiting) now v h
 
 settled-good : (n : ℕ) (t : MachineTurn) (cause : Option Departure) (v : Fields) → Able n v → Keeps t → Good n (settled t cause v)
 settled-good n t cause v h k =
     let t0 = machine_turn t v in
-    let t1 = followed t0 settles in
+    let t1 = turn_then t0 end_session_turn in
     let h0 = machine-good n t v h k in
-    let h1 = good-then n t0 settles h0 (settles-good n t0.left h0.able) in
-    good-then n t1 (departs cause) h1 (departs-good n cause t1.left h1.able)
+    let h1 = good-then n t0 end_session_turn h0 (settles-good n t0.left h0.able) in
+    good-then n t1 (departure_turn cause) h1 (departs-good n cause t1.left h1.able)
 
 -- The calls.
 
@@ -486,7 +486,7 @@ record AllGood (n : ℕ) (t : Turn Inside) : Type 0 where
   placed : AllByRecursion (IsPlaced n) t.sent
   able : Able n t.left.upper
 
-all-good-then : (n : ℕ) (t : Turn Inside) (next : Inside → Turn Inside) → AllGood n t → AllGood n (next t.left) → AllGood n (followed t next)
+all-good-then : (n : ℕ) (t : Turn Inside) (next : Inside → Turn Inside) → AllGood n t → AllGood n (next t.left) → AllGood n (turn_then t next)
 all-good-then n t next h k = record { placed = all-append (IsPlaced n) t.sent (next t.left).sent h.placed k.placed; able = k.able }
 
 above-good : (n : ℕ) (next : Fields → Turn Fields) (v : Inside) → Good n (next v.upper) → AllGood n (above_red next v)
@@ -497,58 +497,58 @@ idle-good n v h = record { placed = tt; able = h }
 
 goes_on-good : (n now : ℕ) (i : Input) (v : Inside) → Able n v.upper → AllGood n (end_goes_on now i v)
 goes_on-good n now i v h =
-    let t = receives now i v in
+    let t = input_turn now i v in
     let p = parts-good n now (parts_passed i v.red) v.upper h in
-    by_cond (AllGood n) (is_over v) (end_still v) (followed t (above_red (end_sends now))) (λ _. idle-good n v h)
-    (λ _. all-good-then n t (above_red (end_sends now)) (record { placed = p.placed; able = p.able })
-    (above-good n (end_sends now) t.left (sends-good n now t.left.upper p.able)))
+    by_cond (AllGood n) (is_over v) (end_still v) (turn_then t (above_red (end_send_turn now))) (λ _. idle-good n v h)
+    (λ _. all-good-then n t (above_red (end_send_turn now)) (record { placed = p.placed; able = p.able })
+    (above-good n (end_send_turn now) t.left (sends-good n now t.left.upper p.able)))
 
-arrives-good : (n now : ℕ) (octets : List ℕ) (v : Inside) → Able n v.upper → AllGood n (end_arrives now octets v)
+arrives-good : (n now : ℕ) (octets : List ℕ) (v : Inside) → Able n v.upper → AllGood n (end_arrival_turn now octets v)
 arrives-good n now octets v h =
     let m = v.upper.machine in
     let cause = own_departure (overdue now m) now in
     let first = above_red (settled (guard_turn now m) cause) v in
     let g = settled-good n (guard_turn now m) cause v.upper h (guards-keeps now m h.sized.units) in
-    by_cond (AllGood n) (is_over v) (end_still v) (followed first (end_goes_on now (Datagram octets now))) (λ _. idle-good n v h)
+    by_cond (AllGood n) (is_over v) (end_still v) (turn_then first (end_goes_on now (Datagram octets now))) (λ _. idle-good n v h)
     (λ _. all-good-then n first (end_goes_on now (Datagram octets now)) (above-good n (settled (guard_turn now m) cause) v g)
     (goes_on-good n now (Datagram octets now) first.left g.able))
 
-passes-good : (n now : ℕ) (v : Inside) → Able n v.upper → AllGood n (passes now v)
+passes-good : (n now : ℕ) (v : Inside) → Able n v.upper → AllGood n (time_turn now v)
 passes-good n now v h =
     let m = v.upper.machine in
     let cause = own_departure (overdue now m) now in
     let first = above_red (settled (tick_turn now m) cause) v in
     let g = settled-good n (tick_turn now m) cause v.upper h (ticks-keeps now m h.sized.units) in
-    by_cond (AllGood n) (is_over v) (end_still v) (followed first (end_goes_on now (RedTick now))) (λ _. idle-good n v h)
+    by_cond (AllGood n) (is_over v) (end_still v) (turn_then first (end_goes_on now (RedTick now))) (λ _. idle-good n v h)
     (λ _. all-good-then n first (end_goes_on now (RedTick now)) (above-good n (settled (tick_turn now m) cause) v g)
     (goes_on-good n now (RedTick now) first.left g.able))
 
-closes-good : (n now : ℕ) (v : Fields) → Able n v → Good n (closes now v)
+closes-good : (n now : ℕ) (v : Fields) → Able n v → Good n (close_turn now v)
 closes-good n now v h =
     settled-good n (leave_turn ClosedByUser Unspecified now v.machine)
     (own_departure (if is_closed v.machine.connection then None else Some (ClosedByUser, Unspecified)) now) v h
     (leaves-keeps ClosedByUser Unspecified now v.machine h.sized.units)
 
 meets-then : (n now : ℕ) (e : Event) (v w : Fields) → Able n v → Able n w
-    → Good n (followed (session_turn (process_event e (dialogue_of v)) w) (end_sends now))
+    → Good n (turn_then (session_turn (process_event e (dialogue_of v)) w) (end_send_turn now))
 meets-then n now e v w h k =
     let d = process_event e (dialogue_of v) in
     let one = session-good n d w k (meets-talks e (dialogue_of v) (talks-of v h.sized)) in
-    good-then n (session_turn d w) (end_sends now) one (sends-good n now (session_turn d w).left one.able)
+    good-then n (session_turn d w) (end_send_turn now) one (sends-good n now (session_turn d w).left one.able)
 
-puts-good : (n kind now : ℕ) (payload : List ℕ) (v : Fields) → Able n v → Good n (puts kind payload now v)
+puts-good : (n kind now : ℕ) (payload : List ℕ) (v : Fields) → Able n v → Good n (put_turn kind payload now v)
 puts-good n kind now payload v h =
     let e = Puts kind payload (length v.waiting) in
     meets-then n now e v (accepts_in (process_event e (dialogue_of v)) v) h
     (same-good n v (accepts_in (process_event e (dialogue_of v)) v) h refl refl refl refl refl).able
 
-completes-good : (n now : ℕ) (v : Fields) → Able n v → Good n (completes now v)
+completes-good : (n now : ℕ) (v : Fields) → Able n v → Good n (init_done_turn now v)
 completes-good n now v h = meets-then n now (Completes (length v.waiting)) v v h h
 
 turn-good : (n : ℕ) (c : Call) (v : Inside) → Able n v.upper → AllGood n (turn c v)
-turn-good n (Close now) v h = above-good n (closes now) v (closes-good n now v.upper h)
-turn-good n (Put kind payload now) v h = above-good n (puts kind payload now) v (puts-good n kind now payload v.upper h)
-turn-good n (InitDone now) v h = above-good n (completes now) v (completes-good n now v.upper h)
+turn-good n (Close now) v h = above-good n (close_turn now) v (closes-good n now v.upper h)
+turn-good n (Put kind payload now) v h = above-good n (put_turn kind payload now) v (puts-good n kind now payload v.upper h)
+turn-good n (InitDone now) v h = above-good n (init_done_turn now) v (completes-good n now v.upper h)
 turn-good n (Tick now) v h = passes-good n now v h
 turn-good n (Deliver channel octets now) v h = arrives-good n now octets v h
 

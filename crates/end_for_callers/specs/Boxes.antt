@@ -5,13 +5,13 @@ use Rattle.std.specs.List.{FoldsTo}
 use Rattle.octets.specs.Lists.{IsBeginning}
 use Rattle.octets.specs.declared.limits.TheConstants.{RED_PDU_MAX}
 use Rattle.pdi_session.specs.SessionStep.{Item}
-use Rattle.channels.specs.Told.{Sending, SendsOne, ChannelHistory, count_failure}
-use Rattle.end_for_callers.specs.Queues.{Queued, empty_queue, fits, new_queue, with_piece}
+use Rattle.channels.specs.ChannelHistory.{SentDatagram, SendsOne, ChannelHistory, count_failure}
+use Rattle.end_for_callers.specs.Queues.{Queued, empty_queue, has_place_for, new_queue, with_piece}
 use Rattle.end_for_callers.specs.Notes.{NoteQueue, heard_anew}
 use Rattle.end_for_callers.specs.declared.outbox.Shares.{Shares}
 
 -- the datagrams that wait for the caller
-pub record Outgoing : Type 0 where
+pub record DatagramQueue : Type 0 where
   -- each with its channel as tag
   pub queue : Queued ℕ
   -- how many found no room, modulo 2^64; these are lost, as on a channel
@@ -20,15 +20,15 @@ pub record Outgoing : Type 0 where
   pub notes : NoteQueue
 
 -- no datagram waits, there is room for this number, and no note is kept
-abbrev pub new_outgoing : ℕ → Outgoing
+abbrev pub new_outgoing : ℕ → DatagramQueue
 new_outgoing datagrams = record { queue = new_queue datagrams (datagrams * RED_PDU_MAX); unsent = 0; notes = heard_anew false }
 
 -- no datagram waits, and none is counted; the notes stay
-abbrev pub clear_outgoing : Outgoing → Outgoing
+abbrev pub clear_outgoing : DatagramQueue → DatagramQueue
 clear_outgoing o = record o { queue = empty_queue o.queue; unsent = 0 }
 
 -- what the contracts of an end know of these datagrams as its channels
-abbrev pub told_of : Outgoing → ChannelHistory
+abbrev pub told_of : DatagramQueue → ChannelHistory
 told_of o = record { sent = Some o.queue.waiting; answers = None; asked = None; failed_sends = o.unsent; failed_receives = 0; room = λ _. 0 }
 
 -- the places set aside for a channel
@@ -65,14 +65,14 @@ shares_of channels each =
     }
 
 -- the outbox of a station
-pub record Posting : Type 0 where
+pub record OutboxValue : Type 0 where
   -- the datagrams that wait
-  pub out : Outgoing
+  pub out : DatagramQueue
   -- the places set aside for the call that goes on
   pub shares : Shares
 
 -- what the contracts of an end know of the outbox as its channels: a send on a channel with a place set aside is sure
-abbrev pub told_in : Posting → ChannelHistory
+abbrev pub told_in : OutboxValue → ChannelHistory
 told_in p = record (told_of p.out) { room = λ channel. share_of p.shares channel }
 
 -- a datagram of this size leaves this number of places free, each with the room of the longest datagram
@@ -80,7 +80,7 @@ abbrev pub leaves_free : (rest size : ℕ) → Queued ℕ → Bool
 leaves_free rest size q = nat_lt rest q.places && nat_le (rest * RED_PDU_MAX + size) q.room
 
 -- after a send: the datagram is appended if the places set aside for others stay free, and counted otherwise
-abbrev pub with_posting : Sending → Posting → Posting
+abbrev pub with_posting : SentDatagram → OutboxValue → OutboxValue
 with_posting x p =
     let rest = spent_on x.0 p.shares in
     if leaves_free (sum_of_shares rest) (length x.1) p.out.queue
@@ -88,32 +88,32 @@ with_posting x p =
     else record p { out = record p.out { unsent = count_failure false p.out.unsent } }
 
 -- datagrams were sent in order: each is appended or counted; if the count did not change, all are appended
-pub record Posted (o : Outgoing) (xs : List Sending) (p : Outgoing) : Type 0 where
+pub record Posted (o : DatagramQueue) (xs : List SentDatagram) (p : DatagramQueue) : Type 0 where
   -- each is a send of channels, in order
   pub each : FoldsTo SendsOne (told_of o) xs (told_of p)
   -- fewer than 2^64 datagrams, with the count unchanged, are all appended
   pub all : length xs < 2 ^ 64 → p.unsent ≡ o.unsent → p.queue.waiting ≡ o.queue.waiting ++ xs
 
 -- the telegrams that wait for the caller
-pub record Incoming : Type 0 where
+pub record TelegramQueue : Type 0 where
   -- each with its message type as tag
   pub queue : Queued ℕ
   -- one found no room, and nothing was added since
   pub lost : Bool
 
 -- after a telegram: it is appended if it fits and none was lost; otherwise one is lost, so the queue stays a prefix of what was taken
-abbrev pub with_item : Item → Incoming → Incoming
+abbrev pub with_item : Item → TelegramQueue → TelegramQueue
 with_item i n =
-    if not n.lost && fits (length i.1) n.queue
+    if not n.lost && has_place_for (length i.1) n.queue
     then record n { queue = with_piece i n.queue }
     else record n { lost = true }
 
 -- the relation of one call of `take`
-abbrev pub takes_of : Incoming → Item → Incoming → Type 0
+abbrev pub takes_of : TelegramQueue → Item → TelegramQueue → Type 0
 takes_of n i m = m ≡ with_item i n
 
 -- telegrams were taken in order: a prefix of them is appended, and all of them if none is lost
-pub record Came (n : Incoming) (items : List Item) (m : Incoming) : Type 0 where
+pub record Came (n : TelegramQueue) (items : List Item) (m : TelegramQueue) : Type 0 where
   -- the telegrams appended
   pub added : List Item
   -- they follow those that waited

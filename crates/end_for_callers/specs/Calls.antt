@@ -17,14 +17,14 @@ use Rattle.end_for_callers.specs.declared.StationFault.TheVariants as opening
 use Rattle.end_for_callers.specs.declared.station.Rooms.{Rooms}
 use Rattle.end_for_callers.specs.declared.TheConstants.{CALL_TELEGRAMS, PART_PDUS}
 use Rattle.end_settings.specs.EndSettings.{EndSettings, are_fit}
-use Rattle.end_settings.specs.Configured.{side_of}
+use Rattle.end_settings.specs.ConfigValue.{side_of}
 use Rattle.end_settings.specs.declared.Side.{Side}
 use Rattle.stack_end.specs.Reopening.{reopening_turn}
-use Rattle.end_for_callers.specs.Boxes.{Came, Incoming, Outgoing, Posted, Posting, clear_outgoing}
+use Rattle.end_for_callers.specs.Boxes.{Came, TelegramQueue, DatagramQueue, Posted, OutboxValue, clear_outgoing}
 use Rattle.end_for_callers.specs.Queues.{Queued}
 
 -- an end on the outbox of a station as a caller sees it: without the places set aside
-abbrev pub seen_end : EndValue Posting Global → EndValue Outgoing Global
+abbrev pub seen_end : EndValue OutboxValue Global → EndValue DatagramQueue Global
 seen_end v =
     let u = v.layers.upper in
     record {
@@ -57,16 +57,16 @@ seen_end v =
 -- a station
 pub record StationValue : Type 0 where
   -- the end
-  pub end : EndValue Outgoing Global
+  pub end : EndValue DatagramQueue Global
   -- the telegrams that wait
-  pub inbox : Incoming
+  pub inbox : TelegramQueue
   -- the time of the last accepted call
   pub time : ℕ
   -- how many datagrams must have room before a call
   pub reserve : ℕ
 
 -- the datagrams that wait
-abbrev pub outbox_of : StationValue → Outgoing
+abbrev pub outbox_of : StationValue → DatagramQueue
 outbox_of s = channels_of s.end
 
 -- a time in range: not before the last accepted call, and at most 2^62

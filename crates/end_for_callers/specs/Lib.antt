@@ -3,7 +3,7 @@ pub mod Pieces
 pub mod Notes
 pub mod Boxes
 pub mod Calls
-pub mod Answered
+pub mod CallResults
 pub mod Plain
 pub mod Numbers
 pub mod Loads

@@ -5,16 +5,16 @@ use Rattle.octets.specs.declared.limits.TheConstants.{CHANNELS_MAX, MESSAGE_MAX,
 use Rattle.safe_machine.specs.retrans.Units.{Numbered}
 use Rattle.pdi_session.specs.Settings.{checksum_of}
 use Rattle.pdi_session.specs.declared.TheConstants.{CHECKSUM_MAX}
-use Rattle.channels.specs.Told.{Sending}
+use Rattle.channels.specs.ChannelHistory.{SentDatagram}
 use Rattle.stack_end.specs.Bounds.{IsBounded}
 use Rattle.stack_end.specs.Ends.{Call}
 use Rattle.stack_end.specs.Turns.{Fields, Inside, turn}
 use Rattle.end_for_callers.specs.declared.TheConstants.{PART_PDUS}
-use Rattle.end_for_callers.specs.Boxes.{Outgoing}
+use Rattle.end_for_callers.specs.Boxes.{DatagramQueue}
 use Rattle.end_for_callers.specs.Calls.{has_room}
 
 -- how many of these datagrams are on this channel
-abbrev pub sent_on : ℕ → List Sending → ℕ
+abbrev pub sent_on : ℕ → List SentDatagram → ℕ
 sent_on channel xs = count_by (λ x. x.0 == channel) xs
 
 -- the most datagrams of one call on one channel: those of nine parts, the one that arrives and the eight of the longest deferral queue, each with a
@@ -37,7 +37,7 @@ pub record IsSized (v : Fields) : Type 0 where
   pub checksum : length (checksum_of v.session.role) ≤ CHECKSUM_MAX  -- the checksum of a field element's reply
 
 -- a datagram is on one of these channels, and not longer than the longest redundancy PDU
-pub record IsPlaced (channels : ℕ) (x : Sending) : Type 0 where
+pub record IsPlaced (channels : ℕ) (x : SentDatagram) : Type 0 where
   pub least : 1 ≤ x.0  -- channels are numbered from 1
   pub most : x.0 ≤ channels  -- to the number of channels
   pub short : length x.1 ≤ RED_PDU_MAX  -- the number of bytes
@@ -60,5 +60,5 @@ pub record IsReady (reserve : ℕ) (v : Inside) : Type 0 where
   pub sized : IsSized v.upper  -- units, messages and names
 
 -- how many places are set aside for each of this number of channels: with room for whatever one call sends, as many as that, and otherwise none
-abbrev pub each_aside : ℕ → Outgoing → ℕ
+abbrev pub each_aside : ℕ → DatagramQueue → ℕ
 each_aside channels o = if has_room (most_on_channel * channels) RED_PDU_MAX o.queue then most_on_channel else 0

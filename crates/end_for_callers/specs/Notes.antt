@@ -1,6 +1,6 @@
 -- The notes of an end that wait for the caller.
 use Rattle.std.specs.Prelude.{ℕ, ◌+◌, ◌==◌, ◌&&◌, Bool, false, not, nat_lt, Option, Some, None, List, [], ◌∷◌, ◌++◌, length, if◌then◌else◌}
-use Rattle.channels.specs.Told.{count_failure}
+use Rattle.channels.specs.ChannelHistory.{count_failure}
 use Rattle.channels.specs.declared.note.Note.{Note}
 use Rattle.channels.specs.declared.note.Note.TheVariants as note
 use Rattle.end_for_callers.specs.declared.notes.StationNote.{StationNote}

@@ -4,7 +4,7 @@ use Rattle.std.specs.List.{position_or_len}
 use Rattle.std.specs.Result.{result_ok}
 use Rattle.byteorder.specs.Endian.{little_number}
 use Rattle.pdi_session.specs.telegram.Names.{name_read}
-use Rattle.end_settings.specs.Configured.{code_of, settings_of}
+use Rattle.end_settings.specs.ConfigValue.{code_of, settings_of}
 use Rattle.end_settings.specs.EndSettings.{EndSettings}
 use Rattle.end_settings.specs.declared.EndConfig.{EndConfig}
 use Rattle.end_settings.specs.declared.Side.{Side}

@@ -25,8 +25,8 @@ abbrev pub empty_queue : {T : Type 0} → Queued T → Queued T
 empty_queue q = new_queue (q.places + length q.waiting) (q.room + bytes_of q.waiting)
 
 -- a place is free, and the room for this number of bytes
-abbrev pub fits : {T : Type 0} → ℕ → Queued T → Bool
-fits size q = nat_le 1 q.places && nat_le size q.room
+abbrev pub has_place_for : {T : Type 0} → ℕ → Queued T → Bool
+has_place_for size q = nat_le 1 q.places && nat_le size q.room
 
 -- after a push: the piece is the last one, and has one place and its size of room
 abbrev pub with_piece : {T : Type 0} → T × List ℕ → Queued T → Queued T
@@ -61,7 +61,7 @@ pub record IsTooLong {T : Type 0} (needed : ℕ) (q : Queued T) (buffer : List �
   pub short : length buffer < needed
 
 -- the result and the effect of a pop into a buffer; unless a piece is fetched, nothing changes
-abbrev pub Popped : {T : Type 0} → Result (Option (T × ℕ)) TooSmall → Queued T → List ℕ → Queued T → List ℕ → Type 0
-Popped (Ok None) q buffer r after = (q.waiting ≡ []) × (r ≡ q) × (after ≡ buffer)
-Popped (Ok (Some (tag, size))) q buffer r after = TookOldest tag size q buffer r after
-Popped (Err short) q buffer r after = IsTooLong short.needed q buffer × (r ≡ q) × (after ≡ buffer)
+abbrev pub PopsInto : {T : Type 0} → Result (Option (T × ℕ)) TooSmall → Queued T → List ℕ → Queued T → List ℕ → Type 0
+PopsInto (Ok None) q buffer r after = (q.waiting ≡ []) × (r ≡ q) × (after ≡ buffer)
+PopsInto (Ok (Some (tag, size))) q buffer r after = TookOldest tag size q buffer r after
+PopsInto (Err short) q buffer r after = IsTooLong short.needed q buffer × (r ≡ q) × (after ≡ buffer)

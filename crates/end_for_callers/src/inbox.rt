@@ -3,11 +3,11 @@
 ghost use Rattle.std.specs.Prelude.{◌≡◌, ◌*◌, IfOk, false};
 ghost use Rattle.octets.specs.declared.limits.TheConstants.{PAYLOAD_MAX};
 ghost use Rattle.end_for_callers.specs.Boxes.{takes_of};
-ghost use Rattle.end_for_callers.specs.Queues.{Popped, new_queue};
+ghost use Rattle.end_for_callers.specs.Queues.{PopsInto, new_queue};
 
 use crate::queue::{Queue, TooSmall};
 use octets::limits::PAYLOAD_MAX;
-use pdi_session::Taker;
+use pdi_session::{MessageType, Taker};
 use std::alloc::{AllocError, Global};
 use std::marker::Model;
 
@@ -21,9 +21,9 @@ pub struct Inbox {
 }
 
 impl Model for Inbox {
-    ghost use Rattle.end_for_callers.specs.Boxes.{Incoming};
+    ghost use Rattle.end_for_callers.specs.Boxes.{TelegramQueue};
 
-    ghost Value = { Incoming };
+    ghost Value = { TelegramQueue };
 
     ghost view = { λ i. record { queue = i.queue; lost = i.lost } };
 }
@@ -31,7 +31,7 @@ impl Model for Inbox {
 impl Taker for Inbox {
     ghost takes = { takes_of };
 
-    fn take(&mut self, kind: u16, payload: &[u8]) {
+    fn take(&mut self, kind: MessageType, payload: &[u8]) {
         if self.lost || self.queue.push(kind, payload).is_err() {
             self.lost = true;
         }
@@ -60,10 +60,13 @@ impl Inbox {
     /// # Errors
     ///
     /// - `TooSmall` if the buffer is shorter than the payload; the telegram then stays.
-    pub(crate) fn pop(&mut self, buffer: &mut [u8]) -> Result<Option<(u16, usize)>, TooSmall>
+    pub(crate) fn pop(
+        &mut self,
+        buffer: &mut [u8],
+    ) -> Result<Option<(MessageType, usize)>, TooSmall>
         // The oldest telegram leaves the queue and its payload is copied to the start of the buffer. If there is
         // none, or the buffer is too short, nothing changes.
-        ensures popped { Popped result self.old.queue buffer.old self.new.queue buffer.new }
+        ensures popped { PopsInto result self.old.queue buffer.old self.new.queue buffer.new }
         // Fetching a telegram does not change whether one was lost.
         ensures lost { self.new.lost ≡ self.old.lost }
     {

@@ -13,9 +13,9 @@ mod law;
 mod notes;
 mod outbox;
 mod plain;
+mod plain_text;
 mod queue;
 mod station;
-mod writing;
 
 pub use law::load_law;
 pub use notes::{NOTES_MAX, Notes, StationNote};

@@ -3,11 +3,11 @@
 
 ghost use Rattle.octets.specs.declared.limits.TheConstants.{CHANNELS_MAX, RED_PDU_MAX};
 ghost use Rattle.std.specs.Prelude.{◌≡◌, ◌*◌, ◌<◌, ◌^◌, ◌≤◌, false, is_ok, IfOk, IfSome, length};
-ghost use Rattle.channels.specs.Told.{Sends, after_receive};
+ghost use Rattle.channels.specs.ChannelHistory.{Sends, after_receive};
 ghost use Rattle.end_for_callers.specs.Boxes.{clear_outgoing, leaves_free, new_outgoing, sum_of_shares, shares_of, spent_on, told_in, with_posting};
 ghost use Rattle.end_for_callers.specs.Loads.{each_aside};
 ghost use Rattle.end_for_callers.specs.Notes.{heard_anew, next_of, note_of, rest_of, with_note};
-ghost use Rattle.end_for_callers.specs.Queues.{Popped};
+ghost use Rattle.end_for_callers.specs.Queues.{PopsInto};
 
 use crate::CALL_DATAGRAMS;
 use crate::notes::{Notes, StationNote};
@@ -83,9 +83,9 @@ pub struct Outbox {
 impl Model for Outbox {
     ghost use Rattle.std.specs.Prelude.{◌≤◌, ◌*◌};
     ghost use Rattle.octets.specs.declared.limits.TheConstants.{RED_PDU_MAX};
-    ghost use Rattle.end_for_callers.specs.Boxes.{Posting, sum_of_shares};
+    ghost use Rattle.end_for_callers.specs.Boxes.{OutboxValue, sum_of_shares};
 
-    ghost Value = { Posting };
+    ghost Value = { OutboxValue };
 
     ghost view = { λ o. record { out = record { queue = o.queue; unsent = o.unsent; notes = o.notes }; shares = o.shares } };
 
@@ -120,7 +120,7 @@ impl Outbox {
     pub(crate) fn pop(&mut self, buffer: &mut [u8]) -> Result<Option<(usize, usize)>, TooSmall>
         // The oldest datagram leaves the queue and is copied to the start of the buffer. If there is none, or the
         // buffer is too short, nothing changes.
-        ensures popped { Popped result self.old.out.queue buffer.old self.new.out.queue buffer.new }
+        ensures popped { PopsInto result self.old.out.queue buffer.old self.new.out.queue buffer.new }
         // Fetching a datagram does not change the count of unsent ones.
         ensures unsent { self.new.out.unsent ≡ self.old.out.unsent }
         // Fetching a datagram does not change the notes.

@@ -1,7 +1,7 @@
 //! Settings as plain numbers and byte rows, as a caller in C fills them in.
 
 ghost use Rattle.std.specs.Prelude.{◌≡◌, ◌≤◌, is_some, option_map};
-ghost use Rattle.end_settings.specs.Configured.{settings_of};
+ghost use Rattle.end_settings.specs.ConfigValue.{settings_of};
 ghost use Rattle.end_settings.specs.Lists.{checksum_in, versions_in};
 ghost use Rattle.pdi_session.specs.telegram.Tele.{owned_characters};
 ghost use Rattle.end_for_callers.specs.Numbers.{NumbersAre};
@@ -12,6 +12,7 @@ use end_settings::{Checksum, EndConfig, Side, Versions};
 use octets::Milliseconds;
 use octets::places::u32_at;
 use pdi_session::telegram::{Name, OwnedName};
+use safe_pdu::Identifier;
 
 /// The size of plain settings in this version, in bytes.
 pub const PLAIN_SETTINGS_SIZE: u32 = 164;
@@ -25,9 +26,9 @@ pub struct PlainSettings {
     /// The side: 1 for an interlocking, 2 for a field element.
     pub side: u32,
     /// The own identifier.
-    pub id: u32,
+    pub id: Identifier,
     /// The peer's identifier.
-    pub peer_id: u32,
+    pub peer_id: Identifier,
     /// The first sequence number.
     pub first_sn: u32,
     /// The protocol type of the session.

@@ -1,7 +1,7 @@
 //! A queue of byte strings in memory that is allocated once.
 
 ghost use Rattle.std.specs.Prelude.{◌≡◌, [], is_ok, IfOk, length, ◌&&◌, ◌==◌, nat_le, if◌then◌else◌};
-ghost use Rattle.end_for_callers.specs.Queues.{Popped, empty_queue, fits, new_queue, with_piece};
+ghost use Rattle.end_for_callers.specs.Queues.{PopsInto, empty_queue, has_place_for, new_queue, with_piece};
 
 use circular_buffer::HeapCircularBuffer;
 use std::alloc::{AllocError, Allocator, Global};
@@ -124,7 +124,7 @@ impl<T: Copy, A: Allocator> Queue<T, A> {
     /// - `QueueFull` if no place is free, or less room than the piece needs; nothing changes then.
     pub fn push(&mut self, tag: T, piece: &[u8]) -> Result<(), QueueFull>
         // `push` succeeds if and only if a place is free and the piece fits the free room.
-        ensures room { is_ok result ≡ fits (length piece.now) self.old }
+        ensures room { is_ok result ≡ has_place_for (length piece.now) self.old }
         // An accepted piece becomes the last one, and takes one place and its size of room. A refused `push`
         // changes nothing.
         ensures pushed { self.new ≡ (if is_ok result then with_piece (tag, piece.now) self.old else self.old) }
@@ -148,7 +148,7 @@ impl<T: Copy, A: Allocator> Queue<T, A> {
         // `pop` copies the complete oldest piece to the start of the buffer, leaves the rest of the buffer, and
         // frees the piece's place and room (`TookOldest`). If nothing waits, or the buffer is too short
         // (`IsTooLong`), nothing changes.
-        ensures { Popped result self.old buffer.old self.new buffer.new }
+        ensures { PopsInto result self.old buffer.old self.new buffer.new }
     {
         let Some(Head { tag, size }) = self.heads.front() else {
             return Ok(None);

@@ -3,18 +3,18 @@
 ghost use Rattle.std.specs.Prelude.{◌≡◌, ◌==◌, ◌≤◌, ◌<◌, ◌^◌, ◌*◌, ◌-◌, ◌⊎◌, ℕ, min, length, if◌then◌else◌, true, false, Some, None, Ok, Err, IfOk, OnOk, OnErr, IsErrAnd, MatchResult};
 ghost use Rattle.std.specs.List.{FoldsTo};
 ghost use Rattle.end_settings.specs.EndSettings.{are_fit};
-ghost use Rattle.end_settings.specs.Configured.{settings_of, side_of};
+ghost use Rattle.end_settings.specs.ConfigValue.{settings_of, side_of};
 ghost use Rattle.stack_end.specs.Datagrams.{sent_at_opening};
 ghost use Rattle.stack_end.specs.Ends.{Call, Close, Deliver, InitDone, Put, opened_end};
 ghost use Rattle.stack_end.specs.Bounds.{IsBounded};
-ghost use Rattle.stack_end.specs.EndValue.{EndStands, channels_of, inside};
+ghost use Rattle.stack_end.specs.EndValue.{EndRepresents, channels_of, inside};
 ghost use Rattle.end_for_callers.specs.Boxes.{Posted, new_outgoing, shares_of, told_of};
 ghost use Rattle.end_for_callers.specs.Notes.{heard_anew, next_of, rest_of};
 ghost use Rattle.end_for_callers.specs.Loads.{each_aside};
 ghost use Rattle.octets.specs.declared.limits.TheConstants.{CHANNELS_MAX, PAYLOAD_MAX, RED_PDU_MAX, WINDOW_MAX, TIME_MAX};
 ghost use Rattle.end_for_callers.specs.declared.Outcome.TheVariants as ended;
 ghost use Rattle.end_for_callers.specs.Calls.{Does, LosesNone, Reopens, SameButDatagrams, SameButNotes, SameButTelegrams, is_time, outbox_of, outcome_of, refusal, refusal_to_init, refusal_to_open, refusal_to_reopen, refusal_to_put, refusal_to_send, has_room, reserve_of, seen_end};
-ghost use Rattle.end_for_callers.specs.Queues.{Popped, new_queue};
+ghost use Rattle.end_for_callers.specs.Queues.{PopsInto, new_queue};
 ghost use Rattle.end_for_callers.specs.declared.StationFault.TheVariants as fault;
 ghost use Rattle.end_for_callers.specs.declared.CallFault.TheVariants as refused;
 
@@ -26,7 +26,7 @@ use crate::{CALL_TELEGRAMS, CallFault, Outcome, PART_PDUS, StationFault};
 use end_settings::{EndConfig, Side};
 use octets::Milliseconds;
 use octets::limits::{PAYLOAD_MAX, RED_PDU_MAX, TIME_MAX, WINDOW_MAX};
-use pdi_session::Phase;
+use pdi_session::{MessageType, Phase};
 use safe_machine::ConnectionState;
 use stack_end::{Departure, End, OpenFault, Statistics};
 use std::alloc::Global;
@@ -96,7 +96,7 @@ impl Station {
             (λ f. (refusal_to_open side (settings_of config.now) rooms now ≡ Some f)
             ⊎ ((refusal_to_open side (settings_of config.now) rooms now ≡ None) × (f ≡ fault.Memory))) }
         // The end of a new station is in the initial state for its settings, side, first sequence number and time.
-        ensures stands { IfOk result (λ s. EndStands told_of s.end (opened_end side config.now first_sn now)) }
+        ensures stands { IfOk result (λ s. EndRepresents told_of s.end (opened_end side config.now first_sn now)) }
         // The datagrams that the end sends at its opening wait in order; one without room would be counted as
         // unsent.
         ensures sent { IfOk result (λ s. Posted (new_outgoing rooms.datagrams)
@@ -223,7 +223,7 @@ impl Station {
     /// - `Put` if the session refuses the telegram, with its reason.
     pub fn put(
         &mut self,
-        kind: u16,
+        kind: MessageType,
         payload: &[u8],
         now: Milliseconds,
     ) -> Result<Outcome, CallFault>
@@ -367,10 +367,10 @@ impl Station {
     /// # Errors
     ///
     /// - `TooSmall` if the buffer is shorter than the payload; the telegram then stays.
-    pub fn take(&mut self, buffer: &mut [u8]) -> Result<Option<(u16, usize)>, TooSmall>
+    pub fn take(&mut self, buffer: &mut [u8]) -> Result<Option<(MessageType, usize)>, TooSmall>
         // `take` removes the oldest telegram and copies its payload to the buffer. If none waits, or the buffer is
-        // too short, nothing changes (`Popped`).
-        ensures popped { Popped result self.old.inbox.queue buffer.old self.new.inbox.queue buffer.new }
+        // too short, nothing changes (`PopsInto`).
+        ensures popped { PopsInto result self.old.inbox.queue buffer.old self.new.inbox.queue buffer.new }
         // `take` changes only the queue of telegrams: the end, its datagrams, the loss flag, the time and the
         // reserve stay.
         ensures same { SameButTelegrams self.old self.new }
@@ -386,8 +386,8 @@ impl Station {
     /// - `TooSmall` if the buffer is shorter than the datagram, which then stays.
     pub fn next_datagram(&mut self, buffer: &mut [u8]) -> Result<Option<(usize, usize)>, TooSmall>
         // `next_datagram` removes the oldest datagram and copies it to the buffer. If none waits, or the buffer is
-        // too short, nothing changes (`Popped`).
-        ensures popped { Popped result (outbox_of self.old).queue buffer.old (outbox_of self.new).queue buffer.new }
+        // too short, nothing changes (`PopsInto`).
+        ensures popped { PopsInto result (outbox_of self.old).queue buffer.old (outbox_of self.new).queue buffer.new }
         // `next_datagram` changes only the queue of datagrams: the end's state, the count of unsent ones, the
         // telegrams, the time and the reserve stay.
         ensures same { SameButDatagrams self.old self.new }

@@ -1,3 +1,3 @@
 pub mod EndSettings
 pub mod Lists
-pub mod Configured
+pub mod ConfigValue

@@ -6,7 +6,7 @@ ghost use Rattle.std.specs.Prelude.{◌≡◌, ◌≤◌};
 ghost use Rattle.octets.specs.declared.limits.TheConstants.{WINDOW_MAX};
 ghost use Rattle.safe_machine.specs.Settings.{is_legal};
 ghost use Rattle.end_settings.specs.EndSettings.{are_fit, connection_of, has_versions, in_limits};
-ghost use Rattle.end_settings.specs.Configured.{code_of, role_of, settings_of, side_of};
+ghost use Rattle.end_settings.specs.ConfigValue.{code_of, role_of, settings_of, side_of};
 ghost use Rattle.safe_machine.specs.View.{settings_of as machine_settings};
 
 mod lists;
@@ -17,7 +17,7 @@ use octets::limits::{CHANNELS_MAX, Q_MAX, T_SEQ_LOWEST, T_SEQ_MAX, UNIT_MESSAGES
 use pdi_session::are_versions;
 use pdi_session::telegram::OwnedName;
 use safe_machine::{MachineConfig, Role};
-use safe_pdu::{CodeLength, CodeRule};
+use safe_pdu::{CodeLength, CodeRule, Identifier};
 
 /// The two ends of a connection.
 #[derive(Clone, Copy, Debug, PartialEq, Eq)]
@@ -47,9 +47,9 @@ impl Side {
 #[derive(Clone, Copy, Debug, PartialEq, Eq)]
 pub struct EndConfig {
     /// This end's identifier.
-    pub id: u32,
+    pub id: Identifier,
     /// The peer's identifier, a different one.
-    pub peer_id: u32,
+    pub peer_id: Identifier,
     /// This end's name.
     pub name: OwnedName,
     /// The peer's name.

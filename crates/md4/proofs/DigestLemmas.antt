@@ -3,7 +3,7 @@
 use Rattle.std.proofs.Common.{◌≡◌, ◌+◌, ◌%◌, ◌≤◌, ℕ, List, [], ◌∷◌, length, take, codes, refl, arith, ◌-◌}
 use Rattle.std.proofs.lemmas.List.{length-replicate, length-take-le}
 use Rattle.md4.specs.declared.TheConstants.{INITIAL_VALUE}
-use Rattle.md4.specs.Digest.{filling, four_steps, after_round, after_block, digest}
+use Rattle.md4.specs.Digest.{padding_octets, four_steps, after_round, after_block, digest}
 
 -- a digest has 16 bytes
 pub length-digest : (iv octets : List ℕ) → length (digest iv octets) ≡ 16
@@ -15,7 +15,7 @@ pub length-take-digest : (size : ℕ) (iv octets : List ℕ) → size ≤ 16 →
 length-take-digest size iv octets most = length-take-le size (digest iv octets) (rw (length-digest iv octets) most)
 
 -- with its filling, a message has 56 bytes modulo 64 (3.1)
-pub length-filling : (size : ℕ) → (size + length (filling size)) % 64 ≡ 56
+pub length-filling : (size : ℕ) → (size + length (padding_octets size)) % 64 ≡ 56
 length-filling size =
     let zeros = length-replicate {A = ℕ} ((119 - size % 64) % 64) 0 in
     omega (arith, zeros)

@@ -1,5 +1,5 @@
 pub mod Bits
 pub mod Blocks
 pub mod DigestLemmas
-pub mod Feeding
+pub mod Pieces
 pub mod Whole

@@ -3,9 +3,9 @@ use Rattle.std.proofs.Common.{◌≡◌, ℕ, suc, ◌+◌, ◌-◌, ◌*◌, �
 use Rattle.std.specs.Prelude.{fold}
 use Rattle.std.proofs.Math.Seq.{set-append_seam}
 use Rattle.std.proofs.lemmas.List.{take_all, append_assoc, take_at, drop-replicate, length-replicate, replicate-append-replicate}
-use Rattle.md4.specs.Digest.{after_block, blocks_of, pad, filling, bit_count, digest, octets_of_words}
+use Rattle.md4.specs.Digest.{after_block, blocks_of, pad, padding_octets, bit_count, digest, octets_of_words}
 use Rattle.md4.specs.Md4.{HasTaken}
-use Rattle.md4.proofs.Feeding.{words_after, HasTaken-full}
+use Rattle.md4.proofs.Pieces.{words_after, HasTaken-full}
 
 -- the last bytes, the byte 0x80 and zeros
 abbrev pub begun : List ℕ → List ℕ
@@ -67,7 +67,7 @@ digest_by_two iv octets words behind block last taken rest long first second =
     let many : length behind ≡ length octets % 64 = omega (arith, length-drop (length octets / 64 * 64) octets, ap length rest) in
     let zeros : 63 - length behind + 56 ≡ (119 - length octets % 64) % 64 = omega arith in
     let head : List ℕ = 0x80 ∷ replicate (63 - length behind) 0 in
-    let fill : filling (length octets) ≡ head ++ replicate 56 0 =
+    let fill : padding_octets (length octets) ≡ head ++ replicate 56 0 =
     ap (λ (xs : List ℕ). 0x80 ∷ xs) (ap (λ (n : ℕ). replicate n 0) (sym zeros) ∙ sym (replicate-append-replicate (63 - length behind) 56 0)) in
     let parts : block ≡ take (length octets % 64) behind ++ head =
     first ∙ ap (λ (xs : List ℕ). xs ++ head) (sym (take_all (length octets % 64) behind (omega (arith, many)))) in

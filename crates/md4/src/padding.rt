@@ -2,7 +2,7 @@
 
 ghost use Rattle.std.specs.Prelude.{◌≡◌, ◌<◌, ◌∷◌, ◌++◌, ◌-◌, length, take, replicate};
 ghost use Rattle.byteorder.specs.Endian.{little_bytes};
-ghost use Rattle.md4.specs.Digest.{filling};
+ghost use Rattle.md4.specs.Digest.{padding_octets};
 
 use crate::BLOCK_SIZE;
 
@@ -18,7 +18,7 @@ const FILLING: [u8; BLOCK_SIZE] = [
 pub fn filling(used: usize) -> &'static [u8]
     requires { used < 64 }
     // The result is the byte 0x80 and the fewest zeros that make the number of bytes 56 modulo 64.
-    ensures { result.now ≡ filling used }
+    ensures { result.now ≡ padding_octets used }
 {
     &FILLING[..(119 - used) % BLOCK_SIZE + 1]
 }

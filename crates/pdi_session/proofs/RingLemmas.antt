@@ -9,7 +9,7 @@ use Rattle.pdi_session.specs.packing.UnitText.{AreMessages, IsMessage, piece}
 use Rattle.octets.proofs.RingPlaces.{behind-inside, far_next, far_none, far_other}
 use Rattle.octets.specs.RingPlaces.{IsFar, place_behind}
 use Rattle.pdi_session.specs.packing.Ring.{IsMoved, IsRing, messages_from, no_message}
-use Rattle.pdi_session.specs.Counted.{is_item, items_in}
+use Rattle.pdi_session.specs.TelegramCounts.{is_item, items_in}
 use Rattle.pdi_session.specs.telegram.Places.{tele_seen}
 
 pub length-messages_from : (ps : List (ArrayVec ℕ)) (p k : ℕ) → length (messages_from ps p k) ≡ k

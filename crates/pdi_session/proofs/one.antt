@@ -1,9 +1,9 @@
 -- One session, row by row of its tables and over every list of events.
 pub mod TableLemmas
-pub mod Growing
+pub mod Growth
 pub mod Rows
 pub mod RowLaws
-pub mod Added
+pub mod AddedTelegrams
 pub mod ItemLists
 pub mod Shapes
 pub mod IlSteps

@@ -3,5 +3,5 @@ pub mod SessionRow
 pub mod PhaseLemma
 pub mod PhaseFails
 pub mod JointSteps
-pub mod Matching
+pub mod MatchingSessions
 pub mod InStep

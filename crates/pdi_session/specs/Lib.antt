@@ -2,7 +2,7 @@ pub mod telegram
 pub mod packing
 pub mod Settings
 pub mod Telegrams
-pub mod Counted
+pub mod TelegramCounts
 pub mod Tables
 pub mod SessionStep
 pub mod Histories

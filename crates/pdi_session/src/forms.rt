@@ -7,9 +7,10 @@ use super::{
     CHECKSUM_MAX, DIFFERENT, EQUAL, Form, INITIALISATION_COMPLETED, INITIALISATION_REQUEST, Notice,
     START_INITIALISATION, VERSION_ANSWER, VERSION_CHECK,
 };
+use crate::MessageType;
 
 /// Returns true if a message type is one of the five of the establishment.
-pub(crate) fn is_reserved(kind: u16) -> bool
+pub(crate) fn is_reserved(kind: MessageType) -> bool
     // `is_reserved` is true for 0x0021 to 0x0025, the five message types of the establishment, and for no other.
     ensures { result ≡ is_reserved kind }
 {
@@ -75,7 +76,7 @@ fn bare_form(notice: Notice, payload: &[u8]) -> Form
 }
 
 /// Returns the form of a telegram.
-pub(crate) fn form_of(kind: u16, payload: &[u8]) -> Form
+pub(crate) fn form_of(kind: MessageType, payload: &[u8]) -> Form
     // A message type of the establishment is read by its own layout; any other is a command or status, with any
     // payload.
     ensures { result ≡ form_of kind payload.now }

@@ -15,7 +15,7 @@ ghost use Rattle.pdi_session.specs.Tables.{detail_number};
 use crate::telegram::OwnedName;
 use arrayvec::ArrayVec;
 
-mod counting;
+mod counts;
 mod forms;
 mod law;
 mod messages;
@@ -24,25 +24,28 @@ mod session;
 mod tables;
 pub mod telegram;
 
-pub use counting::items_in_unit;
+pub use counts::items_in_unit;
 pub use law::{numbers_law, session_law};
 pub use session::{Session, are_versions};
 
+/// The number that says what a telegram is: its message type.
+pub type MessageType = u16;
+
 /// The message type of a version check, from the interlocking. Payload: version (1).
-pub const VERSION_CHECK: u16 = 0x0024;
+pub const VERSION_CHECK: MessageType = 0x0024;
 
 /// The message type of the reply to a version check, from the field element. Payload: result (1), version (1),
 /// length of the checksum (1, 0 to 16), checksum.
-pub const VERSION_ANSWER: u16 = 0x0025;
+pub const VERSION_ANSWER: MessageType = 0x0025;
 
 /// The message type of the request for initialisation, from the interlocking. It has no payload.
-pub const INITIALISATION_REQUEST: u16 = 0x0021;
+pub const INITIALISATION_REQUEST: MessageType = 0x0021;
 
 /// The message type of the start of the initialisation, from the field element. It has no payload.
-pub const START_INITIALISATION: u16 = 0x0022;
+pub const START_INITIALISATION: MessageType = 0x0022;
 
 /// The message type of the end of the initialisation, from the field element. It has no payload.
-pub const INITIALISATION_COMPLETED: u16 = 0x0023;
+pub const INITIALISATION_COMPLETED: MessageType = 0x0023;
 
 /// The result of a version check if the field element does not have the interlocking's version.
 const DIFFERENT: u8 = 1;
@@ -200,7 +203,7 @@ pub trait Taker {
     ghost takes: { Self → ℕ × List ℕ → Self → Type 0 };
 
     /// Processes a telegram's message type and payload (0 to 357 bytes).
-    fn take(&mut self, kind: u16, payload: &[u8])
+    fn take(&mut self, kind: MessageType, payload: &[u8])
         // `take` changes the value as the implementation's relation `takes` allows for this message type and
         // payload.
         ensures { takes self.old (kind, payload.now) self.new };

@@ -10,6 +10,7 @@ use super::{
     CHECKSUM_MAX, DIFFERENT, EQUAL, INITIALISATION_COMPLETED, INITIALISATION_REQUEST, Notice,
     Parties, START_INITIALISATION, VERSION_ANSWER, VERSION_CHECK,
 };
+use crate::MessageType;
 use crate::packing::Waiting;
 use crate::telegram::{Telegram, encode};
 use arrayvec::ArrayVec;
@@ -25,7 +26,7 @@ const SHORT_MESSAGE: usize = 64;
 /// Appends a telegram with this message type and payload to the waiting messages.
 pub(crate) fn add_telegram<A: Allocator>(
     parties: &Parties,
-    kind: u16,
+    kind: MessageType,
     payload: &[u8],
     waiting: &mut Waiting<A>,
 )
@@ -46,7 +47,7 @@ pub(crate) fn add_telegram<A: Allocator>(
 /// Encodes a telegram into `buffer` and appends it to the waiting messages.
 fn add_by<A: Allocator>(
     parties: &Parties,
-    kind: u16,
+    kind: MessageType,
     payload: &[u8],
     buffer: &mut [u8],
     waiting: &mut Waiting<A>,

@@ -17,6 +17,7 @@ use super::{
     FieldConfig, InitFault, InterlockingConfig, Notice, OwnSide, Parties, Phase, PutFault,
     SessionDetail, SessionEnd, Taker, VERSIONS_MAX, Verdict,
 };
+use crate::MessageType;
 use crate::forms::{form_of, is_reserved};
 use crate::messages::{add_notice, add_telegram};
 use crate::packing::Waiting;
@@ -131,7 +132,7 @@ impl Session {
 
     /// Starts the session when the connection is up: an interlocking sends its version, a field element waits for
     /// one. If the session is not Idle, nothing happens.
-    #[tactic(auto, using(crate::proofs::one::Growing::stands_on))]
+    #[tactic(auto, using(crate::proofs::one::Growth::stands_on))]
     pub fn up<A: Allocator>(&mut self, waiting: &mut Waiting<A>)
         requires room { HasRoom self.old waiting.old }
         // `up` changes only the phase, and only of an idle session: an interlocking goes to Checking, a field
@@ -165,7 +166,7 @@ impl Session {
     /// - `NotOfThisPair` if the protocol type, the sender or the receiver is another;
     /// - `VersionDiffers` if an interlocking in Checking receives the reply with result 1;
     /// - `OutOfOrder` if the table has no row for the phase and the telegram.
-    #[tactic(auto, using(crate::proofs::one::Growing::stands_on))]
+    #[tactic(auto, using(crate::proofs::one::Growth::stands_on))]
     pub fn arrive<A: Allocator, T: Taker>(
         &mut self,
         telegram: &Telegram<'_>,
@@ -223,7 +224,7 @@ impl Session {
     /// # Errors
     ///
     /// Those of `arrive`.
-    #[tactic(auto, using(crate::proofs::one::Growing::stands_on))]
+    #[tactic(auto, using(crate::proofs::one::Growth::stands_on))]
     pub fn arrive_known<A: Allocator, T: Taker>(
         &mut self,
         telegram: &Telegram<'_>,
@@ -279,10 +280,10 @@ impl Session {
     /// - `Full` if 64 messages wait;
     /// - `ReservedType` if the message type is one of the establishment;
     /// - `TooLong` if the payload has more than 357 bytes.
-    #[tactic(auto, using(crate::proofs::one::Growing::stands_on))]
+    #[tactic(auto, using(crate::proofs::one::Growth::stands_on))]
     pub fn put<A: Allocator>(
         &self,
-        kind: u16,
+        kind: MessageType,
         payload: &[u8],
         waiting: &mut Waiting<A>,
     ) -> Result<(), PutFault>
@@ -327,7 +328,7 @@ impl Session {
     ///
     /// - `NotInitialising` if this is not a field element in Initialising;
     /// - `Full` if 64 messages wait.
-    #[tactic(auto, using(crate::proofs::one::Growing::stands_on))]
+    #[tactic(auto, using(crate::proofs::one::Growth::stands_on))]
     pub fn init_done<A: Allocator>(&mut self, waiting: &mut Waiting<A>) -> Result<(), InitFault>
         // `init_done` succeeds if and only if nothing in `init_refusal` applies; otherwise it returns the first
         // that does.
@@ -359,7 +360,7 @@ impl Session {
     }
 
     /// Ends the session when the connection is closed.
-    #[tactic(auto, using(crate::proofs::one::Growing::stands_on))]
+    #[tactic(auto, using(crate::proofs::one::Growth::stands_on))]
     pub fn end(&mut self)
         // `end` sets the phase to Ended and keeps the settings.
         ensures left { self.new ≡ after Event.Closes self.old }

@@ -8,6 +8,7 @@ ghost use Rattle.std.specs.Prelude.{◌≡◌};
 ghost use Rattle.pdi_session.specs.telegram.FaultNames.{telegram_name, telegram_number};
 ghost use Rattle.pdi_session.specs.telegram.Names.{IsName};
 
+use crate::MessageType;
 use arrayvec::ArrayString;
 use octets::limits::MESSAGE_MIN;
 
@@ -66,7 +67,7 @@ pub struct Telegram<'a> {
     /// The protocol type.
     pub protocol: u8,
     /// The message type.
-    pub kind: u16,
+    pub kind: MessageType,
     /// The name of the end that sent it.
     pub sender: Name<'a>,
     /// The name of the end that it is for.

@@ -5,7 +5,7 @@ pub mod HexText
 pub mod Names
 pub mod Reports
 pub mod Pieces
-pub mod Leavings
+pub mod DisconnectReasons
 pub mod Causes
 pub mod LogLines
-pub mod Endings
+pub mod LastLines

@@ -18,8 +18,8 @@ abbrev pub refusal_line : List ℕ → List ℕ
 refusal_line name = join_pieces (codes "refused " ∷ name ∷ codes "\n" ∷ [])
 
 -- END STATE PHASE put N taken N
-abbrev pub standing_line : List ℕ → EndReport → List ℕ
-standing_line side s =
+abbrev pub state_line : List ℕ → EndReport → List ℕ
+state_line side s =
     join_pieces
     (side ∷ codes " " ∷ state_name s.state ∷ codes " " ∷ phase_name s.phase ∷ codes " put " ∷ decimal s.put ∷ codes " taken " ∷ decimal s.taken
     ∷ codes "\n" ∷ [])
@@ -31,4 +31,4 @@ none_line side = join_pieces (side ∷ codes " none\n" ∷ [])
 -- the state of an end, or that it was never opened
 abbrev pub report_line : Side → Option EndReport → List ℕ
 report_line side None = none_line (side_name side)
-report_line side (Some s) = standing_line (side_name side) s
+report_line side (Some s) = state_line (side_name side) s

@@ -7,7 +7,7 @@ ghost use Rattle.pdu_text.specs.Causes as causes;
 use crate::write_text;
 use red_layer::RedEvent;
 use safe_machine::DropCause;
-use safe_pdu::SafeFault;
+use safe_pdu::{Identifier, SafeFault};
 use std::io;
 use std::io::Write;
 
@@ -21,13 +21,13 @@ pub enum Cause {
     /// Its sender and receiver are not the two ends of this connection.
     Stranger {
         /// The identifier of its sender.
-        sender: u32,
+        sender: Identifier,
         /// The identifier of the end that it is for.
-        receiver: u32,
+        receiver: Identifier,
         /// The identifier of the peer.
-        peer_id: u32,
+        peer_id: Identifier,
         /// The identifier of this end.
-        id: u32,
+        id: Identifier,
     },
     /// It has the length of a PDU with another safety code.
     OtherCode {
@@ -60,10 +60,10 @@ pub(crate) fn write_cause<W: Write>(writer: &mut W, cause: Cause) -> io::Result<
 #[tactic(auto, unfolding(crate::specs::Causes::stranger_text))]
 fn write_stranger<W: Write>(
     writer: &mut W,
-    sender: u32,
-    receiver: u32,
-    peer_id: u32,
-    id: u32,
+    sender: Identifier,
+    receiver: Identifier,
+    peer_id: Identifier,
+    id: Identifier,
 ) -> io::Result<()>
     // If it succeeds, `write_stranger` has appended the text with all four identifiers in decimal.
     ensures { OnOk result (Appends (W.contents writer.old) (W.contents writer.new)

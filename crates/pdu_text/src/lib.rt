@@ -9,9 +9,9 @@
 
 mod causes;
 mod datagram;
-mod endings;
+mod disconnect_reasons;
 mod hex_text;
-mod leavings;
+mod last_lines;
 mod lines;
 mod messages;
 mod names;
@@ -21,8 +21,8 @@ mod texts;
 
 pub use causes::Cause;
 pub use datagram::show;
-pub use endings::{Departure, FinalState, write_ending};
 pub use hex_text::{HexFault, hex_octets, initial_value};
+pub use last_lines::{Departure, FinalState, write_ending};
 pub use lines::{EndEvent, write_channel, write_happening, write_missed};
 pub use messages::show_body;
 pub use names::{phase_name, red_cause, side_letter, side_name, state_name, step_cause};

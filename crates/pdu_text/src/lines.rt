@@ -6,7 +6,7 @@ ghost use Rattle.pdu_text.specs.LogLines as lines;
 ghost use Rattle.pdu_text.specs.Pieces.{log_line};
 
 use crate::causes::{Cause, write_cause};
-use crate::leavings::write_leaving;
+use crate::disconnect_reasons::write_leaving;
 use crate::names::{phase_name, state_name};
 use crate::pieces::write_front;
 use crate::write_text;
@@ -62,7 +62,7 @@ pub fn write_happening<W: Write>(
     // If it succeeds, `write_happening` has appended a line: the time in seconds with three decimals, the
     // name of the end, and the text of the event.
     ensures { OnOk result (Appends (W.contents writer.old) (W.contents writer.new)
-        (log_line at side (lines.happening_text happening))) }
+        (log_line at side (lines.end_event_text happening))) }
 {
     write_front(writer, at, side)?;
     write_what(writer, happening)?;
@@ -73,7 +73,7 @@ pub fn write_happening<W: Write>(
 fn write_what<W: Write>(writer: &mut W, happening: EndEvent) -> io::Result<()>
     // If it succeeds, `write_what` has appended the text of the event.
     ensures { OnOk result (Appends (W.contents writer.old) (W.contents writer.new)
-        (lines.happening_text happening)) }
+        (lines.end_event_text happening)) }
 {
     match happening {
         EndEvent::State(state) => write_state(writer, state_name(state)),
@@ -115,21 +115,21 @@ fn write_phase<W: Write>(writer: &mut W, name: &str) -> io::Result<()>
 }
 
 /// Writes that an end was opened again.
-#[tactic(auto, unfolding(crate::specs::LogLines::anew_text))]
+#[tactic(auto, unfolding(crate::specs::LogLines::reopened_text))]
 fn write_anew<W: Write>(writer: &mut W, number: u32) -> io::Result<()>
     // If it succeeds, `write_anew` has appended that the end is opened again, with its first sequence
     // number in decimal.
-    ensures { OnOk result (Appends (W.contents writer.old) (W.contents writer.new) (lines.anew_text number)) }
+    ensures { OnOk result (Appends (W.contents writer.old) (W.contents writer.new) (lines.reopened_text number)) }
 {
     write!(writer, "reopened, first sequence number {number}")
 }
 
 /// Writes that a telegram was not accepted.
-#[tactic(auto, unfolding(crate::specs::LogLines::refused_text))]
+#[tactic(auto, unfolding(crate::specs::LogLines::refusal_text))]
 fn write_refused<W: Write>(writer: &mut W, name: &str) -> io::Result<()>
     // If it succeeds, `write_refused` has appended that a telegram was not put in, and the name of the
     // fault.
-    ensures { OnOk result (Appends (W.contents writer.old) (W.contents writer.new) (lines.refused_text name.now)) }
+    ensures { OnOk result (Appends (W.contents writer.old) (W.contents writer.new) (lines.refusal_text name.now)) }
 {
     write!(writer, "telegram not accepted: {name}")
 }
@@ -158,21 +158,21 @@ fn write_silent<W: Write>(writer: &mut W, channel: usize) -> io::Result<()>
 }
 
 /// Writes that something came on a channel again.
-#[tactic(auto, unfolding(crate::specs::LogLines::heard_text))]
+#[tactic(auto, unfolding(crate::specs::LogLines::recovered_text))]
 fn write_heard<W: Write>(writer: &mut W, channel: usize) -> io::Result<()>
     // If it succeeds, `write_heard` has appended that something comes on the channel with this number
     // again.
-    ensures { OnOk result (Appends (W.contents writer.old) (W.contents writer.new) (lines.heard_text channel)) }
+    ensures { OnOk result (Appends (W.contents writer.old) (W.contents writer.new) (lines.recovered_text channel)) }
 {
     write!(writer, "channel {channel} receives again")
 }
 
 /// Writes that a datagram was dropped, and why.
-#[tactic(auto, unfolding(crate::specs::LogLines::dropped_text))]
+#[tactic(auto, unfolding(crate::specs::LogLines::drop_text))]
 fn write_dropped<W: Write>(writer: &mut W, channel: usize, cause: Cause) -> io::Result<()>
     // If it succeeds, `write_dropped` has appended which datagram was dropped and the words for the cause.
     ensures { OnOk result (Appends (W.contents writer.old) (W.contents writer.new)
-        (lines.dropped_text channel cause)) }
+        (lines.drop_text channel cause)) }
 {
     write_drop_front(writer, channel)?;
     write_cause(writer, cause)?;
@@ -260,7 +260,7 @@ pub fn write_missed<W: Write>(
     // If it succeeds, `write_missed` has appended a line: the time in seconds, the name of the end, and how
     // many lines were left out.
     ensures { OnOk result (Appends (W.contents writer.old) (W.contents writer.new)
-        (log_line at side (lines.missed_text count))) }
+        (log_line at side (lines.missing_lines_text count))) }
 {
     write_front(writer, at, side)?;
     write_count(writer, count)?;
@@ -268,10 +268,10 @@ pub fn write_missed<W: Write>(
 }
 
 /// Writes how many lines were left out.
-#[tactic(auto, unfolding(crate::specs::LogLines::missed_text))]
+#[tactic(auto, unfolding(crate::specs::LogLines::missing_lines_text))]
 fn write_count<W: Write>(writer: &mut W, count: u64) -> io::Result<()>
     // If it succeeds, `write_count` has appended the number of lines left out in decimal, and why.
-    ensures { OnOk result (Appends (W.contents writer.old) (W.contents writer.new) (lines.missed_text count)) }
+    ensures { OnOk result (Appends (W.contents writer.old) (W.contents writer.new) (lines.missing_lines_text count)) }
 {
     write!(
         writer,

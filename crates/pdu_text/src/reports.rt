@@ -7,7 +7,7 @@ ghost use Rattle.pdu_text.specs.Reports as lines;
 use crate::names::{phase_name, side_name, state_name};
 use crate::{write_hex, write_octets, write_text};
 use end_settings::Side;
-use pdi_session::Phase;
+use pdi_session::{MessageType, Phase};
 use safe_machine::ConnectionState;
 use std::io;
 use std::io::Write;
@@ -27,7 +27,12 @@ pub struct EndReport {
 
 /// Writes the line of a telegram that an application takes: its message type, and its payload in hex
 /// digits.
-pub fn write_take<W: Write>(writer: &mut W, side: Side, kind: u16, payload: &[u8]) -> io::Result<()>
+pub fn write_take<W: Write>(
+    writer: &mut W,
+    side: Side,
+    kind: MessageType,
+    payload: &[u8],
+) -> io::Result<()>
     // If it succeeds, `write_take` has appended the line: the end, "takes", the message type and the
     // payload in hex digits (a dash if empty).
     ensures { OnOk result (Appends (W.contents writer.old) (W.contents writer.new)
@@ -70,7 +75,7 @@ fn write_standing<W: Write>(writer: &mut W, side: &str, standing: &EndReport) ->
     // If it succeeds, `write_standing` has appended the line with state, phase, and the counts of telegrams
     // put and taken in decimal.
     ensures { OnOk result (Appends (W.contents writer.old) (W.contents writer.new)
-        (lines.standing_line side.now standing.now)) }
+        (lines.state_line side.now standing.now)) }
 {
     let state = state_name(standing.state);
     let phase = phase_name(standing.phase);

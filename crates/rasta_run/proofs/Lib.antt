@@ -1,5 +1,5 @@
-pub mod Offers
-pub mod Kept
+pub mod PutLemmas
+pub mod BacklogLemmas
 pub mod Fields
 pub mod Dates
-pub mod Readings
+pub mod NextLines

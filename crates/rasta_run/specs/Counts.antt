@@ -5,17 +5,17 @@ use Rattle.std.specs.List.{flat_map}
 use Rattle.end_settings.specs.declared.Side.{Side}
 use Rattle.rasta_run.specs.declared.counts.ChannelCounts.{ChannelCounts}
 use Rattle.rasta_run.specs.declared.counts.RunCounts.{RunCounts}
-use Rattle.rasta_run.specs.declared.counting.Teller.{Teller}
-use Rattle.rasta_run.specs.declared.logging.ChannelSilence.{ChannelSilence}
-use Rattle.rasta_run.specs.Counting.{accepted_count, dropped_count, failures_in, no_datagrams, oldest}
-use Rattle.rasta_run.specs.Silence.{hears_all}
+use Rattle.rasta_run.specs.declared.counts_text.CountsPrinter.{CountsPrinter}
+use Rattle.rasta_run.specs.declared.log.ChannelSilence.{ChannelSilence}
+use Rattle.rasta_run.specs.Counters.{accepted_count, dropped_count, failures_in, no_datagrams, oldest}
+use Rattle.rasta_run.specs.Silence.{all_silences}
 use Rattle.rasta_run.specs.Totals.{sum}
-use Rattle.stack_end.specs.Statistics.{none_received}
+use Rattle.stack_end.specs.Statistics.{no_reception_counts}
 use Rattle.stack_end.specs.declared.statistics.ReceptionCounts.{ReceptionCounts}
 use Rattle.rasta_words.specs.declared.status.CountsRequest.{CountsRequest}
 use Rattle.pdu_text.specs.Lines.{join_pieces}
-use Rattle.rasta_run.specs.declared.counting.LineForm.{LineForm}
-use Rattle.rasta_run.specs.declared.counting.LineForm.TheVariants.{Text, Json}
+use Rattle.rasta_run.specs.declared.counts_text.LineForm.{LineForm}
+use Rattle.rasta_run.specs.declared.counts_text.LineForm.TheVariants.{Text, Json}
 use Rattle.rasta_words.specs.declared.status.CountsForm.{CountsForm}
 use Rattle.rasta_words.specs.declared.status.CountsForm.TheVariants as counts
 use Rattle.pdu_text.specs.Names.{side_name}
@@ -108,18 +108,18 @@ connection_text form at side c t_max =
     ∷ fields_text form ((codes "put", c.put) ∷ (codes "taken", c.taken) ∷ []) ∷ end_of form ∷ [])
 
 -- when the channel at a place last received something
-abbrev pub heard_at : List ChannelSilence → ℕ → ℕ
-heard_at heard place = (slice_index_or heard place (record { came = 0; at = 0; silent = false })).at
+abbrev pub last_reception_at : List ChannelSilence → ℕ → ℕ
+last_reception_at heard place = (slice_index_or heard place (record { came = 0; at = 0; silent = false })).at
 
 -- the line of the channel at a place, from 0, if the end has it
-unfoldable pub place_text : Teller → LineForm → ℕ → RunCounts → ℕ → List ℕ
+unfoldable pub place_text : CountsPrinter → LineForm → ℕ → RunCounts → ℕ → List ℕ
 place_text t form at c place =
     if nat_le t.count place then []
-    else channel_text form at t.side (place + 1) (slice_index_or c.sums.channels place none_received) (slice_index_or c.channels place no_datagrams)
-    (failures_in c place).receives.count (heard_at t.heard place)
+    else channel_text form at t.side (place + 1) (slice_index_or c.sums.channels place no_reception_counts) (slice_index_or c.channels place no_datagrams)
+    (failures_in c place).receives.count (last_reception_at t.heard place)
 
 -- the lines of the channels and of the connection
-unfoldable pub all_text : Teller → LineForm → ℕ → RunCounts → List ℕ
+unfoldable pub all_text : CountsPrinter → LineForm → ℕ → RunCounts → List ℕ
 all_text t form at c =
     join_pieces
     (place_text t form at c 0 ∷ place_text t form at c 1 ∷ place_text t form at c 2 ∷ place_text t form at c 3
@@ -148,13 +148,13 @@ has_block None = false
 has_block (Some telling) = is_block telling.form
 
 -- these lines, if there is a form of lines
-abbrev pub text_by : Option LineForm → Teller → ℕ → RunCounts → List ℕ
+abbrev pub text_by : Option LineForm → CountsPrinter → ℕ → RunCounts → List ℕ
 text_by None t at c = []
 text_by (Some form) t at c = all_text t form at c
 
 -- what is printed of the counts at this time in milliseconds of the run
-abbrev pub told_text : Teller → ℕ → RunCounts → List ℕ
-told_text t at c = text_by (line_form t.telling) t at c
+abbrev pub printed_counts : CountsPrinter → ℕ → RunCounts → List ℕ
+printed_counts t at c = text_by (line_form t.telling) t at c
 
 -- nothing is printed
 abbrev pub is_off_by : Option CountsRequest → Bool
@@ -162,7 +162,7 @@ is_off_by None = true
 is_off_by (Some telling) = false
 
 -- there is no form
-abbrev pub is_off : Teller → Bool
+abbrev pub is_off : CountsPrinter → Bool
 is_off t = is_off_by t.telling
 
 -- counts are due: the next time for them is reached
@@ -186,14 +186,14 @@ next_by true telling next now = next_after telling now
 next_by false telling next now = next
 
 -- the printer after a look at what is counted: it records which channels received something
-abbrev pub look_at : Teller → RunCounts → ℕ → Teller
+abbrev pub look_at : CountsPrinter → RunCounts → ℕ → CountsPrinter
 look_at t c now =
-    record t { next = next_by (is_due t.next now) t.telling t.next now; heard = hears_all c.sums.channels t.count now (2 ^ 64 - 1) t.heard }
+    record t { next = next_by (is_due t.next now) t.telling t.next now; heard = all_silences c.sums.channels t.count now (2 ^ 64 - 1) t.heard }
 
 -- the same, if counts are printed
-abbrev pub look : Teller → RunCounts → ℕ → Teller
+abbrev pub look : CountsPrinter → RunCounts → ℕ → CountsPrinter
 look t c now = if is_off t then t else look_at t c now
 
 -- counts are printed, and their time is reached
-abbrev pub is_telling_due : Teller → ℕ → Bool
-is_telling_due t now = not (is_off t) && is_due t.next now
+abbrev pub is_printing_due : CountsPrinter → ℕ → Bool
+is_printing_due t now = not (is_off t) && is_due t.next now

@@ -4,7 +4,7 @@ use Rattle.std.specs.Fmt.{decimal}
 use Rattle.end_settings.specs.declared.Side.{Side}
 use Rattle.pdu_text.specs.Lines.{join_pieces}
 use Rattle.pdu_text.specs.Names.{side_name}
-use Rattle.rasta_run.specs.Counting.{accepted_count, failures_in, no_datagrams, oldest}
+use Rattle.rasta_run.specs.Counters.{accepted_count, failures_in, no_datagrams, oldest}
 use Rattle.rasta_run.specs.Counts.{margin_of}
 use Rattle.rasta_run.specs.Totals.{sum}
 use Rattle.rasta_run.specs.declared.counts.ChannelCounts.{ChannelCounts}
@@ -14,7 +14,7 @@ use Rattle.rasta_run.specs.declared.metrics.EndMetric.{EndMetric}
 use Rattle.rasta_run.specs.declared.metrics.EndMetric.TheVariants as end
 use Rattle.rasta_run.specs.declared.metrics.Sample.{Sample}
 use Rattle.rasta_run.specs.declared.metrics.Samples.{Samples}
-use Rattle.stack_end.specs.Statistics.{none_received}
+use Rattle.stack_end.specs.Statistics.{no_reception_counts}
 use Rattle.stack_end.specs.declared.statistics.ReceptionCounts.{ReceptionCounts}
 use Rattle.udp_channels.specs.declared.sockets.Failures.{Failures}
 
@@ -216,7 +216,7 @@ unfoldable pub place_text : ChannelMetric → Sample → ℕ → List ℕ
 place_text m s place =
     if nat_le s.count place then []
     else channel_line (channel_name m) (channel_cause m) s.side (place + 1)
-    (channel_number m (slice_index_or s.counted.sums.channels place none_received) (slice_index_or s.counted.channels place no_datagrams)
+    (channel_number m (slice_index_or s.counted.sums.channels place no_reception_counts) (slice_index_or s.counted.channels place no_datagrams)
     (failures_in s.counted place))
 
 -- the lines of the channels of an end
@@ -272,8 +272,8 @@ drops_text s =
     ∷ channel_text channel.Full s ∷ channel_text channel.Damaged s ∷ channel_text channel.Stranger s ∷ [])
 
 -- the PDUs that ends made
-unfoldable pub made_text : Samples → List ℕ
-made_text s =
+unfoldable pub made_pdus_text : Samples → List ℕ
+made_pdus_text s =
     join_pieces
     (end_metric end.Units s ∷ end_metric end.Resent s
     ∷ end_metric end.Heartbeats s
@@ -282,16 +282,16 @@ made_text s =
     ∷ end_metric end.Confirmed s ∷ [])
 
 -- the PDUs that ends dropped for their code, their identifiers or their state
-unfoldable pub rejected_text : Samples → List ℕ
-rejected_text s = join_pieces (end_metric end.Damaged s ∷ end_text end.Stranger s ∷ end_text end.Unopened s ∷ [])
+unfoldable pub rejections_text : Samples → List ℕ
+rejections_text s = join_pieces (end_metric end.Damaged s ∷ end_text end.Stranger s ∷ end_text end.Unopened s ∷ [])
 
 -- the PDUs that ends dropped for their numbers
-unfoldable pub misplaced_text : Samples → List ℕ
-misplaced_text s = join_pieces (end_text end.Far s ∷ end_text end.Unrequested s ∷ end_text end.Repeated s ∷ end_text end.Below s ∷ [])
+unfoldable pub misplacements_text : Samples → List ℕ
+misplacements_text s = join_pieces (end_text end.Far s ∷ end_text end.Unrequested s ∷ end_text end.Repeated s ∷ end_text end.Below s ∷ [])
 
 -- the PDUs that ends received
 unfoldable pub parts_text : Samples → List ℕ
-parts_text s = join_pieces (end_metric end.Accepted s ∷ rejected_text s ∷ misplaced_text s ∷ [])
+parts_text s = join_pieces (end_metric end.Accepted s ∷ rejections_text s ∷ misplacements_text s ∷ [])
 
 -- telegrams and times
 unfoldable pub telegrams_text : Samples → List ℕ
@@ -304,4 +304,4 @@ telegrams_text s =
 
 -- all metrics; the last line is a comment that ends them
 unfoldable pub block_text : Samples → List ℕ
-block_text s = join_pieces (traffic_text s ∷ drops_text s ∷ made_text s ∷ parts_text s ∷ telegrams_text s ∷ codes "# EOF\n" ∷ [])
+block_text s = join_pieces (traffic_text s ∷ drops_text s ∷ made_pdus_text s ∷ parts_text s ∷ telegrams_text s ∷ codes "# EOF\n" ∷ [])

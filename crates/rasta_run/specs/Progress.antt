@@ -1,21 +1,21 @@
 -- When a run until the end of input gives up: T_max after it last got on.
 use Rattle.std.specs.Prelude.{ℕ, ◌+◌, ◌-◌, ◌^◌, min, nat_eq, nat_le, nat_lt, Bool, false, not, ◌&&◌, ◌||◌, Option, Some, None, if◌then◌else◌}
-use Rattle.rasta_run.specs.declared.progress.Gained.{Gained}
+use Rattle.rasta_run.specs.declared.progress.ProgressMarks.{ProgressMarks}
 use Rattle.rasta_run.specs.declared.progress.Progress.{Progress}
 use Rattle.safe_machine.specs.declared.ConnectionState.{ConnectionState}
 use Rattle.safe_machine.specs.declared.ConnectionState.TheVariants.{Closed, Down, Start, Up, RetrReq, RetrRun}
 
 -- at the opening of an end nothing is gained
-abbrev pub beginning : ℕ → Progress
-beginning at = record { gained = record { put = 0; confirmed = 0; openings = 0 }; at = at }
+abbrev pub new_progress : ℕ → Progress
+new_progress at = record { gained = record { put = 0; confirmed = 0; openings = 0 }; at = at }
 
 -- the same telegrams were put and confirmed, in as many openings
-abbrev pub is_same : Gained → Gained → Bool
+abbrev pub is_same : ProgressMarks → ProgressMarks → Bool
 is_same a b = nat_eq a.put b.put && (nat_eq a.confirmed b.confirmed && nat_eq a.openings b.openings)
 
 -- when an end last got on: now, if anything of what it has gained is new; while it waits for its peer the time does not count
-abbrev pub got_on : Gained → (waits : Bool) → ℕ → Progress → Progress
-got_on gained waits now p = if is_same gained p.gained && not waits then p else record { gained = gained; at = now }
+abbrev pub progress_after : ProgressMarks → (waits : Bool) → ℕ → Progress → Progress
+progress_after gained waits now p = if is_same gained p.gained && not waits then p else record { gained = gained; at = now }
 
 -- an end that is kept waits for its peer as long as it has no connection
 abbrev pub waits_for_peer : ConnectionState → (kept : Bool) → Bool

@@ -8,11 +8,11 @@ use Rattle.rasta_words.specs.declared.status.Status.{Status}
 use Rattle.rasta_words.specs.declared.status.Status.TheVariants.{Done, Refused, WrongWords, Failed}
 
 -- want of memory is refused; help and version are not a fault, but their output can fail; anything else is a wrong command line
-abbrev pub EndsBy : WordsFault → Status → Type 0
-EndsBy (Words error) status =
+abbrev pub EndsWithStatus : WordsFault → Status → Type 0
+EndsWithStatus (Words error) status =
     (kind_of error ≡ kind.OutOfMemory → status ≡ Refused)
     × (kind_of error ≢ kind.OutOfMemory → kind_of error ≢ kind.DisplayHelp → kind_of error ≢ kind.DisplayVersion → status ≡ WrongWords)
     × ((kind_of error ≡ kind.DisplayHelp) ⊎ (kind_of error ≡ kind.DisplayVersion) → (status ≡ Done) ⊎ (status ≡ Failed))
-EndsBy (Rejected rejection) status = status ≡ WrongWords
-EndsBy NotText status = status ≡ WrongWords
-EndsBy (Memory error) status = status ≡ Refused
+EndsWithStatus (Rejected rejection) status = status ≡ WrongWords
+EndsWithStatus NotText status = status ≡ WrongWords
+EndsWithStatus (Memory error) status = status ≡ Refused

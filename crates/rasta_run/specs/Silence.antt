@@ -1,11 +1,11 @@
 -- When a channel is logged as silent, and when it receives again.
 use Rattle.std.specs.Prelude.{ℕ, ◌+◌, ◌-◌, nat_eq, nat_le, nat_lt, Bool, true, false, List, slice_index_or, slice_set, Option, Some, None, if◌then◌else◌}
-use Rattle.rasta_run.specs.declared.logging.ChannelSilence.{ChannelSilence}
-use Rattle.rasta_run.specs.declared.logging.SilenceChange.{SilenceChange}
-use Rattle.rasta_run.specs.declared.logging.SilenceChange.TheVariants.{Nothing, Silent, Heard}
+use Rattle.rasta_run.specs.declared.log.ChannelSilence.{ChannelSilence}
+use Rattle.rasta_run.specs.declared.log.SilenceChange.{SilenceChange}
+use Rattle.rasta_run.specs.declared.log.SilenceChange.TheVariants.{Nothing, Silent, Heard}
 use Rattle.pdu_text.specs.declared.lines.EndEvent.{EndEvent}
 use Rattle.pdu_text.specs.declared.lines.EndEvent.TheVariants as happening
-use Rattle.stack_end.specs.Statistics.{none_received}
+use Rattle.stack_end.specs.Statistics.{no_reception_counts}
 use Rattle.stack_end.specs.declared.statistics.ReceptionCounts.{ReceptionCounts}
 
 -- the channel after a look: a datagram came, or none for longer than T_max
@@ -23,30 +23,30 @@ change_between true true = Nothing
 change_between false false = Nothing
 
 -- the change that is logged
-abbrev pub said_of : ChannelSilence → ChannelSilence → SilenceChange
-said_of l m = change_between l.silent m.silent
+abbrev pub silence_change_of : ChannelSilence → ChannelSilence → SilenceChange
+silence_change_of l m = change_between l.silent m.silent
 
 -- a channel that has received nothing since a time
-abbrev pub new_listening : ℕ → ChannelSilence
-new_listening at = record { came = 0; at = at; silent = false }
+abbrev pub new_silence : ℕ → ChannelSilence
+new_silence at = record { came = 0; at = at; silent = false }
 
 -- the channel at a place after a look at the counts of all
-abbrev pub heard_now : List ChannelSilence → List ReceptionCounts → (place now t_max : ℕ) → ChannelSilence
-heard_now ls rs place now t_max =
-    look_at_channel (slice_index_or ls place (new_listening 0)) (slice_index_or rs place none_received).received now t_max
+abbrev pub silence_now : List ChannelSilence → List ReceptionCounts → (place now t_max : ℕ) → ChannelSilence
+silence_now ls rs place now t_max =
+    look_at_channel (slice_index_or ls place (new_silence 0)) (slice_index_or rs place no_reception_counts).received now t_max
 
 -- the channels after a look at the one at a place, from 0, if the end has it
-abbrev pub hears_at : List ReceptionCounts → (count now t_max place : ℕ) → List ChannelSilence → List ChannelSilence
-hears_at rs count now t_max place ls =
-    if nat_le count place then ls else slice_set ls place (heard_now ls rs place now t_max)
+abbrev pub silences_at : List ReceptionCounts → (count now t_max place : ℕ) → List ChannelSilence → List ChannelSilence
+silences_at rs count now t_max place ls =
+    if nat_le count place then ls else slice_set ls place (silence_now ls rs place now t_max)
 
 -- the channels after a look at all of them
-abbrev pub hears_all : List ReceptionCounts → (count now t_max : ℕ) → List ChannelSilence → List ChannelSilence
-hears_all rs count now t_max ls =
-    hears_at rs count now t_max 3 (hears_at rs count now t_max 2 (hears_at rs count now t_max 1 (hears_at rs count now t_max 0 ls)))
+abbrev pub all_silences : List ReceptionCounts → (count now t_max : ℕ) → List ChannelSilence → List ChannelSilence
+all_silences rs count now t_max ls =
+    silences_at rs count now t_max 3 (silences_at rs count now t_max 2 (silences_at rs count now t_max 1 (silences_at rs count now t_max 0 ls)))
 
 -- the event of a change of a channel, numbered from 1
-abbrev pub said_event : SilenceChange → (channel : ℕ) → Option EndEvent
-said_event Nothing channel = None
-said_event Silent channel = Some (happening.Silent channel)
-said_event Heard channel = Some (happening.Heard channel)
+abbrev pub silence_event : SilenceChange → (channel : ℕ) → Option EndEvent
+silence_event Nothing channel = None
+silence_event Silent channel = Some (happening.Silent channel)
+silence_event Heard channel = Some (happening.Heard channel)

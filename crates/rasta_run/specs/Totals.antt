@@ -4,7 +4,7 @@ use Rattle.stack_end.specs.declared.statistics.MadeCounts.{MadeCounts}
 use Rattle.stack_end.specs.declared.statistics.PartCounts.{PartCounts}
 use Rattle.stack_end.specs.declared.statistics.ReceptionCounts.{ReceptionCounts}
 use Rattle.stack_end.specs.declared.statistics.Statistics.{Statistics}
-use Rattle.stack_end.specs.Statistics.{none_heard, none_made, none_received}
+use Rattle.stack_end.specs.Statistics.{no_part_counts, no_made_counts, no_reception_counts}
 
 -- the sum of two counts
 abbrev pub sum : ℕ → ℕ → ℕ
@@ -32,7 +32,7 @@ add_receptions c d =
 
 -- the counts of the channel at a place
 abbrev pub counts_at : List ReceptionCounts → ℕ → ReceptionCounts
-counts_at cs place = slice_index_or cs place none_received
+counts_at cs place = slice_index_or cs place no_reception_counts
 
 -- those of the channel at a place together
 abbrev pub receptions_at : List ReceptionCounts → List ReceptionCounts → ℕ → ReceptionCounts
@@ -74,9 +74,9 @@ add_made c d =
 abbrev pub none : Statistics
 none =
     record {
-      channels = none_received ∷ none_received ∷ none_received ∷ none_received ∷ [];
-      parts = none_heard;
-      made = none_made;
+      channels = no_reception_counts ∷ no_reception_counts ∷ no_reception_counts ∷ no_reception_counts ∷ [];
+      parts = no_part_counts;
+      made = no_made_counts;
       confirmed = 0;
     }
 
@@ -91,9 +91,9 @@ plus s t =
     }
 
 -- the datagrams received on one of the four channels
-abbrev pub received_at : List ReceptionCounts → ℕ → ℕ
-received_at cs place = (counts_at cs place).received
+abbrev pub received_count_at : List ReceptionCounts → ℕ → ℕ
+received_count_at cs place = (counts_at cs place).received
 
 -- the datagrams received on all four
-abbrev pub received_on : List ReceptionCounts → ℕ
-received_on cs = sum (sum (sum (received_at cs 0) (received_at cs 1)) (received_at cs 2)) (received_at cs 3)
+abbrev pub received_count : List ReceptionCounts → ℕ
+received_count cs = sum (sum (sum (received_count_at cs 0) (received_count_at cs 1)) (received_count_at cs 2)) (received_count_at cs 3)

@@ -2,12 +2,12 @@
 
 ghost use Rattle.std.specs.Prelude.{◌≡◌, ◌≢◌, ◌⊎◌, false, is_ok, IfErr, OnOk};
 ghost use Rattle.std.specs.Io.KnownBytes.{Appends};
-ghost use Rattle.settings_file.specs.Whole.{ends_seen};
+ghost use Rattle.settings_file.specs.FileContents.{ends_seen};
 ghost use Rattle.settings_text.specs.InForce.{settings_text};
-ghost use Rattle.rasta_run.specs.Checked.{HasChecked, checked_of};
+ghost use Rattle.rasta_run.specs.CheckOutput.{HasChecked, check_result_of};
 
-use crate::settings::{NoAddress, checked_ends, refuse, warn};
-use crate::unopened::tell_unread;
+use crate::opening_faults::tell_unread;
+use crate::settings::{NoAddress, check_ends, refuse, warn};
 use end_settings::Side;
 use rasta_words::{Fault, Status, report};
 use settings_file::{Ends, Settings};
@@ -31,11 +31,11 @@ pub fn run_check<O: Write, E: Write>(
     // written exactly these.
     ensures done { result ≡ Status.Done → HasChecked text.now (O.contents out.old) (O.contents out.new) }
     // If the text has no settings for the word that its keys show, `run_check` returns `Refused` and writes none.
-    ensures refused { is_ok (checked_of text.now) ≡ false → (result ≡ Status.Refused) × (out.new ≡ out.old) }
+    ensures refused { is_ok (check_result_of text.now) ≡ false → (result ≡ Status.Refused) × (out.new ≡ out.old) }
     // `run_check` never returns `WrongWords`.
     ensures words { result ≢ Status.WrongWords }
 {
-    let ends = match checked_ends(alloc, file, text, err) {
+    let ends = match check_ends(alloc, file, text, err) {
         Ok(ends) => ends,
         Err(status) => return status,
     };

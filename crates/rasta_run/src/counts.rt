@@ -1,7 +1,7 @@
 //! What is counted of an end in a run, modulo 2^64: by itself, and beside it.
 
 ghost use Rattle.std.specs.Prelude.{◌≡◌};
-ghost use Rattle.rasta_run.specs.Counting as counting;
+ghost use Rattle.rasta_run.specs.Counters as counting;
 
 use octets::limits::CHANNELS_MAX;
 use safe_machine::DropCause;
@@ -125,7 +125,7 @@ impl ChannelCounts {
 /// Counts a datagram that was to be sent on a channel, numbered from 1.
 pub fn count_sent(channels: &mut [ChannelCounts; CHANNELS_MAX], channel: usize, went: bool)
     // `count_sent` counts the datagram at its channel; a channel that no end has counts nothing.
-    ensures { channels.new ≡ counting.sent_on channel went channels.old }
+    ensures { channels.new ≡ counting.count_sent_on channel went channels.old }
 {
     if channel == 0 || channel > CHANNELS_MAX {
         return;
@@ -136,7 +136,7 @@ pub fn count_sent(channels: &mut [ChannelCounts; CHANNELS_MAX], channel: usize, 
 /// Counts a dropped part of a channel, numbered from 1.
 pub fn count_dropped(channels: &mut [ChannelCounts; CHANNELS_MAX], channel: usize, cause: DropCause)
     // `count_dropped` counts the part at its channel; a channel that no end has counts nothing.
-    ensures { channels.new ≡ counting.dropped_on channel cause channels.old }
+    ensures { channels.new ≡ counting.count_dropped_on channel cause channels.old }
 {
     if channel == 0 || channel > CHANNELS_MAX {
         return;

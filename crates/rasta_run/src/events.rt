@@ -1,7 +1,7 @@
 //! Which events of an end its log has, and what explains them.
 
 ghost use Rattle.std.specs.Prelude.{◌≡◌};
-ghost use Rattle.rasta_run.specs.Telling as telling;
+ghost use Rattle.rasta_run.specs.LogEvents as telling;
 
 use pdi_session::Phase;
 use pdu_text::{Cause, Departure, EndEvent};
@@ -13,7 +13,7 @@ use stack_end::Leaver;
 /// Returns the cause of a drop, if the event is one.
 pub fn dropped_cause(happening: EndEvent) -> Option<Cause>
     // `dropped_cause` returns the cause of a dropped datagram, and `None` for any other event.
-    ensures { result ≡ telling.dropped_cause happening }
+    ensures { result ≡ telling.cause_of_drop happening }
 {
     match happening {
         EndEvent::Dropped(_, cause) => Some(cause),
@@ -97,9 +97,9 @@ pub fn explanation_of(happening: EndEvent, departure: Option<Departure>) -> Opti
 }
 
 /// Returns a departure as the log states it.
-pub fn departure_told(departure: Option<stack_end::Departure>) -> Option<Departure>
-    // `departure_told` returns who disconnected with its reason and detail, and `None` if nobody did.
-    ensures { result ≡ telling.departure_told departure }
+pub fn logged_departure_of(departure: Option<stack_end::Departure>) -> Option<Departure>
+    // `logged_departure_of` returns who disconnected with its reason and detail, and `None` if nobody did.
+    ensures { result ≡ telling.logged_departure departure }
 {
     match departure {
         None => None,

@@ -3,7 +3,7 @@
 ghost use Rattle.std.specs.Prelude.{◌≡◌, ◌≢◌, None};
 ghost use Rattle.std.specs.Option.{option_copied};
 ghost use Rattle.pdu_text.specs.HexText.{initial_value_of};
-ghost use Rattle.rasta_run.specs.Following.{asked_under, end_of, form_of};
+ghost use Rattle.rasta_run.specs.FollowCommand.{options_under, end_of, form_of};
 
 use crate::program::report_file;
 use capture_text::{FollowOptions, FollowStatus, OutputForm};
@@ -45,7 +45,7 @@ pub fn run_follow<R: Read + Drop, O: Write, E: Write>(
 /// hex digits.
 fn ask_for(following: &FollowRequest<'_>) -> Option<FollowOptions>
     // `ask_for` passes each choice on, with the words of the initial value, and returns `None` if there are none.
-    ensures { result ≡ asked_under following.now (initial_value_of (option_copied following.now.iv)) }
+    ensures { result ≡ options_under following.now (initial_value_of (option_copied following.now.iv)) }
 {
     let initial_value = initial_value(following.iv)?;
     Some(FollowOptions {

@@ -5,7 +5,7 @@ ghost use Rattle.rasta_run.specs.Headers.{body_length, body_seen, code_seen, hea
 
 use octets::limits::{LEAVING_BODY, OPENING_BODY};
 use octets::places::{u16_at, u32_at};
-use safe_pdu::Kind;
+use safe_pdu::{Identifier, Kind};
 
 /// Where the type of the safety PDU ends, in bytes from the start of the datagram.
 const KIND_END: usize = 12;
@@ -25,9 +25,9 @@ pub struct Header {
     /// The redundancy number.
     pub number: u32,
     /// The identifier of the receiver.
-    pub receiver: u32,
+    pub receiver: Identifier,
     /// The identifier of the sender.
-    pub sender: u32,
+    pub sender: Identifier,
     /// The length of the safety code in bytes, if type and length of the datagram tell it.
     pub code: Option<u64>,
     /// The four bytes where a ConnReq or ConnResp has its version of RaSTA, as a little-endian number.

@@ -4,12 +4,12 @@
 
 ghost use Rattle.std.specs.Prelude.{◌≡◌, ◌⊎◌, ◌≤◌, ◌<◌, ◌++◌, [], Bool, List, ℕ, None, Some, false, true, is_some, length, nat_eq, nat_lt, IfErr, IfOk, OnErr, OnOk, IfSome};
 ghost use Rattle.std.specs.Io.KnownBytes.{Appends, Consumes, IsAtEnd};
-ghost use Rattle.rasta_run.specs.Feeding.{Reads, ReadsLine, ahead_most, cut_after, feed_place, input_of, is_done, is_open, is_wanted, IsNumbered, left_behind, line_read, line_seen, lines_left, next_line, none_text, one_more, unfed_line, unput_count};
+ghost use Rattle.rasta_run.specs.InputLines.{ReadsNextTelegram, ReadsLine, ahead_most, line_count_after, feed_place, input_of, is_done, is_open, is_wanted, IsNumbered, rest_after_line, line_read, line_seen, lines_left, next_line, none_text, one_more, unfed_line, unput_count};
 
 use crate::readiness::{Gate, Readiness, Stream};
 use octets::Milliseconds;
 use rasta_words::Fault;
-use settings_file::{Put, put};
+use settings_file::{PutEntry, put};
 use std::alloc::{AllocError, Global};
 use std::io;
 use std::io::{ErrorKind, Read, Write};
@@ -36,7 +36,7 @@ pub struct Feed<I: Read + Drop> {
     /// The bytes that were read and are not yet put.
     lines: Lines,
     /// The telegram that is to be put next.
-    pub next: Option<Put>,
+    pub next: Option<PutEntry>,
     /// The number of lines that are not telegrams.
     unread: u64,
     /// When it was at its end, in milliseconds of the run's clock.
@@ -143,7 +143,7 @@ impl<I: Read + Drop> Feed<I> {
     pub fn prepare<E: Write>(&mut self, alloc: Global, err: &mut E) -> Result<bool, Fault>
         // If no telegram is next, `prepare` cuts off the next line. The telegram that it spells is then next, and a
         // line that is not one is counted. It returns whether a telegram was next or a line was there.
-        ensures read { IfOk result (λ has. Reads (is_some self.old.ended) (input_of self.old) has (input_of self.new)) }
+        ensures read { IfOk result (λ has. ReadsNextTelegram (is_some self.old.ended) (input_of self.old) has (input_of self.new)) }
         // `prepare` reads nothing.
         ensures kept { (self.new.reader ≡ self.old.reader) × (self.new.ended ≡ self.old.ended) }
         // `prepare` fails only with `Memory`, and changes nothing then.
@@ -223,7 +223,7 @@ pub(crate) fn is_passing(kind: ErrorKind) -> bool {
 }
 
 /// Writes that a line of standard input is not a telegram.
-#[tactic(auto, unfolding(crate::specs::Feeding::none_text))]
+#[tactic(auto, unfolding(crate::specs::InputLines::none_text))]
 fn write_none<W: Write>(writer: &mut W, number: u64) -> io::Result<()>
     // If `write_none` succeeds, it has appended the message with the line's number.
     ensures { OnOk result (Appends (W.contents writer.old) (W.contents writer.new) (none_text number)) }
@@ -246,7 +246,7 @@ pub enum Line {
     /// No whole line is there.
     Missing,
     /// A telegram to be put.
-    Telegram(Put),
+    Telegram(PutEntry),
     /// Not a telegram; the number of the line, from 1.
     Other(u64),
 }
@@ -297,9 +297,9 @@ impl Lines {
         // If `next` returns a line that is not a telegram, its number is that of the lines cut so far.
         ensures numbered { IfOk result (λ line. IsNumbered line self.new.cut) }
         // If `next` succeeds, the bytes after the line are left, and all of them if no line was there.
-        ensures left { OnOk result (self.new.octets.items ≡ left_behind ended self.old.octets.items) }
+        ensures left { OnOk result (self.new.octets.items ≡ rest_after_line ended self.old.octets.items) }
         // If `next` succeeds, the number of lines has grown by 1, modulo 2^64, if a line was there.
-        ensures cut { OnOk result (self.new.cut ≡ cut_after ended self.old.octets.items self.old.cut) }
+        ensures cut { OnOk result (self.new.cut ≡ line_count_after ended self.old.octets.items self.old.cut) }
         // If an allocation fails, `next` changes nothing.
         ensures refused { OnErr result (self.new ≡ self.old) }
     {

@@ -8,7 +8,7 @@ ghost use Rattle.std.specs.Io.KnownBytes.{Appends};
 ghost use Rattle.octets.specs.declared.limits.TheConstants.{CHANNELS_MAX};
 ghost use Rattle.rasta_run.specs.Metrics as metrics;
 
-use crate::counting::margin_of;
+use crate::counts_text::margin_of;
 use crate::{ChannelCounts, RunCounts};
 use end_settings::Side;
 use octets::Milliseconds;
@@ -359,10 +359,10 @@ fn write_drops<W: Write>(writer: &mut W, samples: &Samples) -> io::Result<()>
 }
 
 /// Writes the PDUs that ends made.
-#[tactic(auto, unfolding(crate::specs::Metrics::made_text))]
+#[tactic(auto, unfolding(crate::specs::Metrics::made_pdus_text))]
 fn write_made<W: Write>(writer: &mut W, samples: &Samples) -> io::Result<()>
     // If `write_made` succeeds, it has appended the metrics of PDUs made and units confirmed.
-    ensures { OnOk result (Appends (W.contents writer.old) (W.contents writer.new) (metrics.made_text samples.now)) }
+    ensures { OnOk result (Appends (W.contents writer.old) (W.contents writer.new) (metrics.made_pdus_text samples.now)) }
 {
     write_end_metric(writer, EndMetric::Units, samples)?;
     write_end_metric(writer, EndMetric::Resent, samples)?;
@@ -384,10 +384,10 @@ fn write_parts<W: Write>(writer: &mut W, samples: &Samples) -> io::Result<()>
 }
 
 /// Writes the PDUs that ends dropped for their code, their identifiers or their state.
-#[tactic(auto, unfolding(crate::specs::Metrics::rejected_text))]
+#[tactic(auto, unfolding(crate::specs::Metrics::rejections_text))]
 fn write_rejected<W: Write>(writer: &mut W, samples: &Samples) -> io::Result<()>
     // If `write_rejected` succeeds, it has appended the metrics of these PDUs.
-    ensures { OnOk result (Appends (W.contents writer.old) (W.contents writer.new) (metrics.rejected_text samples.now)) }
+    ensures { OnOk result (Appends (W.contents writer.old) (W.contents writer.new) (metrics.rejections_text samples.now)) }
 {
     write_end_metric(writer, EndMetric::Damaged, samples)?;
     write_ends(writer, EndMetric::Stranger, samples)?;
@@ -395,10 +395,10 @@ fn write_rejected<W: Write>(writer: &mut W, samples: &Samples) -> io::Result<()>
 }
 
 /// Writes the PDUs that ends dropped for their numbers.
-#[tactic(auto, unfolding(crate::specs::Metrics::misplaced_text))]
+#[tactic(auto, unfolding(crate::specs::Metrics::misplacements_text))]
 fn write_misplaced<W: Write>(writer: &mut W, samples: &Samples) -> io::Result<()>
     // If `write_misplaced` succeeds, it has appended the metrics of these PDUs.
-    ensures { OnOk result (Appends (W.contents writer.old) (W.contents writer.new) (metrics.misplaced_text samples.now)) }
+    ensures { OnOk result (Appends (W.contents writer.old) (W.contents writer.new) (metrics.misplacements_text samples.now)) }
 {
     write_ends(writer, EndMetric::Far, samples)?;
     write_ends(writer, EndMetric::Unrequested, samples)?;

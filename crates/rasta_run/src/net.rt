@@ -4,29 +4,29 @@
 
 ghost use Rattle.std.specs.Prelude.{◌≡◌, ◌≢◌, ◌≤◌, ◌<◌, ◌^◌, ℕ, false, true, is_ok, is_some, length, IfOk, IfSome, None};
 ghost use Rattle.octets.specs.declared.limits.TheConstants.{TIME_MAX};
-ghost use Rattle.settings_file.specs.Whole.{ends_of};
-ghost use Rattle.rasta_run.specs.Reading.{settings_most};
-ghost use Rattle.rasta_run.specs.Pending.{longest_patience, unless_unread};
-ghost use Rattle.rasta_run.specs.Unopened.{fault_of_stop};
+ghost use Rattle.settings_file.specs.FileContents.{ends_of};
+ghost use Rattle.rasta_run.specs.FileLimit.{settings_most};
+ghost use Rattle.rasta_run.specs.Backlogs.{longest_patience, unless_unread};
+ghost use Rattle.rasta_run.specs.OpeningFaults.{fault_of_stop};
 ghost use Rattle.rasta_words.specs.Status.{status_of};
-ghost use Rattle.rasta_run.specs.Drawing.{Begins};
-ghost use Rattle.stack_end.specs.EndValue.{EndStands};
+ghost use Rattle.rasta_run.specs.FirstNumber.{TakesFirstNumber};
+ghost use Rattle.stack_end.specs.EndValue.{EndRepresents};
 ghost use Rattle.stack_end.specs.Ends.{opened_end};
-ghost use Rattle.udp_channels.specs.Sockets.{told_of};
+ghost use Rattle.udp_channels.specs.Sockets.{history_of};
 
 use crate::RecordedChannels;
-use crate::counting::Teller;
-use crate::drawing::{Draw, Random, first_number};
-use crate::keeping::Keeper;
-use crate::logging::Log;
+use crate::counts_text::CountsPrinter;
+use crate::keeper::Keeper;
+use crate::leftovers::{Outcome, run_status};
+use crate::log::Log;
+use crate::number_source::{NumberSource, Random, first_number};
+use crate::opening_faults::{StopCause, UnopenedChannels, fault_of, fault_of_end};
 use crate::recorder::ExpectedHeader;
-use crate::running::Runner;
+use crate::run_clock::RunClock;
+use crate::runner::Runner;
 use crate::settings::{NoAddress, read_ends, warn};
 use crate::streams::Streams;
-use crate::ticking::RunClock;
 use crate::turns::Actor;
-use crate::undone::{Outcome, run_status};
-use crate::unopened::{StopCause, Unopened, fault_of, fault_of_end};
 use end_settings::Side;
 use octets::Milliseconds;
 use rasta_words::{Fault, LogLevel, RunLength, RunRequest, Status, report};
@@ -269,7 +269,7 @@ fn open_side<'a, R: Net + Clock + Files, E: Write>(
     // The end that `open_side` returns is opened again if the run keeps it, with the settings of the file.
     ensures kept { IfOk result (λ actor. (actor.is_kept ≡ run.now.keep) × (actor.keeper.config ≡ settings.now.config)) }
 {
-    let channels = bound(rt, alloc, side, settings, watch)?;
+    let channels = bind_channels(rt, alloc, side, settings, watch)?;
     let mut source = Random { system: rt };
     let mut actor = open_end(&mut source, alloc, channels, side, settings, run, now)?;
     actor.look_at_clock(rt, now);
@@ -278,7 +278,7 @@ fn open_side<'a, R: Net + Clock + Files, E: Write>(
 }
 
 /// Opens the channels of an end, and watches them.
-fn bound<R: Net>(
+fn bind_channels<R: Net>(
     rt: &R,
     alloc: Global,
     side: Side,
@@ -289,7 +289,7 @@ fn bound<R: Net>(
     let remote = settings.remote.as_slice();
     match open_udp(alloc, rt, local, remote) {
         Ok(channels) => watch_channels(channels, watch),
-        Err(fault) => Err(StopCause::Unopened(Unopened { side, fault })),
+        Err(fault) => Err(StopCause::Unopened(UnopenedChannels { side, fault })),
     }
 }
 
@@ -303,7 +303,7 @@ fn watch_channels(channels: UdpChannels, watch: &Watch) -> Result<UdpChannels, S
 }
 
 /// Opens an end on its channels, which record if anything may have to be printed.
-fn open_end<'a, D: Draw>(
+fn open_end<'a, D: NumberSource>(
     source: &mut D,
     alloc: Global,
     channels: UdpChannels,
@@ -315,8 +315,8 @@ fn open_end<'a, D: Draw>(
     requires { now ≤ TIME_MAX }
     // The end that `open_end` returns is newly opened on this side at this time, with the settings of the file. Its
     // first sequence number is that of the file, or else it was drawn.
-    ensures opened { IfOk result (λ actor. (number : ℕ) × Begins D.draws settings.now.first_sn source.old number source.new
-        × EndStands (λ o. told_of o.inner) actor.end (opened_end side settings.now.config number now)) }
+    ensures opened { IfOk result (λ actor. (number : ℕ) × TakesFirstNumber D.draws settings.now.first_sn source.old number source.new
+        × EndRepresents (λ o. history_of o.inner) actor.end (opened_end side settings.now.config number now)) }
     // `open_end` returns an end of this side, and so its telegrams are printed.
     ensures side { IfOk result (λ actor. actor.side ≡ side) }
     // The end that `open_end` returns has the telegrams of the file to put.
@@ -339,7 +339,7 @@ fn open_end<'a, D: Draw>(
     let wanted = ExpectedHeader::of(&settings.config);
     let keeper = Keeper::new(settings.config, now);
     let t_max = settings.config.t_max;
-    let teller = Teller::new(side, t_max, run.counts, settings.local.len(), now);
+    let teller = CountsPrinter::new(side, t_max, run.counts, settings.local.len(), now);
     let Ok(recorded) = RecordedChannels::over(alloc, channels, listens, wanted) else {
         return Err(Fault::Memory);
     };

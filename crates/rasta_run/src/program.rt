@@ -3,10 +3,10 @@
 ghost use Rattle.std.specs.Prelude.{◌≡◌, ◌≤◌, [], map, length, IfErr, IfOk};
 ghost use Rattle.clap.specs.Words.{fault_of};
 ghost use Rattle.rasta_words.specs.CommandLine.{rasta_app};
-ghost use Rattle.rasta_run.specs.Checked.{HasCheckedSome};
-ghost use Rattle.rasta_run.specs.Done.{DoneAs};
-ghost use Rattle.rasta_run.specs.Refusal.{EndsBy};
-ghost use Rattle.rasta_run.specs.Starting.{path_to};
+ghost use Rattle.rasta_run.specs.CheckOutput.{HasCheckedSome};
+ghost use Rattle.rasta_run.specs.RunResults.{IsRequestDone};
+ghost use Rattle.rasta_run.specs.Refusal.{EndsWithStatus};
+ghost use Rattle.rasta_run.specs.FilePaths.{path_to};
 
 use crate::beside::run_beside;
 use crate::check::run_check;
@@ -50,7 +50,7 @@ pub fn run<R: AllocGlobal + Files + Net + Clock + Input, S: AsStr, O: Write, E: 
     // If clap's rules find no fault in the words, `run` returns `Done` only if they ask for a request that was
     // done. For a script, a capture and a run over sockets that says no more (`HasDone`).
     ensures done { result ≡ Status.Done → fault_of rasta_app (map S.text words.now) ≡ []
-        → DoneAs (map S.text words.now) (O.contents out.old) (O.contents out.new) }
+        → IsRequestDone (map S.text words.now) (O.contents out.old) (O.contents out.new) }
 {
     match command(rt.alloc(), words) {
         Ok(Request::Digest { hex }) => run_md4(rt.alloc(), hex, out, err),
@@ -207,7 +207,7 @@ pub(crate) fn report_file<D: Display + Drop, E: Write>(path: &str, why: D, err: 
 fn refuse<O: Write, E: Write>(fault: &WordsFault<'_>, out: &mut O, err: &mut E) -> Status
     // `refuse` returns `WrongWords` for words that are not a command, `Refused` for want of memory, and `Done` or
     // `Failed` for a call for help or the version.
-    ensures { EndsBy fault.now result }
+    ensures { EndsWithStatus fault.now result }
 {
     match fault {
         WordsFault::Memory(_) => report(err, Fault::Memory),
@@ -231,9 +231,9 @@ fn refuse<O: Write, E: Write>(fault: &WordsFault<'_>, out: &mut O, err: &mut E) 
 
 /// Returns the words of an environment, after the program's name.
 fn words<V: Env>(environment: &V, alloc: Global) -> Result<Vec<String>, WordsFault<'static>> {
-    let args = match env::args(&(Named { environment }, alloc)) {
+    let args = match env::args(&(NamedEnv { environment }, alloc)) {
         Ok(args) => args,
-        Err(error) => return Err(unread(&error)),
+        Err(error) => return Err(fault_of_words(&error)),
     };
     match args.collect::<Vec<String>>(alloc) {
         Ok(words) => Ok(words),
@@ -242,7 +242,7 @@ fn words<V: Env>(environment: &V, alloc: Global) -> Result<Vec<String>, WordsFau
 }
 
 /// Returns why the system gave no words.
-fn unread(error: &io::Error) -> WordsFault<'static> {
+fn fault_of_words(error: &io::Error) -> WordsFault<'static> {
     match error.kind() {
         io::ErrorKind::OutOfMemory => WordsFault::Memory(AllocError),
         _ => WordsFault::NotText,
@@ -252,15 +252,15 @@ fn unread(error: &io::Error) -> WordsFault<'static> {
 /// An environment in which the program has its own name: the path under which it was called is not a word of the
 /// command, and may be something else than UTF-8 text.
 #[derive(Clone, Copy)]
-struct Named<'a, V: Env> {
+struct NamedEnv<'a, V: Env> {
     /// Where the words come from.
     environment: &'a V,
 }
 
-impl<'a, V: Env> Env for Named<'a, V> {
+impl<'a, V: Env> Env for NamedEnv<'a, V> {
     fn arg(&self, i: usize, buf: &mut [u8]) -> Result<usize, FillError> {
         if i == 0 {
-            return filled(b"rasta", buf);
+            return fill_buffer(b"rasta", buf);
         }
         self.environment.arg(i, buf)
     }
@@ -275,8 +275,8 @@ impl<'a, V: Env> Env for Named<'a, V> {
 }
 
 /// Copies a text to the start of a buffer, if it has room.
-fn filled(text: &[u8], buffer: &mut [u8]) -> Result<usize, FillError>
-    // The number of bytes that `filled` copies is at most the length of the buffer.
+fn fill_buffer(text: &[u8], buffer: &mut [u8]) -> Result<usize, FillError>
+    // The number of bytes that `fill_buffer` copies is at most the length of the buffer.
     ensures { IfOk result (λ n. n ≤ length buffer.new) }
 {
     let size = text.len();

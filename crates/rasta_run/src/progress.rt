@@ -9,7 +9,7 @@ use safe_machine::ConnectionState;
 
 /// What shows that an end gets on.
 #[derive(Clone, Copy, Debug, PartialEq, Eq)]
-pub struct Gained {
+pub struct ProgressMarks {
     /// The number of telegrams put, modulo 2^64.
     pub put: u64,
     /// The number of telegrams confirmed since the opening.
@@ -22,7 +22,7 @@ pub struct Gained {
 #[derive(Clone, Copy, Debug, PartialEq, Eq)]
 pub struct Progress {
     /// What it had gained then.
-    pub gained: Gained,
+    pub gained: ProgressMarks,
     /// When that was, in milliseconds.
     pub at: Milliseconds,
 }
@@ -31,9 +31,9 @@ impl Progress {
     /// Returns the progress of an end that is opened at a time, in milliseconds.
     pub fn beginning(at: Milliseconds) -> Self
         // `beginning` returns a progress without any gain at this time.
-        ensures { result ≡ progress.beginning at }
+        ensures { result ≡ progress.new_progress at }
     {
-        let gained = Gained {
+        let gained = ProgressMarks {
             put: 0,
             confirmed: 0,
             openings: 0,
@@ -42,10 +42,10 @@ impl Progress {
     }
 
     /// Compares what an end has gained by now. While it waits for its peer, the time does not count.
-    pub fn look(&mut self, gained: Gained, waits: bool, now: Milliseconds)
+    pub fn look(&mut self, gained: ProgressMarks, waits: bool, now: Milliseconds)
         // After `look` the end last got on `now`, if it has gained anything or waits for its peer, and else when it
         // did before.
-        ensures { self.new ≡ progress.got_on gained waits now self.old }
+        ensures { self.new ≡ progress.progress_after gained waits now self.old }
     {
         let is_same = gained.put == self.gained.put
             && gained.confirmed == self.gained.confirmed

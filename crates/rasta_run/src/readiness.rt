@@ -5,7 +5,7 @@
 
 ghost use Rattle.std.specs.Prelude.{◌≡◌, ℕ, Bool};
 ghost use Rattle.rasta_run.specs.declared.readiness.Stream.{Stream};
-ghost use Rattle.rasta_run.specs.Pending.{descriptor_of};
+ghost use Rattle.rasta_run.specs.Backlogs.{descriptor_of};
 
 use mio::unix::SourceFd;
 use mio::{Events, Interest, Poll, Token};

@@ -4,7 +4,7 @@
 //! a datagram.
 
 ghost use Rattle.std.specs.Prelude.{◌≡◌, ◌≤◌, true, length, is_ok, IfOk, IfSome};
-ghost use Rattle.channels.specs.Told.{Sends, after_receive};
+ghost use Rattle.channels.specs.ChannelHistory.{Sends, after_receive};
 
 use crate::recorder::{ExpectedHeader, Recorder};
 use channels::{ChannelFault, Channels, Note};

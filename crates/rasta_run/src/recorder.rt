@@ -6,11 +6,11 @@ ghost use Rattle.pdu_text.specs.declared.lines.EndEvent.TheVariants as happening
 ghost use Rattle.red_layer.specs.declared.RedEvent.{RedEvent};
 ghost use Rattle.safe_machine.specs.declared.ConnectionState.{ConnectionState};
 ghost use Rattle.safe_machine.specs.declared.Step.{Step};
-ghost use Rattle.rasta_run.specs.Counting as counting;
+ghost use Rattle.rasta_run.specs.Counters as counting;
 ghost use Rattle.rasta_run.specs.Headers.{header_seen, kind_seen};
-ghost use Rattle.rasta_run.specs.Recording.{wanted_by};
-ghost use Rattle.rasta_run.specs.Recording as recording;
-ghost use Rattle.rasta_run.specs.Telling as telling;
+ghost use Rattle.rasta_run.specs.Recorders.{expected_header_of};
+ghost use Rattle.rasta_run.specs.Recorders as recording;
+ghost use Rattle.rasta_run.specs.LogEvents as telling;
 
 use crate::counts::{ChannelCounts, count_dropped, count_sent};
 use crate::events::is_repeat;
@@ -22,7 +22,7 @@ use octets::limits::CHANNELS_MAX;
 use pdu_text::{Cause, EndEvent};
 use red_layer::RedEvent;
 use safe_machine::{DropCause, Step};
-use safe_pdu::{Kind, Reason, SafeFault};
+use safe_pdu::{Identifier, Kind, Reason, SafeFault};
 
 /// The greatest number of events that are kept. A turn receives at most 64 datagrams, and few of them make more
 /// than two events.
@@ -35,9 +35,9 @@ const DATAGRAM_MAX: usize = 1_258;
 #[derive(Clone, Copy, Debug, PartialEq, Eq)]
 pub struct ExpectedHeader {
     /// The identifier of the peer, as the sender.
-    pub peer_id: u32,
+    pub peer_id: Identifier,
     /// The identifier of the end, as the receiver.
-    pub id: u32,
+    pub id: Identifier,
     /// The length of the safety code, in bytes.
     pub code: u64,
 }
@@ -46,7 +46,7 @@ impl ExpectedHeader {
     /// Returns what an end with these settings expects.
     pub fn of(config: &EndConfig) -> Self
         // `of` returns both identifiers and the length of the safety code of the settings.
-        ensures { result ≡ wanted_by config.now }
+        ensures { result ≡ expected_header_of config.now }
     {
         ExpectedHeader {
             peer_id: config.peer_id,
@@ -121,7 +121,7 @@ impl Recorder {
     /// Returns the event with this number, from 0. Returns `None` if it is forgotten, or has not happened.
     pub fn happening(&self, number: u64) -> Option<EndEvent>
         // `happening` returns each of the last 256 events by its number, and `None` for any other.
-        ensures { result ≡ telling.kept_as self.now.kept self.now.happened number }
+        ensures { result ≡ telling.event_at self.now.kept self.now.happened number }
     {
         if number >= self.happened || self.happened - number > KEPT as u64 {
             return None;
@@ -134,11 +134,11 @@ impl Recorder {
     pub(crate) fn hear_sent(&mut self, channel: usize, datagram: &[u8], went: bool)
         // If the recorder listens, the datagram is counted at its channel, by whether it was sent.
         ensures channels { self.old.listens ≡ true
-            → self.new.channels ≡ counting.sent_on channel went self.old.channels }
+            → self.new.channels ≡ counting.count_sent_on channel went self.old.channels }
         // `hear_sent` does not change the number of parts that ended a connection.
         ensures closing { self.new.closing ≡ self.old.closing }
         // If the recorder listens, it also keeps the event of a datagram of the first channel; it changes nothing else.
-        ensures kept { self.old.listens ≡ true → self.new ≡ recording.after_sent channel datagram.now went self.old }
+        ensures kept { self.old.listens ≡ true → self.new ≡ recording.after_send channel datagram.now went self.old }
         // A recorder that does not listen counts nothing that is sent.
         ensures off { self.old.listens ≡ false → self.new ≡ self.old }
     {
@@ -178,10 +178,10 @@ impl Recorder {
         // the datagram's channel.
         ensures channels { self.old.listens ≡ true → (number : ℕ) (step : Step) → note.now ≡ Note.Step number step
             → self.new.channels
-            ≡ counting.stepped_on step number self.old.came.0 self.old.came.1 self.old.channels }
+            ≡ counting.count_step_on step number self.old.came.0 self.old.came.1 self.old.channels }
         // If the recorder listens and the note is a step that ended the connection, or did nothing, it counts.
         ensures closing { self.old.listens ≡ true → (number : ℕ) (step : Step) → note.now ≡ Note.Step number step
-            → self.new.closing ≡ counting.closing_after step self.old.closing }
+            → self.new.closing ≡ counting.closing_count_after step self.old.closing }
         // If the recorder listens and the note is of the redundancy layer, it keeps that the last datagram was dropped
         // and why, if it was.
         ensures event { self.old.listens ≡ true → (number : Option ℕ) (event : RedEvent) → note.now ≡ Note.Redundancy number event
@@ -222,9 +222,9 @@ impl Recorder {
     fn hear_step(&mut self, number: u32, step: Step)
         // A dropped part of the last datagram counts at its channel; no other step changes the counts of channels.
         ensures channels { self.new.channels
-            ≡ counting.stepped_on step number self.old.came.0 self.old.came.1 self.old.channels }
+            ≡ counting.count_step_on step number self.old.came.0 self.old.came.1 self.old.channels }
         // A part that ended the connection or came after its end is counted, and no other.
-        ensures closing { self.new.closing ≡ counting.closing_after step self.old.closing }
+        ensures closing { self.new.closing ≡ counting.closing_count_after step self.old.closing }
         // `hear_step` also keeps that a part was dropped and why, and a version for which the end disconnected; it changes
         // nothing else.
         ensures kept { self.new ≡ recording.after_step number step self.old }
@@ -254,7 +254,7 @@ impl Recorder {
     /// is not known.
     fn hear_dropped(&mut self, number: u32, cause: DropCause)
         // `hear_dropped` counts the part at the channel of the last datagram, if it is its part.
-        ensures channels { self.new.channels ≡ counting.dropped_on
+        ensures channels { self.new.channels ≡ counting.count_dropped_on
             (counting.channel_under number self.old.came.0 self.old.came.1) cause self.old.channels }
         // `hear_dropped` does not change the number of parts that ended a connection.
         ensures closing { self.new.closing ≡ self.old.closing }
@@ -333,7 +333,7 @@ fn sent_event(channel: usize, datagram: &[u8]) -> Option<EndEvent>
     ensures { result ≡ recording.sent_event channel datagram.now }
 {
     match channel {
-        1 => made_told(kind_of(datagram)),
+        1 => event_of_made(kind_of(datagram)),
         _ => None,
     }
 }
@@ -417,9 +417,9 @@ fn fault_cause(fault: SafeFault, found: Option<u64>, own: u64) -> Cause
 }
 
 /// Returns the event of a PDU that the end made, by its type.
-fn made_told(kind: Option<Kind>) -> Option<EndEvent>
-    // `made_told` returns an event for a RetrReq and a RetrResp, and `None` for any other type.
-    ensures { result ≡ telling.made_told kind }
+fn event_of_made(kind: Option<Kind>) -> Option<EndEvent>
+    // `event_of_made` returns an event for a RetrReq and a RetrResp, and `None` for any other type.
+    ensures { result ≡ telling.made_event kind }
 {
     match kind {
         Some(Kind::RetrReq) => Some(EndEvent::Asked),

@@ -1,28 +1,28 @@
 //! An end that is opened again after its connection is lost.
 
 ghost use Rattle.std.specs.Prelude.{◌≡◌, ℕ, ◌+◌, ◌-◌, ◌≤◌, ◌^◌, ◌%◌, min, None, true, false, IfOk, OnOk};
-ghost use Rattle.channels.specs.Told.{SendsOne};
-ghost use Rattle.rasta_run.specs.Keeping as keeping;
-ghost use Rattle.rasta_run.specs.Standing.{is_up};
+ghost use Rattle.channels.specs.ChannelHistory.{SendsOne};
+ghost use Rattle.rasta_run.specs.Keepers as keeping;
+ghost use Rattle.rasta_run.specs.ExpectedStates.{is_up};
 ghost use Rattle.rasta_run.specs.Totals as totals;
-ghost use Rattle.rasta_run.specs.Undone.{doubt_of};
+ghost use Rattle.rasta_run.specs.Leftovers.{doubt_of};
 ghost use Rattle.stack_end.specs.Certain.{confirmed_in};
 ghost use Rattle.stack_end.specs.Datagrams.{sent_at_opening};
-ghost use Rattle.stack_end.specs.EndValue.{EndStands, channels_of, inside, statistics_of};
+ghost use Rattle.stack_end.specs.EndValue.{EndRepresents, channels_of, inside, statistics_of};
 ghost use Rattle.stack_end.specs.Ends.{opened_end};
 ghost use Rattle.stack_end.specs.Stale.{is_stale};
 ghost use Rattle.std.specs.List.{FoldsTo};
 ghost use Rattle.octets.specs.declared.limits.TheConstants.{TIME_MAX};
-ghost use Rattle.udp_channels.specs.Sockets.{told_of};
+ghost use Rattle.udp_channels.specs.Sockets.{history_of};
 
 use crate::RecordedChannels;
-use crate::drawing::{Draw, first_number};
-use crate::keeping::{end_of_wait, is_wait_over};
-use crate::noticing::Notice;
+use crate::expected_state::is_up;
+use crate::keeper::{end_of_wait, is_wait_over};
+use crate::notices::Notice;
+use crate::number_source::{NumberSource, first_number};
+use crate::opening_faults::fault_of_end;
 use crate::recorder::ExpectedHeader;
-use crate::standing::is_up;
 use crate::turns::Actor;
-use crate::unopened::fault_of_end;
 use channels::Channels;
 use end_settings::EndConfig;
 use octets::Milliseconds;
@@ -39,13 +39,13 @@ impl<C: Channels + Drop, A: Allocator + Copy> Actor<'_, C, A> {
     /// that it has a session after openings without one.
     pub fn is_due<E: Write>(&mut self, now: Milliseconds, err: &mut E) -> bool
         // `is_due` returns true if and only if the end is kept, it is stale and its wait is over.
-        ensures due { result ≡ keeping.opens_anew self.old.is_kept self.old.side (is_stale (inside self.old.end))
+        ensures due { result ≡ keeping.is_reopening_due self.old.is_kept self.old.side (is_stale (inside self.old.end))
             (is_up (inside self.old.end).upper.session.phase) self.old.keeper now }
         // `is_due` records what it saw of an end that is kept, and when it is to be opened again; it changes nothing
         // else.
         ensures kept { self.new ≡ record self.old {
           keeper = keeping.look_at_end self.old.is_kept (is_stale (inside self.old.end)) (is_up (inside self.old.end).upper.session.phase) now self.old.keeper;
-          anew_at = keeping.anew_after self.old.is_kept self.old.side self.old.anew_at
+          anew_at = keeping.reopening_time_after self.old.is_kept self.old.side self.old.anew_at
               (keeping.look_at_end self.old.is_kept (is_stale (inside self.old.end)) (is_up (inside self.old.end).upper.session.phase) now self.old.keeper) now;
         } }
     {
@@ -98,7 +98,7 @@ impl<C: Channels + Drop, A: Allocator + Copy> Actor<'_, C, A> {
     ) -> Result<(), Fault>
         requires later { self.old.end.time ≤ now }
         // If `open_anew` succeeds, the end is newly opened with these settings, this first number and this time.
-        ensures stands { OnOk result (EndStands (λ o. C.told o.inner) self.new.end
+        ensures stands { OnOk result (EndRepresents (λ o. C.told o.inner) self.new.end
             (opened_end self.old.side config first_sn now)) }
         // If `open_anew` succeeds, the datagrams of the opening were sent on the channels of the old end, which
         // are now those of the new one.
@@ -129,7 +129,7 @@ impl<C: Channels + Drop, A: Allocator + Copy> Actor<'_, C, A> {
         // `log_opening` changes nothing but the log, and the time at which the log had the number of openings
         // without a session.
         ensures { self.new ≡ record self.old {
-          keeper = keeping.counted_by (keeping.is_count_due self.old.keeper now) now self.old.keeper;
+          keeper = keeping.keeper_after_count (keeping.is_count_due self.old.keeper now) now self.old.keeper;
           log = self.new.log;
         } }
     {
@@ -150,7 +150,7 @@ impl Actor<'_, UdpChannels> {
     ///
     /// - `File` if the source gives no number;
     /// - `Memory` if an allocation fails.
-    pub fn keep<D: Draw, E: Write>(
+    pub fn keep<D: NumberSource, E: Write>(
         &mut self,
         source: &mut D,
         alloc: Global,
@@ -160,19 +160,19 @@ impl Actor<'_, UdpChannels> {
         requires now { now ≤ TIME_MAX }
         requires later { self.old.end.time ≤ now }
         // `keep` opens the end again if and only if it is kept, it is stale and its wait is over.
-        ensures anew { IfOk result (λ anew. anew ≡ keeping.opens_anew self.old.is_kept self.old.side (is_stale (inside self.old.end))
+        ensures anew { IfOk result (λ anew. anew ≡ keeping.is_reopening_due self.old.is_kept self.old.side (is_stale (inside self.old.end))
             (is_up (inside self.old.end).upper.session.phase) self.old.keeper now) }
         // If `keep` returns false, it has recorded what it saw of an end that is kept, and when it is to be opened
         // again; nothing else has changed, and no number was drawn.
         ensures same { IfOk result (λ anew. anew ≡ false → (source.new ≡ source.old) × (self.new ≡ record self.old {
           keeper = keeping.look_at_end self.old.is_kept (is_stale (inside self.old.end)) (is_up (inside self.old.end).upper.session.phase) now self.old.keeper;
-          anew_at = keeping.anew_after self.old.is_kept self.old.side self.old.anew_at
+          anew_at = keeping.reopening_time_after self.old.is_kept self.old.side self.old.anew_at
               (keeping.look_at_end self.old.is_kept (is_stale (inside self.old.end)) (is_up (inside self.old.end).upper.session.phase) now self.old.keeper) now;
         })) }
         // If `keep` returns true, the end is newly opened with the settings of its keeper and the number that was
         // drawn.
         ensures opened { IfOk result (λ anew. anew ≡ true → (number : ℕ) × D.draws source.old number source.new
-            × EndStands (λ o. told_of o.inner) self.new.end (opened_end self.old.side self.old.keeper.config number now)) }
+            × EndRepresents (λ o. history_of o.inner) self.new.end (opened_end self.old.side self.old.keeper.config number now)) }
         // If `keep` returns true, the telegrams in doubt of the old connection are lost, and those put so far are
         // before the opening, which is counted.
         ensures counted { IfOk result (λ anew. anew ≡ true → self.new ≡ record self.old {
@@ -189,7 +189,7 @@ impl Actor<'_, UdpChannels> {
         ensures earlier { IfOk result (λ anew. anew ≡ true → self.new.earlier.sums
             ≡ totals.plus self.old.earlier.sums (statistics_of self.old.end)) }
         // If `keep` returns true, its keeper has the time of the opening, and counts the old one if that had no session.
-        ensures keeper { IfOk result (λ anew. anew ≡ true → self.new.keeper ≡ keeping.kept_after (is_stale (inside self.old.end))
+        ensures keeper { IfOk result (λ anew. anew ≡ true → self.new.keeper ≡ keeping.keeper_after_reopening (is_stale (inside self.old.end))
             (is_up (inside self.old.end).upper.session.phase) now self.old.keeper) }
         // `keep` leaves the printer of counts as it is.
         ensures teller { self.new.teller ≡ self.old.teller }

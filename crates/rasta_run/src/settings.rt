@@ -1,9 +1,9 @@
 //! The settings of ends: read from a text, with each fault at its place in the file, and with warnings.
 
 ghost use Rattle.std.specs.Prelude.{◌≡◌, ◌<◌, Ok, IfOk, IfErr, IsErr, false, is_ok, length};
-ghost use Rattle.settings_file.specs.Whole.{ends_of, ends_seen};
-ghost use Rattle.rasta_run.specs.Checked.{checked_of, line_of};
-ghost use Rattle.rasta_run.specs.Reading.{settings_most};
+ghost use Rattle.settings_file.specs.FileContents.{ends_of, ends_seen};
+ghost use Rattle.rasta_run.specs.CheckOutput.{check_result_of, line_of};
+ghost use Rattle.rasta_run.specs.FileLimit.{settings_most};
 
 use end_settings::Side;
 use pdu_text::side_name;
@@ -74,15 +74,15 @@ pub(crate) fn read_ends<E: Write>(
 /// # Errors
 ///
 /// - `Refused` if the text is too long or has no such settings, or if an allocation fails.
-pub(crate) fn checked_ends<E: Write>(
+pub(crate) fn check_ends<E: Write>(
     alloc: Global,
     file: &str,
     text: &str,
     err: &mut E,
 ) -> Result<Ends, Status>
-    // If `checked_ends` succeeds, its result is exactly the settings that the text has for the word of its keys.
-    ensures read { IfOk result (λ ends. checked_of text.now ≡ Ok (ends_seen ends)) }
-    // If `checked_ends` fails, it returns `Refused`.
+    // If `check_ends` succeeds, its result is exactly the settings that the text has for the word of its keys.
+    ensures read { IfOk result (λ ends. check_result_of text.now ≡ Ok (ends_seen ends)) }
+    // If `check_ends` fails, it returns `Refused`.
     ensures refused { IfErr result (λ status. status ≡ Status.Refused) }
 {
     match word_of(alloc, text) {

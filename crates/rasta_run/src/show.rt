@@ -4,8 +4,8 @@ ghost use Rattle.std.specs.Prelude.{◌≡◌, ◌≢◌, ◌⊎◌, true, false
 ghost use Rattle.std.specs.Io.KnownBytes.{Appends};
 ghost use Rattle.std.specs.Option.{option_copied};
 ghost use Rattle.pdu_text.specs.HexText.{initial_value_of, octets_of};
-ghost use Rattle.rasta_run.specs.ShownHex.{message_of};
-ghost use Rattle.rasta_run.specs.Shown.{HasDigested, HasShown, digest_line};
+ghost use Rattle.rasta_run.specs.DigestMessage.{message_of};
+ghost use Rattle.rasta_run.specs.ShowOutput.{HasDigested, HasShown, digest_line};
 ghost use Rattle.rasta_words.specs.Status.{status_of};
 
 use pdu_text::{HexFault, hex_octets, initial_value, show, write_hex};

@@ -2,10 +2,10 @@
 
 ghost use Rattle.std.specs.Prelude.{◌≡◌, ◌+◌, ◌==◌, [], Bool, List, ℕ, true, is_ok, min, not, length, IfErr, IfOk, OnOk};
 ghost use Rattle.std.specs.Io.KnownBytes.{Appends, Keeps, append_known};
-ghost use Rattle.rasta_run.specs.Feeding.{lines_left};
-ghost use Rattle.rasta_run.specs.Pending.{PassesAll, next_try, unread_lines, unread_text};
+ghost use Rattle.rasta_run.specs.InputLines.{lines_left};
+ghost use Rattle.rasta_run.specs.Backlogs.{PassesAll, next_try, unread_lines, unread_text};
 
-use crate::pending::Pending;
+use crate::backlog::Backlog;
 use crate::readiness::{Gate, Readiness, Stream};
 use octets::Milliseconds;
 use rasta_words::Fault;
@@ -27,9 +27,9 @@ const TRY_WAIT: u64 = 10;
 #[derive(Drop)]
 pub struct Streams<O, E, G = Readiness> {
     /// The lines of standard output.
-    pub out: Pending<O>,
+    pub out: Backlog<O>,
     /// The lines of standard error.
-    pub err: Pending<E>,
+    pub err: Backlog<E>,
     /// Which streams are ready.
     pub gate: G,
     /// How long the end of a run waits for a reader that does not go on, in milliseconds.
@@ -59,10 +59,10 @@ impl<O: Write + Drop, E: Write + Drop> Streams<O, E, Readiness> {
         ensures over { IfOk result (λ s. (s.out.writer ≡ out) × (s.err.writer ≡ err) × (s.patience ≡ patience)) }
     {
         let gate = Readiness::open(alloc, net)?;
-        let Ok(out) = Pending::open(alloc, Stream::Output, OUTPUT_MAX, out) else {
+        let Ok(out) = Backlog::open(alloc, Stream::Output, OUTPUT_MAX, out) else {
             return Err(Fault::Memory);
         };
-        let Ok(err) = Pending::open(alloc, Stream::Error, LOG_MAX, err) else {
+        let Ok(err) = Backlog::open(alloc, Stream::Error, LOG_MAX, err) else {
             return Err(Fault::Memory);
         };
         Ok(Streams {
@@ -202,7 +202,7 @@ impl<O: Write, E: Write, G: Gate> Streams<O, E, G> {
 }
 
 /// Writes how many lines of standard output were not printed.
-#[tactic(auto, unfolding(crate::specs::Pending::unread_text))]
+#[tactic(auto, unfolding(crate::specs::Backlogs::unread_text))]
 fn write_unread<W: Write>(writer: &mut W, count: u64) -> io::Result<()>
     // If `write_unread` succeeds, it has appended the line with the number of lines.
     ensures { OnOk result (Appends (W.contents writer.old) (W.contents writer.new) (unread_text count)) }

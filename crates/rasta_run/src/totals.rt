@@ -46,7 +46,7 @@ impl Totals {
                     receptions(fourth, four),
                 ],
                 parts: parts(self.sums.parts, counts.parts),
-                made: made(self.sums.made, counts.made),
+                made: add_made_counts(self.sums.made, counts.made),
                 confirmed: self.sums.confirmed.wrapping_add(counts.confirmed),
             },
         }
@@ -56,7 +56,7 @@ impl Totals {
 /// Returns how many datagrams were received on all channels, modulo 2^64.
 pub fn received_on(sums: &Statistics) -> u64
     // `received_on` returns the sum of the datagrams received over the four channels.
-    ensures { result ≡ totals.received_on sums.now.channels }
+    ensures { result ≡ totals.received_count sums.now.channels }
 {
     let [first, second, third, fourth] = sums.channels;
     first
@@ -105,7 +105,7 @@ fn parts(first: PartCounts, second: PartCounts) -> PartCounts
 }
 
 /// Adds the counts of PDUs made.
-fn made(first: MadeCounts, second: MadeCounts) -> MadeCounts
+fn add_made_counts(first: MadeCounts, second: MadeCounts) -> MadeCounts
     // Each count is the sum of both.
     ensures { result ≡ totals.add_made first second }
 {

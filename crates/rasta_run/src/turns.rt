@@ -1,13 +1,13 @@
 //! One end in a turn: it receives, then it puts telegrams of its list.
 
 ghost use Rattle.std.specs.Prelude.{◌≡◌, ◌∷◌, [], ◌+◌, ◌-◌, ◌≤◌, ◌^◌, ◌%◌, length, ◌==◌, None, false, IfErr, IfOk, OnOk};
-ghost use Rattle.rasta_run.specs.Counting.{counted_of};
-ghost use Rattle.rasta_run.specs.Counts.{told_text};
+ghost use Rattle.rasta_run.specs.Counters.{run_counts_of};
+ghost use Rattle.rasta_run.specs.Counts.{printed_counts};
 ghost use Rattle.rasta_run.specs.Progress as progress;
-ghost use Rattle.rasta_run.specs.Stamping.{LogsNotice};
+ghost use Rattle.rasta_run.specs.LineTimes.{LogsNotice};
 ghost use Rattle.rasta_run.specs.Totals as totals;
-ghost use Rattle.rasta_run.specs.Turning as turning;
-ghost use Rattle.rasta_run.specs.Undone.{doubt_of};
+ghost use Rattle.rasta_run.specs.Turns as turning;
+ghost use Rattle.rasta_run.specs.Leftovers.{doubt_of};
 ghost use Rattle.safe_machine.specs.Connections.{is_closed};
 ghost use Rattle.stack_end.specs.Certain.{confirmed_in};
 ghost use Rattle.stack_end.specs.EndValue.{channels_of, inside, statistics_of};
@@ -17,15 +17,15 @@ ghost use Rattle.octets.specs.declared.limits.TheConstants.{TIME_MAX};
 ghost use Rattle.udp_channels.specs.Sockets.{no_failures};
 
 use crate::RecordedChannels;
-use crate::counting::Teller;
 use crate::counts::RunCounts;
-use crate::keeping::Keeper;
-use crate::logging::Log;
-use crate::noticing::Notice;
-use crate::printing::Application;
-use crate::progress::{Gained, Progress, is_finished, is_over, waits_for_peer};
+use crate::counts_text::CountsPrinter;
+use crate::keeper::Keeper;
+use crate::leftovers::doubt_of;
+use crate::log::Log;
+use crate::notices::Notice;
+use crate::printer::Application;
+use crate::progress::{Progress, ProgressMarks, is_finished, is_over, waits_for_peer};
 use crate::totals::Totals;
-use crate::undone::doubt_of;
 use channels::Channels;
 use end_settings::Side;
 use octets::Milliseconds;
@@ -33,7 +33,7 @@ use octets::limits::CHANNELS_MAX;
 use pdi_session::Taker;
 use rasta_words::Fault;
 use safe_machine::ConnectionState;
-use settings_file::{Put, Settings};
+use settings_file::{PutEntry, Settings};
 use stack_end::End;
 use std::alloc::{Allocator, Global};
 use std::io;
@@ -52,7 +52,7 @@ pub struct Actor<'a, C, A: Allocator = Global> {
     /// The side of the end.
     pub side: Side,
     /// The telegrams that it still has to put, in order.
-    pub left: &'a [Put],
+    pub left: &'a [PutEntry],
     /// The number of telegrams that it had to put at first.
     pub entries: usize,
     /// The number of telegrams put, modulo 2^64.
@@ -90,7 +90,7 @@ pub struct Actor<'a, C, A: Allocator = Global> {
     /// What the end counted in its earlier openings.
     pub earlier: Totals,
     /// The printer of its counts.
-    pub teller: Teller,
+    pub teller: CountsPrinter,
 }
 
 impl<'a, C: Channels, A: Allocator + Copy> Actor<'a, C, A> {
@@ -98,11 +98,11 @@ impl<'a, C: Channels, A: Allocator + Copy> Actor<'a, C, A> {
     pub fn new(
         end: End<RecordedChannels<C>, A>,
         side: Side,
-        puts: &'a [Put],
+        puts: &'a [PutEntry],
         log: Log,
         keeper: Keeper,
         is_kept: bool,
-        teller: Teller,
+        teller: CountsPrinter,
     ) -> Self
         // The end of a new `Actor` is the one given.
         ensures end { result.end ≡ end }
@@ -124,7 +124,7 @@ impl<'a, C: Channels, A: Allocator + Copy> Actor<'a, C, A> {
         ensures begins { (result.put ≡ 0) × (result.before ≡ 0) × (result.lost ≡ 0) × (result.taken ≡ 0)
             × (result.refused_lines ≡ 0) × (result.refused_entries ≡ 0) × (result.openings ≡ 0)
             × (result.deaf_turns ≡ 0) × (result.was_closed ≡ false) × (result.last_turn ≡ keeper.opened)
-            × (result.progress ≡ progress.beginning keeper.opened) × (result.anew_at ≡ None) }
+            × (result.progress ≡ progress.new_progress keeper.opened) × (result.anew_at ≡ None) }
     {
         Actor {
             end,
@@ -195,7 +195,7 @@ impl<'a, C: Channels, A: Allocator + Copy> Actor<'a, C, A> {
     pub fn counted(&self) -> RunCounts
         // `counted` adds the end's own counts to those of its earlier openings, and has those of the recorder, the
         // calls that failed, and the numbers of telegrams put and taken.
-        ensures { result ≡ counted_of self.now.earlier.sums (statistics_of self.now.end)
+        ensures { result ≡ run_counts_of self.now.earlier.sums (statistics_of self.now.end)
             (channels_of self.now.end).recorder.value self.now.failures self.now.put self.now.taken }
     {
         let recorder = &self.end.channels_seen().recorder;
@@ -218,7 +218,7 @@ impl<'a, C: Channels, A: Allocator + Copy> Actor<'a, C, A> {
         // If `tell_counts` succeeds, it has appended the lines of what the end counted in all its openings, and of
         // what is counted beside.
         ensures { OnOk result (Appends (E.contents err.old) (E.contents err.new)
-            (told_text self.now.teller now (counted_of self.now.earlier.sums (statistics_of self.now.end)
+            (printed_counts self.now.teller now (run_counts_of self.now.earlier.sums (statistics_of self.now.end)
             (channels_of self.now.end).recorder.value self.now.failures self.now.put self.now.taken))) }
     {
         self.teller.tell(&self.counted(), now, err)
@@ -290,7 +290,7 @@ impl<'a, C: Channels, A: Allocator + Copy> Actor<'a, C, A> {
         requires now { now ≤ TIME_MAX }
         requires later { self.old.end.time ≤ now }
         // If `hear` succeeds, the end was polled, and time has passed even if a reception failed.
-        ensures heard { IfOk result (λ works. turning.Hears (λ o. C.told o.inner) T.takes works now
+        ensures heard { IfOk result (λ works. turning.PollsEnd (λ o. C.told o.inner) T.takes works now
             (self.old.end, app.old) (self.new.end, app.new)) }
         // If `hear` succeeds, the application has lost nothing that it took.
         ensures taken { OnOk result (T.has_lost app.new ≡ false) }
@@ -315,12 +315,12 @@ impl<'a, C: Channels, A: Allocator + Copy> Actor<'a, C, A> {
         // `note_progress` records `now` if the end has put or confirmed a telegram, was opened again, or waits for its
         // peer; it changes nothing else.
         ensures { self.new ≡ record self.old {
-          progress = progress.got_on
+          progress = progress.progress_after
               (record { put = self.old.put; confirmed = confirmed_in (inside self.old.end).upper; openings = self.old.openings })
               (progress.waits_for_peer (inside self.old.end).upper.machine.connection self.old.is_kept) now self.old.progress;
         } }
     {
-        let gained = Gained {
+        let gained = ProgressMarks {
             put: self.put,
             confirmed: self.end.confirmed(),
             openings: self.openings,
@@ -428,7 +428,7 @@ fn poll_or_tick<C: Channels, A: Allocator, T: Taker>(
     requires now { now ≤ TIME_MAX }
     requires later { end.old.time ≤ now }
     // `poll_or_tick` polls the end once. If a reception failed, the end has ticked all the same.
-    ensures heard { turning.Hears C.told T.takes result now (end.old, taker.old) (end.new, taker.new) }
+    ensures heard { turning.PollsEnd C.told T.takes result now (end.old, taker.old) (end.new, taker.new) }
     // After `poll_or_tick` the end's time is `now`: it has ticked, whether or not a reception failed.
     ensures ticked { end.new.time ≡ now }
 {

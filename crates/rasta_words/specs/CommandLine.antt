@@ -3,7 +3,7 @@ use Rattle.std.specs.Prelude.{◌≡◌, ⊤, true, List, codes, Option, Some}
 use Rattle.std.specs.Option.{option_copied}
 use Rattle.clap.specs.Words.{App, HasKind, Row, Text, fault_of, first_of, new_app, subcommand_of}
 use Rattle.rasta_words.specs.Arguments.{with_command, with_operand, with_option, with_required}
-use Rattle.rasta_words.specs.Beside.{HasChoices}
+use Rattle.rasta_words.specs.BesideOptions.{HasChoices}
 use Rattle.rasta_words.specs.Choices.{code_word, follow_app}
 use Rattle.rasta_words.specs.Runs.{IsRun, ends_word, net_app}
 use Rattle.rasta_words.specs.declared.command_line.Request.{Request}
@@ -61,8 +61,8 @@ abbrev pub IsFound : Option (Text × List Row) → Request → Type 0
 IsFound found request = (f : Text × List Row) × (found ≡ Some f) × HasEntries request f.0 f.1
 
 -- the words ask for this request: clap finds its subcommand in them
-abbrev pub Asks : List Text → Request → Type 0
-Asks words request = IsFound (subcommand_of rasta_app words) request
+abbrev pub AsksForRequest : List Text → Request → Type 0
+AsksForRequest words request = IsFound (subcommand_of rasta_app words) request
 
 -- no request is that of a subcommand of this name with these entries
 abbrev pub HasNoEntries : Text → List Row → Type 0
@@ -80,10 +80,10 @@ IsFaultOf words NotText = ⊥
 IsFaultOf words (Memory error) = ⊤
 
 -- the words ask for no request, and this is why
-abbrev pub Rejects : List Text → Rejection → Type 0
-Rejects words rejection = ((request : Request) → ¬ Asks words request) × IsReason (subcommand_of rasta_app words) rejection
+abbrev pub RejectsWords : List Text → Rejection → Type 0
+RejectsWords words rejection = ((request : Request) → ¬ AsksForRequest words request) × IsReason (subcommand_of rasta_app words) rejection
 
 -- the fault is one that the words have: clap's rules find it, or the words ask for no request; or it is want of memory
-abbrev pub Refuses : List Text → WordsFault → Type 0
-Refuses words (Rejected rejection) = Rejects words rejection
-Refuses words fault = IsFaultOf words fault
+abbrev pub RefusesWords : List Text → WordsFault → Type 0
+RefusesWords words (Rejected rejection) = RejectsWords words rejection
+RefusesWords words fault = IsFaultOf words fault

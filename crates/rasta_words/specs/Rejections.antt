@@ -8,7 +8,7 @@ use Rattle.safe_pdu.specs.declared.CodeLength.{CodeLength}
 use Rattle.clap.specs.Words.{Row, Text, first_of}
 use Rattle.settings_file.specs.declared.Subcommand.{Subcommand}
 use Rattle.rasta_words.specs.declared.status.CountsForm.{CountsForm}
-use Rattle.rasta_words.specs.declared.status.Expected.{Expected}
+use Rattle.rasta_words.specs.declared.status.ExpectedState.{ExpectedState}
 use Rattle.rasta_words.specs.declared.status.LogLevel.{LogLevel}
 use Rattle.rasta_words.specs.declared.status.LogTime as times
 use Rattle.rasta_words.specs.declared.status.RunLength.{RunLength}
@@ -19,7 +19,7 @@ use Rattle.rasta_words.specs.declared.rejection.Rejection.TheVariants.{Value, No
 use Rattle.rasta_words.specs.Choices.{ArePortsChosen, IsAgeChosen, IsCodeChosen, IsMilliseconds, IsPorts, IsRemarkChosen, IsWritten, code_word, is_flagged}
 use Rattle.rasta_words.specs.Seconds.{IsSeconds}
 use Rattle.rasta_words.specs.Times.{HasForm as HasTimeForm, HasFrom, HasTimes, HasTo, IsInstant, times_word}
-use Rattle.rasta_words.specs.Beside.{IsBesideRejected}
+use Rattle.rasta_words.specs.BesideOptions.{IsBesideRejected}
 use Rattle.rasta_words.specs.declared.command_line.FollowTimes.{FollowTimes}
 use Rattle.rasta_words.specs.Runs.{IsEndChosen, IsLengthChosen, IsLogChosen, IsTimeChosen, IsTurns, ends_word, expected_word, form_word, log_word, time_word}
 
@@ -47,7 +47,7 @@ IsUnfit ShowCode word = (code : CodeLength) → word ≢ code_word code
 IsUnfit Turns word = (turns : ℕ) → ¬ IsTurns word turns
 IsUnfit Log word = (level : LogLevel) → word ≢ log_word level
 IsUnfit LogTime word = (time : times.LogTime) → word ≢ time_word time
-IsUnfit Expect word = (expected : Expected) → word ≢ expected_word expected
+IsUnfit Expect word = (expected : ExpectedState) → word ≢ expected_word expected
 IsUnfit Stats word = (form : CountsForm) → word ≢ form_word form
 IsUnfit Every word = (seconds : ℕ) → ¬ IsSeconds word seconds
 IsUnfit Code word = (code : CodeLength) → word ≢ code_word code
@@ -60,23 +60,23 @@ IsUnfit To word = (instant : Option Instant) → ¬ IsInstant word instant
 IsUnfit Period word = (seconds : ℕ) → ¬ IsSeconds word seconds
 
 -- the rejection names this option and this value, which the option does not accept
-abbrev pub Names : Choice → Text → Rejection → Type 0
-Names choice word (Value option value) = (option ≡ choice) × (value.now ≡ word) × IsUnfit choice word
-Names choice word NoLength = ⊥
-Names choice word TwoLengths = ⊥
-Names choice word EveryAlone = ⊥
-Names choice word (NotBeside option) = ⊥
-Names choice word OneInput = ⊥
-Names choice word Missing = ⊥
+abbrev pub NamesOption : Choice → Text → Rejection → Type 0
+NamesOption choice word (Value option value) = (option ≡ choice) × (value.now ≡ word) × IsUnfit choice word
+NamesOption choice word NoLength = ⊥
+NamesOption choice word TwoLengths = ⊥
+NamesOption choice word EveryAlone = ⊥
+NamesOption choice word (NotBeside option) = ⊥
+NamesOption choice word OneInput = ⊥
+NamesOption choice word Missing = ⊥
 
 -- the same, of an option that may be absent
-abbrev pub NamesGiven : Choice → Option Text → Rejection → Type 0
-NamesGiven choice None r = ⊥
-NamesGiven choice (Some word) r = Names choice word r
+abbrev pub NamesGivenOption : Choice → Option Text → Rejection → Type 0
+NamesGivenOption choice None r = ⊥
+NamesGivenOption choice (Some word) r = NamesOption choice word r
 
 -- why a run has no length: `--turns` is not valid, or both or neither of it and `--until-end` is given
 abbrev pub IsLengthRejected : Option Text → Bool → Rejection → Type 0
-IsLengthRejected (Some word) false r = Names Turns word r
+IsLengthRejected (Some word) false r = NamesOption Turns word r
 IsLengthRejected (Some word) true r = r ≡ TwoLengths
 IsLengthRejected None false r = r ≡ NoLength
 IsLengthRejected None true r = ⊥
@@ -89,11 +89,11 @@ HasForm word = (form : CountsForm) × (word ≡ form_word form)
 abbrev pub AreCountsRejected : Option Text → Option Text → Rejection → Type 0
 AreCountsRejected None None r = ⊥
 AreCountsRejected None (Some every) r = r ≡ EveryAlone
-AreCountsRejected (Some form) every r = Names Stats form r ⊎ (HasForm form × NamesGiven Every every r)
+AreCountsRejected (Some form) every r = NamesOption Stats form r ⊎ (HasForm form × NamesGivenOption Every every r)
 
 -- a required argument has no entry
-abbrev pub Lacks : Text → List Row → Rejection → Type 0
-Lacks name rows r = (first_of name rows ≡ None) × (r ≡ Missing)
+abbrev pub LacksArgument : Text → List Row → Rejection → Type 0
+LacksArgument name rows r = (first_of name rows ≡ None) × (r ≡ Missing)
 
 -- a valid length is given
 abbrev pub HasLength : List Row → Type 0
@@ -109,7 +109,7 @@ HasTime rows = (time : times.LogTime) × IsTimeChosen (first_of (codes "time") r
 
 -- `--expect` is valid or absent
 abbrev pub HasEnd : List Row → Type 0
-HasEnd rows = (expected : Option Expected) × IsEndChosen (first_of (codes "expect") rows) expected
+HasEnd rows = (expected : Option ExpectedState) × IsEndChosen (first_of (codes "expect") rows) expected
 
 -- `--code` of `follow` is valid or absent
 abbrev pub HasCode : List Row → Type 0
@@ -126,7 +126,7 @@ HasAge rows = (age : ℕ) × IsAgeChosen (first_of (codes "t-max") rows) age
 -- why the entries of `show` are not a request
 abbrev pub IsShowRejected : List Row → Rejection → Type 0
 IsShowRejected rows r =
-    Lacks (codes "code") rows r ⊎ NamesGiven ShowCode (first_of (codes "code") rows) r ⊎ Lacks (codes "hex") rows r
+    LacksArgument (codes "code") rows r ⊎ NamesGivenOption ShowCode (first_of (codes "code") rows) r ⊎ LacksArgument (codes "hex") rows r
 
 -- `--ports` is valid or absent
 abbrev pub HasPorts : List Row → Type 0
@@ -135,10 +135,10 @@ HasPorts rows = (ports : Option (List (Option PortRange))) × ArePortsChosen (fi
 -- why the times of `follow` are not valid: the first of its options, in the order --time, --from, --to, --every
 abbrev pub AreTimesRejected : List Row → Rejection → Type 0
 AreTimesRejected rows r =
-    NamesGiven Times (first_of (codes "time") rows) r
-    ⊎ (HasTimeForm rows × NamesGiven From (first_of (codes "from") rows) r)
-    ⊎ (HasTimeForm rows × HasFrom rows × NamesGiven To (first_of (codes "to") rows) r)
-    ⊎ (HasTimeForm rows × HasFrom rows × HasTo rows × NamesGiven Period (first_of (codes "every") rows) r)
+    NamesGivenOption Times (first_of (codes "time") rows) r
+    ⊎ (HasTimeForm rows × NamesGivenOption From (first_of (codes "from") rows) r)
+    ⊎ (HasTimeForm rows × HasFrom rows × NamesGivenOption To (first_of (codes "to") rows) r)
+    ⊎ (HasTimeForm rows × HasFrom rows × HasTo rows × NamesGivenOption Period (first_of (codes "every") rows) r)
 
 -- the times of `follow` are valid
 abbrev pub HasAllTimes : List Row → Type 0
@@ -152,22 +152,22 @@ IsBesideRejectedFor (Some file) rows r = IsBesideRejected rows file r
 -- why the entries of `follow` are not a request: the first of its options that is not valid, in the order --code, --only, --t-max, --ports, its times, then --beside
 abbrev pub IsFollowRejected : List Row → Rejection → Type 0
 IsFollowRejected rows r =
-    NamesGiven Code (first_of (codes "code") rows) r
-    ⊎ (HasCode rows × NamesGiven Only (first_of (codes "only") rows) r)
-    ⊎ (HasCode rows × HasRemark rows × NamesGiven TMax (first_of (codes "t-max") rows) r)
-    ⊎ Lacks (codes "file") rows r
-    ⊎ (HasCode rows × HasRemark rows × HasAge rows × NamesGiven Ports (first_of (codes "ports") rows) r)
+    NamesGivenOption Code (first_of (codes "code") rows) r
+    ⊎ (HasCode rows × NamesGivenOption Only (first_of (codes "only") rows) r)
+    ⊎ (HasCode rows × HasRemark rows × NamesGivenOption TMax (first_of (codes "t-max") rows) r)
+    ⊎ LacksArgument (codes "file") rows r
+    ⊎ (HasCode rows × HasRemark rows × HasAge rows × NamesGivenOption Ports (first_of (codes "ports") rows) r)
     ⊎ (HasCode rows × HasRemark rows × HasAge rows × HasPorts rows × AreTimesRejected rows r)
     ⊎ (HasCode rows × HasRemark rows × HasAge rows × HasPorts rows × HasAllTimes rows × IsBesideRejectedFor (first_of (codes "file") rows) rows r)
 
 -- why the entries of `il`, `fe` and `pair` are not a request: their length, or the first option that is not valid, in the order --log, --time, --expect, --stats, --every
 abbrev pub IsRunRejected : List Row → Rejection → Type 0
 IsRunRejected rows r =
-    Lacks (codes "file") rows r
+    LacksArgument (codes "file") rows r
     ⊎ IsLengthRejected (first_of (codes "turns") rows) (is_flagged (first_of (codes "until-end") rows)) r
-    ⊎ (HasLength rows × NamesGiven Log (first_of (codes "log") rows) r)
-    ⊎ (HasLength rows × HasLog rows × NamesGiven LogTime (first_of (codes "time") rows) r)
-    ⊎ (HasLength rows × HasLog rows × HasTime rows × NamesGiven Expect (first_of (codes "expect") rows) r)
+    ⊎ (HasLength rows × NamesGivenOption Log (first_of (codes "log") rows) r)
+    ⊎ (HasLength rows × HasLog rows × NamesGivenOption LogTime (first_of (codes "time") rows) r)
+    ⊎ (HasLength rows × HasLog rows × HasTime rows × NamesGivenOption Expect (first_of (codes "expect") rows) r)
     ⊎ (HasLength rows × HasLog rows × HasTime rows × HasEnd rows × AreCountsRejected (first_of (codes "stats") rows) (first_of (codes "every") rows) r)
 
 -- no subcommand has this name
@@ -179,11 +179,11 @@ IsStrange name =
 -- why the entries of the subcommand of this name are not a request
 abbrev pub IsRejected : Text → List Row → Rejection → Type 0
 IsRejected name rows r =
-    ((name ≡ codes "md4") × Lacks (codes "hex") rows r)
+    ((name ≡ codes "md4") × LacksArgument (codes "hex") rows r)
     ⊎ ((name ≡ codes "show") × IsShowRejected rows r)
-    ⊎ ((name ≡ codes "sim") × Lacks (codes "script") rows r)
+    ⊎ ((name ≡ codes "sim") × LacksArgument (codes "script") rows r)
     ⊎ ((name ≡ codes "follow") × IsFollowRejected rows r)
-    ⊎ ((name ≡ codes "check") × Lacks (codes "file") rows r)
+    ⊎ ((name ≡ codes "check") × LacksArgument (codes "file") rows r)
     ⊎ ((word : Subcommand) × (name ≡ ends_word word) × IsRunRejected rows r)
     ⊎ (IsStrange name × (r ≡ Missing))
 

@@ -8,8 +8,8 @@ use Rattle.rasta_words.specs.declared.status.LogLevel.{LogLevel}
 use Rattle.rasta_words.specs.declared.status.LogLevel.TheVariants.{Off, State, All}
 use Rattle.rasta_words.specs.declared.status.LogTime.{LogTime}
 use Rattle.rasta_words.specs.declared.status.LogTime.TheVariants.{Utc, Run}
-use Rattle.rasta_words.specs.declared.status.Expected.{Expected}
-use Rattle.rasta_words.specs.declared.status.Expected.TheVariants.{Up, Settled}
+use Rattle.rasta_words.specs.declared.status.ExpectedState.{ExpectedState}
+use Rattle.rasta_words.specs.declared.status.ExpectedState.TheVariants.{Up, Settled}
 use Rattle.rasta_words.specs.declared.status.CountsForm.{CountsForm}
 use Rattle.rasta_words.specs.declared.status.CountsForm.TheVariants as counts_form
 use Rattle.rasta_words.specs.declared.status.CountsRequest.{CountsRequest}
@@ -85,17 +85,17 @@ IsTimeChosen None time = time ≡ Utc
 IsTimeChosen (Some word) time = word ≡ time_word time
 
 -- the word for an expected state
-abbrev pub expected_word : Expected → Text
+abbrev pub expected_word : ExpectedState → Text
 expected_word Up = codes "up"
 expected_word Settled = codes "settled"
 
 -- the word names this expected state
-abbrev pub IsEndWritten : Text → Option Expected → Type 0
+abbrev pub IsEndWritten : Text → Option ExpectedState → Type 0
 IsEndWritten word None = ⊥
 IsEndWritten word (Some expected) = word ≡ expected_word expected
 
 -- the expected state that the word of `--expect` names; none without the option
-abbrev pub IsEndChosen : Option Text → Option Expected → Type 0
+abbrev pub IsEndChosen : Option Text → Option ExpectedState → Type 0
 IsEndChosen None expected = expected ≡ None
 IsEndChosen (Some word) expected = IsEndWritten word expected
 
@@ -106,15 +106,15 @@ form_word counts_form.Json = codes "json"
 form_word counts_form.Prometheus = codes "prometheus"
 
 -- the counts have the form of the first word and the seconds of the second
-abbrev pub AreTold : Text → Option Text → Option CountsRequest → Type 0
-AreTold form every None = ⊥
-AreTold form every (Some t) = (form ≡ form_word t.form) × AreSecondsChosen every t.every
+abbrev pub AreCountsWritten : Text → Option Text → Option CountsRequest → Type 0
+AreCountsWritten form every None = ⊥
+AreCountsWritten form every (Some t) = (form ≡ form_word t.form) × AreSecondsChosen every t.every
 
 -- the counts that the words of `--stats` and `--every` choose; none without the first, and then the second must be absent, too
 abbrev pub AreCountsChosen : Option Text → Option Text → Option CountsRequest → Type 0
 AreCountsChosen None None counts = counts ≡ None
 AreCountsChosen None (Some every) counts = ⊥
-AreCountsChosen (Some form) every counts = AreTold form every counts
+AreCountsChosen (Some form) every counts = AreCountsWritten form every counts
 
 -- the run has the values of the entries that clap found
 abbrev pub IsRun : List Row → RunRequest → Type 0

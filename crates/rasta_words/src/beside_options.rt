@@ -3,7 +3,7 @@
 ghost use Rattle.std.specs.Prelude.{◌≡◌, IfErr, IfOk};
 ghost use Rattle.std.specs.Option.{option_copied};
 ghost use Rattle.clap.specs.Words.{found_of, rows_of};
-ghost use Rattle.rasta_words.specs.Beside.{IsBesideChosen, IsBesideRejected, time_of, unpaired_of, value_of};
+ghost use Rattle.rasta_words.specs.BesideOptions.{IsBesideChosen, IsBesideRejected, time_of, unpaired_of, value_of};
 
 use crate::entries::{entry, is_chosen};
 use crate::rejection::Rejection;

@@ -2,7 +2,7 @@
 
 ghost use Rattle.std.specs.Prelude.{◌≡◌, ◌≢◌, codes, [], Option, Some, Ok, IsOk, IsErr, IfOk, IfErr, IfSome, map};
 ghost use Rattle.clap.specs.Words.{fault_of, found_of, rows_of, subcommand_of, subcommand_rows_of};
-ghost use Rattle.rasta_words.specs.CommandLine.{Asks, FindsNone, HasEntries, HasNoEntries, IsFaultOf, IsFound, Refuses, rasta_app};
+ghost use Rattle.rasta_words.specs.CommandLine.{AsksForRequest, FindsNone, HasEntries, HasNoEntries, IsFaultOf, IsFound, RefusesWords, rasta_app};
 ghost use Rattle.rasta_words.specs.Runs.{ends_word};
 ghost use Rattle.rasta_words.specs.Rejections.{IsReason, IsRejected, IsShowRejected};
 
@@ -11,7 +11,7 @@ use crate::follow_options::choices;
 use crate::program_command::rasta_command;
 use crate::rejection::{Choice, Rejection};
 use crate::run_options::ends_run;
-use crate::{CountsRequest, Expected, LogLevel, LogTime, RunLength};
+use crate::{CountsRequest, ExpectedState, LogLevel, LogTime, RunLength};
 use capture::{Ports, Span};
 use capture_text::{Remarkable, TimeForm};
 use clap::ArgMatches;
@@ -70,7 +70,7 @@ pub struct RunRequest<'a> {
     /// `--stamp`: the lines of telegrams taken begin with that time.
     pub stamp: bool,
     /// `--expect`: the state in which each end must be when the run is over.
-    pub expected: Option<Expected>,
+    pub expected: Option<ExpectedState>,
     /// `--keep`: an end that has lost its connection is opened again.
     pub keep: bool,
     /// `--stats`, and `--every` with a number of seconds: how and when counts are printed.
@@ -146,15 +146,15 @@ pub fn command<'a, S: AsStr>(alloc: Global, words: &'a [S]) -> Result<Request<'a
     // The request that `command` returns has the name of the subcommand that clap finds, its values are the
     // entries found there, and each choice is one of those listed. Of turns and the end of input exactly one is
     // given (`IsLengthChosen`).
-    ensures found { IfOk result (Asks (map S.text words.entry.now)) }
+    ensures found { IfOk result (AsksForRequest (map S.text words.entry.now)) }
     // If `command` returns a request, clap's rules find no fault in the words.
     ensures fits { IsOk result → fault_of rasta_app (map S.text words.entry.now) ≡ [] }
     // If `command` fails with an error of clap, its kind is that of a fault that clap's rules find, or want of
     // memory (`HasKind`). `command` itself never returns `NotText`. If it returns `Rejected`, the words ask for no
     // request, and the rejection is the first reason in the order of the options (`IsReason`).
-    ensures refused { IfErr result (Refuses (map S.text words.entry.now)) }
+    ensures refused { IfErr result (RefusesWords (map S.text words.entry.now)) }
 {
-    let matches = matched(alloc, words)?;
+    let matches = match_words(alloc, words)?;
     match request_of(&matches) {
         Ok(request) => Ok(request),
         Err(rejection) => Err(WordsFault::Rejected(rejection)),
@@ -171,18 +171,18 @@ fn request_of<'a>(matches: &ArgMatches<'a>) -> Result<Request<'a>, Rejection<'a>
     ensures refused { IfErr result (IsReason (subcommand_rows_of matches.now)) }
 {
     match matches.subcommand() {
-        Some((name, entries)) => asked_by(name, entries),
+        Some((name, entries)) => request_by_name(name, entries),
         None => Err(Rejection::Missing),
     }
 }
 
 /// Returns the request of the subcommand with this name.
-fn asked_by<'a>(name: &str, entries: &ArgMatches<'a>) -> Result<Request<'a>, Rejection<'a>>
-    // The request that `asked_by` returns is that of `name`, with the values of `entries`.
+fn request_by_name<'a>(name: &str, entries: &ArgMatches<'a>) -> Result<Request<'a>, Rejection<'a>>
+    // The request that `request_by_name` returns is that of `name`, with the values of `entries`.
     ensures found { IfOk result (λ request. HasEntries request name.now (rows_of (found_of entries.now))) }
-    // If `asked_by` fails, no request with this `name` has the values of `entries`.
+    // If `request_by_name` fails, no request with this `name` has the values of `entries`.
     ensures none { IsErr result → HasNoEntries name.now (rows_of (found_of entries.now)) }
-    // If `asked_by` fails, its rejection is the first reason that the `entries` of this `name` have.
+    // If `request_by_name` fails, its rejection is the first reason that the `entries` of this `name` have.
     ensures refused { IfErr result (IsRejected name.now (rows_of (found_of entries.now))) }
 {
     match name {
@@ -190,7 +190,7 @@ fn asked_by<'a>(name: &str, entries: &ArgMatches<'a>) -> Result<Request<'a>, Rej
             Some(hex) => Ok(Request::Digest { hex }),
             None => Err(Rejection::Missing),
         },
-        "show" => shown(entries),
+        "show" => show_request(entries),
         "sim" => match entry(entries, "script") {
             Some(script) => Ok(Request::Sim { script }),
             None => Err(Rejection::Missing),
@@ -203,17 +203,17 @@ fn asked_by<'a>(name: &str, entries: &ArgMatches<'a>) -> Result<Request<'a>, Rej
             Some(file) => Ok(Request::Check { file }),
             None => Err(Rejection::Missing),
         },
-        _ => run_asked(name, entries),
+        _ => run_request(name, entries),
     }
 }
 
 /// Returns the request of `show` with these entries.
-fn shown<'a>(entries: &ArgMatches<'a>) -> Result<Request<'a>, Rejection<'a>>
-    // The request that `shown` returns is one of `show`, with the values of `entries`.
+fn show_request<'a>(entries: &ArgMatches<'a>) -> Result<Request<'a>, Rejection<'a>>
+    // The request that `show_request` returns is one of `show`, with the values of `entries`.
     ensures found { IfOk result (λ request. HasEntries request (codes "show") (rows_of (found_of entries.now))) }
-    // If `shown` fails, no request of `show` has the values of `entries`.
+    // If `show_request` fails, no request of `show` has the values of `entries`.
     ensures none { IsErr result → HasNoEntries (codes "show") (rows_of (found_of entries.now)) }
-    // If `shown` fails, the code or the datagram is missing, or the code is the value that it rejects.
+    // If `show_request` fails, the code or the datagram is missing, or the code is the value that it rejects.
     ensures refused { IfErr result (IsShowRejected (rows_of (found_of entries.now))) }
 {
     let Some(word) = entry(entries, "code") else {
@@ -233,17 +233,17 @@ fn shown<'a>(entries: &ArgMatches<'a>) -> Result<Request<'a>, Rejection<'a>>
 }
 
 /// Returns the request of `il`, `fe` or `pair` with these entries.
-fn run_asked<'a>(name: &str, entries: &ArgMatches<'a>) -> Result<Request<'a>, Rejection<'a>>
+fn run_request<'a>(name: &str, entries: &ArgMatches<'a>) -> Result<Request<'a>, Rejection<'a>>
     requires md4 { name.now ≢ codes "md4" }
     requires show { name.now ≢ codes "show" }
     requires sim { name.now ≢ codes "sim" }
     requires follow { name.now ≢ codes "follow" }
     requires check { name.now ≢ codes "check" }
-    // The request that `run_asked` returns is a run of `name`, with the values of `entries`.
+    // The request that `run_request` returns is a run of `name`, with the values of `entries`.
     ensures found { IfOk result (λ request. HasEntries request name.now (rows_of (found_of entries.now))) }
-    // If `run_asked` fails, no request with this `name` has the values of `entries`.
+    // If `run_request` fails, no request with this `name` has the values of `entries`.
     ensures none { IsErr result → HasNoEntries name.now (rows_of (found_of entries.now)) }
-    // If `run_asked` fails, no subcommand has this `name`, or its rejection is the first reason of the run.
+    // If `run_request` fails, no subcommand has this `name`, or its rejection is the first reason of the run.
     ensures refused { IfErr result (IsRejected name.now (rows_of (found_of entries.now))) }
 {
     let Some(word) = ends(name) else {
@@ -271,13 +271,16 @@ fn ends(name: &str) -> Option<Subcommand>
 }
 
 /// Returns what clap finds in the words.
-fn matched<'a, S: AsStr>(alloc: Global, words: &'a [S]) -> Result<ArgMatches<'a>, WordsFault<'a>>
-    // The subcommand and entries that `matched` returns are those that clap's rules find in the words.
+fn match_words<'a, S: AsStr>(
+    alloc: Global,
+    words: &'a [S],
+) -> Result<ArgMatches<'a>, WordsFault<'a>>
+    // The subcommand and entries that `match_words` returns are those that clap's rules find in the words.
     ensures rows { IfOk result
         (λ matches. subcommand_rows_of matches ≡ subcommand_of rasta_app (map S.text words.entry.now)) }
-    // If `matched` returns entries, clap's rules find no fault in the words.
+    // If `match_words` returns entries, clap's rules find no fault in the words.
     ensures fits { IsOk result → fault_of rasta_app (map S.text words.entry.now) ≡ [] }
-    // The error of `matched` has the kind of a fault that clap's rules find in the words, or is want of memory.
+    // The error of `match_words` has the kind of a fault that clap's rules find in the words, or is want of memory.
     ensures refused { IfErr result (IsFaultOf (map S.text words.entry.now)) }
 {
     let command = match rasta_command(alloc) {

@@ -3,10 +3,10 @@
 ghost use Rattle.std.specs.Prelude.{◌≡◌, ℕ, List, Option, Some, Ok, IsErr, IfOk, IfErr, IfSome};
 ghost use Rattle.std.specs.Option.{option_copied};
 ghost use Rattle.clap.specs.Words.{found_of, rows_of};
-ghost use Rattle.rasta_words.specs.Rejections.{IsFollowRejected, NamesGiven};
+ghost use Rattle.rasta_words.specs.Rejections.{IsFollowRejected, NamesGivenOption};
 ghost use Rattle.rasta_words.specs.declared.rejection.Choice.TheVariants as choice;
 ghost use Rattle.capture.specs.declared.ports.PortRange.{PortRange};
-ghost use Rattle.rasta_words.specs.Beside.{HasChoices, HasNoChoices};
+ghost use Rattle.rasta_words.specs.BesideOptions.{HasChoices, HasNoChoices};
 ghost use Rattle.rasta_words.specs.Choices.{ArePortsChosen, IsAgeChosen, IsCodeChosen, IsMilliseconds, IsRemarkChosen};
 
 use crate::beside_options::chosen_recording;
@@ -61,7 +61,7 @@ fn chosen_code<'a>(word: Option<&'a str>) -> Result<CodeLength, Rejection<'a>>
     // If the word, or its absence, chooses a length, `chosen_code` returns it.
     ensures only { (code : CodeLength) → IsCodeChosen (option_copied word.entry) code → result ≡ Ok code }
     // If `chosen_code` fails, the word is the value of `Code` that it rejects.
-    ensures refused { IfErr result (NamesGiven choice.Code (option_copied word.entry)) }
+    ensures refused { IfErr result (NamesGivenOption choice.Code (option_copied word.entry)) }
 {
     match word {
         None => Ok(CodeLength::Eight),
@@ -83,7 +83,7 @@ fn chosen_remark<'a>(word: Option<&'a str>) -> Result<Option<Remarkable>, Reject
     ensures only { (remark : Option Remarkable) → IsRemarkChosen (option_copied word.entry) remark
         → result ≡ Ok remark }
     // If `chosen_remark` fails, the word is the value of `Only` that it rejects.
-    ensures refused { IfErr result (NamesGiven choice.Only (option_copied word.entry)) }
+    ensures refused { IfErr result (NamesGivenOption choice.Only (option_copied word.entry)) }
 {
     match word {
         None => Ok(None),
@@ -105,7 +105,7 @@ fn chosen_ports<'a>(word: Option<&'a str>) -> Result<Option<Ports>, Rejection<'a
     ensures only { (ports : Option (List (Option PortRange))) → ArePortsChosen (option_copied word.entry) ports
         → result ≡ Ok ports }
     // If `chosen_ports` fails, the word is the value of `Ports` that it rejects.
-    ensures refused { IfErr result (NamesGiven choice.Ports (option_copied word.entry)) }
+    ensures refused { IfErr result (NamesGivenOption choice.Ports (option_copied word.entry)) }
 {
     match word {
         None => Ok(None),
@@ -126,7 +126,7 @@ fn chosen_age<'a>(word: Option<&'a str>) -> Result<u32, Rejection<'a>>
     // If the word, or its absence, chooses an age, `chosen_age` returns it.
     ensures only { (age : ℕ) → IsAgeChosen (option_copied word.entry) age → result ≡ Ok age }
     // If `chosen_age` fails, the word is the value of `TMax` that it rejects.
-    ensures refused { IfErr result (NamesGiven choice.TMax (option_copied word.entry)) }
+    ensures refused { IfErr result (NamesGivenOption choice.TMax (option_copied word.entry)) }
 {
     match word {
         None => Ok(1800),

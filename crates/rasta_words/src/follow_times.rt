@@ -5,7 +5,7 @@ ghost use Rattle.std.specs.Option.{option_copied};
 ghost use Rattle.clap.specs.Words.{found_of, rows_of};
 ghost use Rattle.capture.specs.declared.instants.Instant.{Instant as TheInstant};
 ghost use Rattle.capture_text.specs.declared.pieces.TimeForm.{TimeForm as TheForm};
-ghost use Rattle.rasta_words.specs.Rejections.{AreTimesRejected, NamesGiven};
+ghost use Rattle.rasta_words.specs.Rejections.{AreTimesRejected, NamesGivenOption};
 ghost use Rattle.rasta_words.specs.Seconds.{AreSecondsChosen};
 ghost use Rattle.rasta_words.specs.Times.{HasNoTimes, HasTimes, IsFormChosen, IsInstantChosen};
 ghost use Rattle.rasta_words.specs.declared.rejection.Choice.TheVariants as choice;
@@ -46,7 +46,7 @@ fn chosen_form<'a>(word: Option<&'a str>) -> Result<TimeForm, Rejection<'a>>
     // If the word, or its absence, chooses a form, `chosen_form` returns it.
     ensures only { (form : TheForm) → IsFormChosen (option_copied word.entry) form → result ≡ Ok form }
     // If `chosen_form` fails, the word is the value of `Times` that it rejects.
-    ensures refused { IfErr result (NamesGiven choice.Times (option_copied word.entry)) }
+    ensures refused { IfErr result (NamesGivenOption choice.Times (option_copied word.entry)) }
 {
     match word {
         None => Ok(TimeForm::Since),
@@ -68,7 +68,7 @@ fn chosen_start<'a>(word: Option<&'a str>) -> Result<Option<Instant>, Rejection<
     ensures only { (instant : Option TheInstant) → IsInstantChosen (option_copied word.entry) instant
         → result ≡ Ok instant }
     // If `chosen_start` fails, the word is the value of `From` that it rejects.
-    ensures refused { IfErr result (NamesGiven choice.From (option_copied word.entry)) }
+    ensures refused { IfErr result (NamesGivenOption choice.From (option_copied word.entry)) }
 {
     match word {
         None => Ok(None),
@@ -90,7 +90,7 @@ fn chosen_end<'a>(word: Option<&'a str>) -> Result<Option<Instant>, Rejection<'a
     ensures only { (instant : Option TheInstant) → IsInstantChosen (option_copied word.entry) instant
         → result ≡ Ok instant }
     // If `chosen_end` fails, the word is the value of `To` that it rejects.
-    ensures refused { IfErr result (NamesGiven choice.To (option_copied word.entry)) }
+    ensures refused { IfErr result (NamesGivenOption choice.To (option_copied word.entry)) }
 {
     match word {
         None => Ok(None),
@@ -111,7 +111,7 @@ fn chosen_period<'a>(word: Option<&'a str>) -> Result<Option<u32>, Rejection<'a>
     // If there is no word, or a number of 1 to 86,400 as word, `chosen_period` returns what it chooses.
     ensures only { (every : Option ℕ) → AreSecondsChosen (option_copied word.entry) every → result ≡ Ok every }
     // If `chosen_period` fails, the word is the value of `Period` that it rejects.
-    ensures refused { IfErr result (NamesGiven choice.Period (option_copied word.entry)) }
+    ensures refused { IfErr result (NamesGivenOption choice.Period (option_copied word.entry)) }
 {
     match word {
         None => Ok(None),

@@ -18,5 +18,5 @@ pub use command_line::{FollowRequest, FollowTimes, Request, RunRequest, WordsFau
 pub use program_command::VERSION;
 pub use rejection::{Choice, Rejection};
 pub use status::{
-    CountsForm, CountsRequest, Expected, Fault, LogLevel, LogTime, RunLength, Status, report,
+    CountsForm, CountsRequest, ExpectedState, Fault, LogLevel, LogTime, RunLength, Status, report,
 };

@@ -5,13 +5,13 @@ ghost use Rattle.std.specs.Option.{option_copied};
 ghost use Rattle.clap.specs.Words.{found_of, rows_of};
 ghost use Rattle.rasta_words.specs.Runs.{HasNoRun, IsEndChosen, IsLogChosen, IsTimeChosen, IsLengthChosen, IsRun, AreCountsChosen, expected_word, form_word, log_word, time_word, IsTurns};
 ghost use Rattle.rasta_words.specs.Seconds.{AreSecondsChosen, IsSeconds};
-ghost use Rattle.rasta_words.specs.Rejections.{AreCountsRejected, IsLengthRejected, IsRunRejected, NamesGiven};
+ghost use Rattle.rasta_words.specs.Rejections.{AreCountsRejected, IsLengthRejected, IsRunRejected, NamesGivenOption};
 ghost use Rattle.rasta_words.specs.declared.rejection.Choice.TheVariants as choice;
 
 use crate::command_line::RunRequest;
 use crate::entries::{entry, is_chosen};
 use crate::rejection::{Choice, Rejection};
-use crate::{CountsForm, CountsRequest, Expected, LogLevel, LogTime, RunLength};
+use crate::{CountsForm, CountsRequest, ExpectedState, LogLevel, LogTime, RunLength};
 use clap::ArgMatches;
 use settings_file::Subcommand;
 
@@ -104,7 +104,7 @@ fn chosen_seconds<'a>(word: Option<&'a str>) -> Result<Option<u32>, Rejection<'a
     // If there is no word, or a number of 1 to 86,400 as word, `chosen_seconds` returns what it chooses.
     ensures only { (every : Option ℕ) → AreSecondsChosen (option_copied word.entry) every → result ≡ Ok every }
     // If `chosen_seconds` fails, the word is the value of `Every` that it rejects.
-    ensures refused { IfErr result (NamesGiven choice.Every (option_copied word.entry)) }
+    ensures refused { IfErr result (NamesGivenOption choice.Every (option_copied word.entry)) }
 {
     match word {
         None => Ok(None),
@@ -177,7 +177,7 @@ fn chosen_log<'a>(word: Option<&'a str>) -> Result<LogLevel, Rejection<'a>>
     // If the word, or its absence, chooses a level, `chosen_log` returns it.
     ensures only { (level : LogLevel) → IsLogChosen (option_copied word.entry) level → result ≡ Ok level }
     // If `chosen_log` fails, the word is the value of `Log` that it rejects.
-    ensures refused { IfErr result (NamesGiven choice.Log (option_copied word.entry)) }
+    ensures refused { IfErr result (NamesGivenOption choice.Log (option_copied word.entry)) }
 {
     match word {
         None => Ok(LogLevel::Off),
@@ -213,7 +213,7 @@ fn chosen_time<'a>(word: Option<&'a str>) -> Result<LogTime, Rejection<'a>>
     // If the word, or its absence, chooses times, `chosen_time` returns them.
     ensures only { (time : LogTime) → IsTimeChosen (option_copied word.entry) time → result ≡ Ok time }
     // If `chosen_time` fails, the word is the value of `LogTime` that it rejects.
-    ensures refused { IfErr result (NamesGiven choice.LogTime (option_copied word.entry)) }
+    ensures refused { IfErr result (NamesGivenOption choice.LogTime (option_copied word.entry)) }
 {
     match word {
         None => Ok(LogTime::Utc),
@@ -242,14 +242,14 @@ fn log_time(word: &str) -> Option<LogTime>
 }
 
 /// Returns the state that a word expects of ends: none if there is no word.
-fn chosen_end<'a>(word: Option<&'a str>) -> Result<Option<Expected>, Rejection<'a>>
+fn chosen_end<'a>(word: Option<&'a str>) -> Result<Option<ExpectedState>, Rejection<'a>>
     // The expected state that `chosen_end` returns is that of the word, and none without one.
     ensures found { IfOk result (IsEndChosen (option_copied word.entry)) }
     // If the word, or its absence, chooses an expected state, `chosen_end` returns it.
-    ensures only { (expected : Option Expected) → IsEndChosen (option_copied word.entry) expected
+    ensures only { (expected : Option ExpectedState) → IsEndChosen (option_copied word.entry) expected
         → result ≡ Ok expected }
     // If `chosen_end` fails, the word is the value of `Expect` that it rejects.
-    ensures refused { IfErr result (NamesGiven choice.Expect (option_copied word.entry)) }
+    ensures refused { IfErr result (NamesGivenOption choice.Expect (option_copied word.entry)) }
 {
     match word {
         None => Ok(None),
@@ -264,15 +264,15 @@ fn chosen_end<'a>(word: Option<&'a str>) -> Result<Option<Expected>, Rejection<'
 }
 
 /// Returns the expected state with this word.
-fn expected(word: &str) -> Option<Expected>
+fn expected(word: &str) -> Option<ExpectedState>
     // The word of the state that `expected` returns is the one given: `up` or `settled`.
     ensures found { IfSome result (λ expected. word.now ≡ expected_word expected) }
     // `expected` returns a state for each of its words.
-    ensures only { (expected : Expected) → word.now ≡ expected_word expected → result ≡ Some expected }
+    ensures only { (expected : ExpectedState) → word.now ≡ expected_word expected → result ≡ Some expected }
 {
     match word {
-        "up" => Some(Expected::Up),
-        "settled" => Some(Expected::Settled),
+        "up" => Some(ExpectedState::Up),
+        "settled" => Some(ExpectedState::Settled),
         _ => None,
     }
 }

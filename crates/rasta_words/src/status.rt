@@ -75,7 +75,7 @@ pub enum RunLength {
 
 /// The state that is expected of ends after their turns.
 #[derive(Clone, Copy, Debug, PartialEq, Eq)]
-pub enum Expected {
+pub enum ExpectedState {
     /// The session is established. The state of the connection is not asked: it changes with each retransmission,
     /// the phase of the session does not.
     Up,

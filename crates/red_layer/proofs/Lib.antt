@@ -3,8 +3,8 @@ pub mod FiniteMap
 pub mod Entries
 pub mod Runs
 pub mod Views
-pub mod Deferring
-pub mod Ordered
-pub mod Masked
+pub mod EarlyParts
+pub mod Order
+pub mod MaskingLaw
 pub mod Origins
-pub mod Accepted
+pub mod AcceptedParts

@@ -9,7 +9,7 @@ use Rattle.red_layer.specs.Service.{IsAmong, AreAmong, part_received, parts_pass
 use Rattle.red_layer.specs.Laws.{BoundedLaw, OriginLaw, OneMoreLaw}
 use Rattle.red_layer.proofs.Views.{length-after_run}
 use Rattle.octets.proofs.Choices.{by_cond, by_test}
-use Rattle.red_layer.proofs.Ordered.{run_from-among, after_run-among, put_in-among, AreAmong-more, AreAmong-append}
+use Rattle.red_layer.proofs.Order.{run_from-among, after_run-among, put_in-among, AreAmong-more, AreAmong-append}
 use Rattle.red_layer.proofs.FiniteMap.{length-put_in}
 
 AreAmong-cons : (p : Part) (ps qs : List Part) → AreAmong ps qs → AreAmong ps (p ∷ qs)

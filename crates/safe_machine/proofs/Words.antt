@@ -46,7 +46,7 @@ pub use Rattle.safe_machine.specs.Moves.Move.{Guards, Hears, Leaves as LeavesNow
 pub use Rattle.safe_machine.specs.Numbers.{ahead, sn_of, wrap}
 pub use Rattle.safe_machine.specs.Octets.{arrive_octets, move_of, decoded_answer, octets_turn, octets_units}
 pub use Rattle.safe_machine.specs.Properties.{HandsIf, IsNextData, IsRecent, StopsOnly, index_step, OnlyConfirms}
-pub use Rattle.safe_machine.specs.Reached.{AreRead, FewLaw, IsReached, IsRead}
+pub use Rattle.safe_machine.specs.Invariant.{AreRead, FewLaw, IsReached, IsRead}
 pub use Rattle.safe_machine.specs.Ring.{after_at, after_carrier, carried_again, carried_at, carriers, carriers_from, is_resent, count_resent, ring_of}
 pub use Rattle.safe_machine.specs.Settings.{Settings, are_two, in_range, is_coded, is_legal}
 pub use Rattle.safe_machine.specs.State.{State, unconfirmed}
@@ -55,7 +55,7 @@ pub use Rattle.safe_machine.proofs.one.Effects.{answered_ahead, ask, beat, blank
 pub use Rattle.safe_machine.proofs.one.Effects.{heartbeat, left_by, make, move_to, next_made, note_request, pass, reply, resend, respond, set_window}
 pub use Rattle.safe_machine.proofs.one.Effects.{take_unit, tests_passed}
 pub use Rattle.safe_machine.specs.Table.{cell, request_row, run_row, start_row, up_row}
-pub use Rattle.safe_machine.specs.Turned.{HasMade, MaySend, OpenedTurn, Tells, Turned, units_of_move, turn}
+pub use Rattle.safe_machine.specs.TurnLaws.{HasMade, MaySend, OpenedTurn, DeterminesUnits, LeadsByTurn, units_of_move, turn}
 pub use Rattle.safe_machine.specs.Turns.{Out, Turn, answer_ahead_turn, arrive_answer, arrival_turn, request_turn, heartbeat_turn, both_confirmed, carried_unit, decision_turn, confirmed_to}
 pub use Rattle.safe_machine.specs.Turns.{count_pdu, goes_on, guard_turn, handed_by, handed_units, has_room, is_open, leave_turn, moved_to, opening_turn, move_past, renumber_ring, reply_turn, tick_turn}
 pub use Rattle.safe_machine.specs.Turns.{mark_answered, resend_turn, response_turn, sending_turn, send_turn, send_unit_turn, still, take_unit_turn, units_confirmed, new_view, with_window}

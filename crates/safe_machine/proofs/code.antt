@@ -1,3 +1,3 @@
 -- Lemmas that the functions of the crate rely on.
 pub mod Properties
-pub mod Reaching
+pub mod Reach

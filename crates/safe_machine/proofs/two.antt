@@ -3,5 +3,5 @@ pub mod Invariant
 pub mod Lone
 pub mod Status
 pub mod Worlds
-pub mod Timing
+pub mod Times
 pub mod Freshness

@@ -15,8 +15,8 @@ pub mod World
 pub mod Law
 pub mod InOrder
 pub mod Moves
-pub mod Turned
+pub mod TurnLaws
 pub mod Octets
 pub mod inner
-pub mod Reached
+pub mod Invariant
 pub mod Properties

@@ -9,7 +9,7 @@ use Rattle.safe_machine.specs.declared.Step.TheVariants.{Dropped, Nothing as NoA
 use Rattle.safe_machine.specs.State.{State}
 use Rattle.safe_machine.specs.View.{View, StandsFor, kept_of}
 use Rattle.safe_machine.specs.Turns.{Turn, arrive_answer, unless_guarded}
-use Rattle.safe_machine.specs.Turned.{Turned, turn, units_of_move}
+use Rattle.safe_machine.specs.TurnLaws.{LeadsByTurn, turn, units_of_move}
 use Rattle.safe_machine.specs.Moves.{Move, move}
 use Rattle.safe_machine.specs.Moves.Move.{Guards, Hears}
 use Rattle.safe_machine.specs.Connections.{is_closed}
@@ -49,7 +49,7 @@ octets_units octets now v = units_of_move (move_of (safe_seen v.settings.rule oc
 abbrev pub OctetsLaw : Type 0
 OctetsLaw =
     (octets : List ℕ) (now : ℕ) (v : View) (s : State) → StandsFor v s →
-    Turned (octets_turn octets now v) (octets_units octets now v) s (arrive_octets octets now s)
+    LeadsByTurn (octets_turn octets now v) (octets_units octets now v) s (arrive_octets octets now s)
 
 -- If bytes hand up a unit, the end reads their confirmed timestamp as recent.
 abbrev pub RecentLaw : Type 0

@@ -10,7 +10,7 @@ ghost use Rattle.safe_machine.specs.Table.{cell, request_row, run_row, start_row
 ghost use Rattle.safe_machine.specs.Numbers.{ahead};
 ghost use Rattle.safe_machine.specs.Octets.{decoded_answer, octets_turn, octets_units};
 ghost use Rattle.safe_machine.specs.Properties.{HandsIf, IsNextData, IsRecent, OnlyConfirms, index_step};
-ghost use Rattle.safe_machine.specs.Reached.{IsReached};
+ghost use Rattle.safe_machine.specs.Invariant.{IsReached};
 ghost use Rattle.safe_machine.specs.inner.Sound.{Sound};
 ghost use Rattle.safe_machine.specs.declared.ConnectionState.TheVariants.{Up};
 ghost use Rattle.safe_pdu.specs.Places.{safe_seen};

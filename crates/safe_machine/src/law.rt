@@ -4,9 +4,9 @@ ghost use Rattle.safe_machine.specs.InOrder.{OneMoreLaw, OrderLaw, StaysLaw};
 ghost use Rattle.safe_machine.specs.Law.{FreshAtLastLaw, FreshLaw, JoinedLaw, LossLaw, UnitLaw};
 ghost use Rattle.safe_machine.specs.Moves.{ConnectionsLaw, IdentifiedLaw, MovesLaw, ReachedLaw, RequestsLaw, SettingsLaw, StrangersLaw, TextsLaw, WaitsLaw};
 ghost use Rattle.safe_machine.specs.Octets.{OctetsLaw, RecentLaw};
-ghost use Rattle.safe_machine.specs.Reached.{FewLaw};
+ghost use Rattle.safe_machine.specs.Invariant.{FewLaw};
 ghost use Rattle.safe_machine.specs.Ring.{RingLaw};
-ghost use Rattle.safe_machine.specs.Turned.{MadeLaw, OpeningLaw, TellsLaw, TurnsLaw};
+ghost use Rattle.safe_machine.specs.TurnLaws.{MadeLaw, OpeningLaw, TellsLaw, TurnsLaw};
 
 /// States the laws of the machine. Calling it has no effect.
 ///

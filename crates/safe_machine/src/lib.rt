@@ -31,6 +31,7 @@
 ghost use Rattle.std.specs.Prelude.{◌≡◌};
 
 use octets::Milliseconds;
+use safe_pdu::Identifier;
 
 mod arrival;
 mod effects;
@@ -39,7 +40,7 @@ mod law;
 mod machine;
 mod opening;
 pub mod retrans;
-mod sending;
+mod sender;
 
 pub use law::unit_law;
 pub use machine::{Machine, PduOut, UnitIn};
@@ -76,9 +77,9 @@ pub enum Role {
 #[derive(Clone, Copy, Debug, PartialEq, Eq)]
 pub struct MachineConfig {
     /// The end's own identifier.
-    pub own: u32,
+    pub own: Identifier,
     /// The identifier of the peer, which must differ from `own`.
-    pub peer: u32,
+    pub peer: Identifier,
     /// The own window: how many units the peer may leave unconfirmed, 1 to 32.
     pub n_sendmax: u16,
     /// The greatest age of the last confirmation, in milliseconds: 100 to 60,000.

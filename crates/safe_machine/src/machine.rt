@@ -69,7 +69,7 @@ pub struct Machine<A: Allocator = Global> {
 
 impl<A: Allocator> Model for Machine<A> {
     ghost use Rattle.safe_machine.specs.View.{View};
-    ghost use Rattle.safe_machine.specs.Reached.{IsReached};
+    ghost use Rattle.safe_machine.specs.Invariant.{IsReached};
 
     ghost Value = { View };
 

@@ -1,4 +1,4 @@
 pub mod SafeLemmas
-pub mod Judging
-pub mod Asking
+pub mod ReadByField
+pub mod PremiseTest
 pub mod Codes

@@ -29,6 +29,9 @@ pub use bodies::{read_leaving, read_opening};
 pub use codec::{decode, encode, read_back, text_law};
 pub use reasons::{Detail, Reason};
 
+/// The number that identifies an end: the receiver or the sender of a PDU.
+pub type Identifier = u32;
+
 /// The eight types of safety PDU, by the standard's names.
 #[derive(Clone, Copy, Debug, PartialEq, Eq)]
 pub enum Kind {
@@ -259,9 +262,9 @@ pub struct SafePdu<'a> {
     /// The PDU type.
     pub kind: Kind,
     /// The identifier of the end that receives it.
-    pub receiver: u32,
+    pub receiver: Identifier,
     /// The identifier of the end that made it.
-    pub sender: u32,
+    pub sender: Identifier,
     /// The sequence number.
     pub sn: u32,
     /// The confirmed sequence number.

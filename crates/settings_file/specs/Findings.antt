@@ -20,7 +20,7 @@ use Rattle.settings_file.specs.declared.all_faults.TheConstants.{TEXT_MOST}
 use Rattle.settings_file.specs.Keys.{text_of, ◌>>=◌}
 use Rattle.settings_file.specs.Readers.{addresses_at, checksum_at, code_at, first_number_at, initial_value_at, name_at, number_at, put_of, puts_at, versions_at}
 use Rattle.settings_file.specs.Groups.{limit_at, other_than}
-use Rattle.settings_file.specs.Whole.{Wrong, as_many, at, is_end, is_known, no_document, no_table, unknown}
+use Rattle.settings_file.specs.FileContents.{Wrong, as_many, at, is_end, is_known, no_document, no_table, unknown}
 
 -- a finding as a plain value
 pub record FindingSeen : Type 0 where
@@ -32,8 +32,8 @@ pub record FindingSeen : Type 0 where
   pub text : Option (List ℕ)
 
 -- a fault without entry and text
-abbrev pub plain : Wrong → FindingSeen
-plain w = record { wrong = Some w; entry = None; text = None }
+abbrev pub plain_finding : Wrong → FindingSeen
+plain_finding w = record { wrong = Some w; entry = None; text = None }
 
 -- a text, if it has at most 80 bytes
 abbrev pub short_text : List ℕ → Option (List ℕ)
@@ -120,7 +120,7 @@ put_faults named d = option_map_or (λ v. option_map_or (entry_faults named 1) (
 -- the keys of a table that are not known, in order
 abbrev pub unknown_in : (List ℕ → Bool) → Option Side → Members → List FindingSeen
 unknown_in knows named no_members = []
-unknown_in knows named (member k d ms) = (if knows k then [] else plain (unknown named k) ∷ []) ++ unknown_in knows named ms
+unknown_in knows named (member k d ms) = (if knows k then [] else plain_finding (unknown named k) ∷ []) ++ unknown_in knows named ms
 
 -- the faults of the table of an end
 abbrev pub table_findings : Side → Option Side → Data → Members → List FindingSeen
@@ -128,7 +128,7 @@ table_findings e named d ms = unknown_in is_known named ms ++ faults_at e named 
 
 -- the faults of a value that must be the table of an end
 abbrev pub end_findings : Side → Option Side → Data → List FindingSeen
-end_findings e named d = option_map_or (table_findings e named d) (as_table d) (plain (no_table e) ∷ [])
+end_findings e named d = option_map_or (table_findings e named d) (as_table d) (plain_finding (no_table e) ∷ [])
 
 -- the table of an end in a file for both ends
 abbrev pub name_of : Side → List ℕ
@@ -136,13 +136,13 @@ name_of side.Interlocking = codes "il"
 name_of side.FieldElement = codes "fe"
 
 -- the faults of that table, or that it is missing
-abbrev pub named_findings : Side → Data → List FindingSeen
-named_findings e d = option_map_or (end_findings e (Some e)) (get (name_of e) d) (plain (no_table e) ∷ [])
+abbrev pub required_table_findings : Side → Data → List FindingSeen
+required_table_findings e d = option_map_or (end_findings e (Some e)) (get (name_of e) d) (plain_finding (no_table e) ∷ [])
 
 -- the faults of a file for both ends
 abbrev pub pair_findings : Members → List FindingSeen
 pair_findings ms =
-    unknown_in is_end None ms ++ named_findings side.Interlocking (table ms) ++ named_findings side.FieldElement (table ms)
+    unknown_in is_end None ms ++ required_table_findings side.Interlocking (table ms) ++ required_table_findings side.FieldElement (table ms)
 
 -- the faults of a file's table for the ends of a word
 abbrev pub members_findings : Subcommand → Members → List FindingSeen
@@ -152,7 +152,7 @@ members_findings word.Pair ms = pair_findings ms
 
 -- all faults of a text for the ends of a word; of one that is not TOML only that
 abbrev pub findings_of : Subcommand → List ℕ → List FindingSeen
-findings_of w text = option_map_or (members_findings w) (parse_document text) (plain no_document ∷ [])
+findings_of w text = option_map_or (members_findings w) (parse_document text) (plain_finding no_document ∷ [])
 
 -- the fault of a finding as a plain value, without the line
 abbrev pub wrong_seen : SettingsFault → Option Wrong

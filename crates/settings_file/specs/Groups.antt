@@ -10,7 +10,7 @@ use Rattle.std.specs.Prelude.{◌==◌, if◌then◌else◌}
 use Rattle.pdi_session.specs.telegram.Tele.{owned_characters}
 use Rattle.end_settings.specs.declared.Side.{Side}
 use Rattle.settings_file.specs.declared.keys.ExpectedValue.TheVariants as expected
-use Rattle.settings_file.specs.declared.values.Put.{Put}
+use Rattle.settings_file.specs.declared.values.PutEntry.{PutEntry}
 use Rattle.settings_file.specs.declared.values.Identity.{Identity}
 use Rattle.settings_file.specs.declared.values.Beginning.{Beginning}
 use Rattle.octets.specs.declared.limits.TheConstants.{MWA_MAX, PDU_LIMIT_HIGHEST, PDU_LIMIT_LOWEST, Q_MAX, T_H_LOWEST, T_MAX_HIGHEST, T_MAX_LOWEST, T_SEQ_LOWEST, T_SEQ_MAX, UNIT_MESSAGES, WINDOW_MAX}
@@ -92,5 +92,5 @@ beginning_of e d = do
   Ok (record { versions = versions; code = code; checksum = checksum; initial_value = initial_value; first_sn = first_sn })
 
 -- a telegram as message type and payload
-abbrev pub put_seen : Put → ℕ × List ℕ
+abbrev pub put_seen : PutEntry → ℕ × List ℕ
 put_seen p = (p.kind, p.payload.items)

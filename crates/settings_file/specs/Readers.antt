@@ -24,12 +24,12 @@ use Rattle.pdi_session.specs.declared.TheConstants.{CHECKSUM_MAX}
 use Rattle.settings_file.specs.Keys.{text_of}
 
 -- what a table has at a key: nothing, a whole number, or another value
-abbrev pub found_at : Data → Key → PresentValue
-found_at d k = option_map_or (λ v. option_map_or found.Number (as_integer v) found.Other) (get (text_of k) d) found.Nothing
+abbrev pub present_value_at : Data → Key → PresentValue
+present_value_at d k = option_map_or (λ v. option_map_or found.Number (as_integer v) found.Other) (get (text_of k) d) found.Nothing
 
 -- the fault at a key that expects `e`
 abbrev pub wrong_at : Data → Key → ExpectedValue → KeyFault
-wrong_at d k e = record { key = k; expected = e; found = found_at d k }
+wrong_at d k e = record { key = k; expected = e; found = present_value_at d k }
 
 -- the value that `read` has of a key, or the default if the key is missing; else the fault
 abbrev pub at_key : {T : Type 0} → Data → Key → ExpectedValue → Option T → (Data → Option T) → Result T KeyFault
@@ -107,14 +107,14 @@ octets_of no_items = Some []
 octets_of (item d ds) = option_and_then (λ b. option_map (λ bs. b ∷ bs) (octets_of ds)) (option_and_then (within 0 255) (as_integer d))
 
 -- the number is in the list
-abbrev pub stands_in : ℕ → List ℕ → Bool
-stands_in x [] = false
-stands_in x (y ∷ ys) = if x == y then true else stands_in x ys
+abbrev pub contains_number : ℕ → List ℕ → Bool
+contains_number x [] = false
+contains_number x (y ∷ ys) = if x == y then true else contains_number x ys
 
 -- no number occurs again later in the list
 abbrev pub are_different : List ℕ → Bool
 are_different [] = true
-are_different (x ∷ xs) = if stands_in x xs then false else are_different xs
+are_different (x ∷ xs) = if contains_number x xs then false else are_different xs
 
 -- there are one to four items
 abbrev pub is_few : Items → Bool

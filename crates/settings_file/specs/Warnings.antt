@@ -8,7 +8,7 @@ use Rattle.settings_file.specs.declared.keys.Key.{Key}
 use Rattle.settings_file.specs.declared.keys.Key.TheVariants as key
 use Rattle.settings_file.specs.declared.mistakes.Warning.{Warning}
 use Rattle.settings_file.specs.declared.mistakes.Warning.TheVariants as warning
-use Rattle.settings_file.specs.Whole.{SettingsSeen}
+use Rattle.settings_file.specs.FileContents.{SettingsSeen}
 
 -- a list of the warning, if the condition holds
 abbrev pub if_so : Bool → Warning → List Warning
@@ -19,19 +19,19 @@ abbrev pub names_no_port : List ℕ → Bool
 names_no_port t = nat_le 2 (length t) && slice_index t (length t - 2) == 58 && slice_index t (length t - 1) == 48
 
 -- a warning for each address with port 0, numbered from `n`
-abbrev pub ports : Key → ℕ → List (List ℕ) → List Warning
-ports k n [] = []
-ports k n (t ∷ ts) = if_so (names_no_port t) (warning.NoPort k n) ++ ports k (n + 1) ts
+abbrev pub port_warnings : Key → ℕ → List (List ℕ) → List Warning
+port_warnings k n [] = []
+port_warnings k n (t ∷ ts) = if_so (names_no_port t) (warning.NoPort k n) ++ port_warnings k (n + 1) ts
 
 -- the text is in the list
-abbrev pub stands_before : List ℕ → List (List ℕ) → Bool
-stands_before t [] = false
-stands_before t (u ∷ us) = if bytes_eq t u then true else stands_before t us
+abbrev pub contains_text : List ℕ → List (List ℕ) → Bool
+contains_text t [] = false
+contains_text t (u ∷ us) = if bytes_eq t u then true else contains_text t us
 
 -- a warning for each address that is in the list again, numbered from `n`
 abbrev pub repeat_warnings : Key → ℕ → List (List ℕ) → List Warning
 repeat_warnings k n [] = []
-repeat_warnings k n (t ∷ ts) = if_so (stands_before t ts) (warning.Repeated k n) ++ repeat_warnings k (n + 1) ts
+repeat_warnings k n (t ∷ ts) = if_so (contains_text t ts) (warning.Repeated k n) ++ repeat_warnings k (n + 1) ts
 
 -- the address begins with a bracket, so it is of IPv6
 abbrev pub is_v6 : List ℕ → Bool
@@ -51,25 +51,25 @@ channel_warnings n (t ∷ ts) [] = []
 -- the warnings of all addresses
 abbrev pub address_warnings : (local remote : List (List ℕ)) → List Warning
 address_warnings local remote =
-    ports key.Local 1 local ++ ports key.Remote 1 remote ++ repeat_warnings key.Local 1 local ++ repeat_warnings key.Remote 1 remote ++ channel_warnings 1 local remote
+    port_warnings key.Local 1 local ++ port_warnings key.Remote 1 remote ++ repeat_warnings key.Local 1 local ++ repeat_warnings key.Remote 1 remote ++ channel_warnings 1 local remote
 
 -- how many heartbeats confirm the units of a full window
 abbrev pub heartbeats_of : (window mwa : ℕ) → ℕ
 heartbeats_of window mwa = if mwa == 0 then 0 else window / mwa
 
 -- what can come after one lost datagram, the other units of a window and the heartbeats that confirm units, is more than `q`
-abbrev pub overruns : (window mwa q : ℕ) → Bool
-overruns window mwa q = nat_lt q ((window - 1) + heartbeats_of window mwa)
+abbrev pub exceeds_q : (window mwa q : ℕ) → Bool
+exceeds_q window mwa q = nat_lt q ((window - 1) + heartbeats_of window mwa)
 
 -- T_max is below three T_h and T_seq, so a single loss can end the connection
-abbrev pub ends_early : (t_max t_h t_seq : ℕ) → Bool
-ends_early t_max t_h t_seq = nat_lt t_max (t_h * 3 + t_seq)
+abbrev pub is_t_max_short : (t_max t_h t_seq : ℕ) → Bool
+is_t_max_short t_max t_h t_seq = nat_lt t_max (t_h * 3 + t_seq)
 
 -- T_seq at or above T_max: a deferred part is too old. `mwa` at or above the window: the peer waits for a heartbeat. Then the window for `q`, and T_max.
 abbrev pub limit_warnings : (t_seq t_max t_h mwa n_sendmax q : ℕ) → List Warning
 limit_warnings t_seq t_max t_h mwa n_sendmax q =
     if_so (nat_le t_max t_seq) (warning.LongWait t_seq t_max) ++ if_so (nat_le n_sendmax mwa) (warning.RareConfirmation mwa n_sendmax)
-    ++ if_so (overruns n_sendmax mwa q) (warning.WideWindow n_sendmax mwa q) ++ if_so (ends_early t_max t_h t_seq) (warning.ShortAge t_max t_h t_seq)
+    ++ if_so (exceeds_q n_sendmax mwa q) (warning.WideWindow n_sendmax mwa q) ++ if_so (is_t_max_short t_max t_h t_seq) (warning.ShortAge t_max t_h t_seq)
 
 -- an interlocking has a checksum, which only a field element sends
 abbrev pub is_unsent : Side → List ℕ → Bool

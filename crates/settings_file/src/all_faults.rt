@@ -10,17 +10,17 @@ ghost use Rattle.std.specs.Option.{option_map_or};
 ghost use Rattle.end_settings.specs.declared.Side.TheVariants as side_of;
 ghost use Rattle.settings_file.specs.declared.keys.Key.TheVariants as key_of;
 ghost use Rattle.settings_file.specs.Groups.{limit_at};
-ghost use Rattle.settings_file.specs.Whole.{is_end, is_known, no_table, unknown};
-ghost use Rattle.settings_file.specs.Findings.{address_faults, at_entry, at_its_key, end_findings, entry_faults, fault_at, faults_at, finding_seen, findings_of, heartbeat_fault, if_any, is_put, members_findings, named_findings, pair_findings, peer_fault, plain, put_faults, short_text, table_findings, text_in, unknown_in};
+ghost use Rattle.settings_file.specs.FileContents.{is_end, is_known, no_table, unknown};
+ghost use Rattle.settings_file.specs.Findings.{address_faults, at_entry, at_its_key, end_findings, entry_faults, fault_at, faults_at, finding_seen, findings_of, heartbeat_fault, if_any, is_put, members_findings, required_table_findings, pair_findings, peer_fault, plain_finding, put_faults, short_text, table_findings, text_in, unknown_in};
 
 use crate::Subcommand;
+use crate::file_contents::{document, knows, names_end, unknown};
 use crate::groups::limit;
 use crate::keys::{ExpectedValue, Key, KeyFault, PresentValue, ReadFault, SettingsFault, prefix};
 use crate::lists::{addresses, put, puts};
 use crate::readers::{
     checksum, code, first_number, identifier, initial_value, name, octet, versions, wrong,
 };
-use crate::whole::{document, knows, names_end, unknown};
 use end_settings::Side;
 use std::alloc::{AllocError, Global};
 use std::fmt;
@@ -128,7 +128,7 @@ fn in_named(
     list: &mut Vec<Finding>,
 ) -> Result<(), AllocError>
     // If `in_named` succeeds, it has appended the faults of the side's table, or that the table is missing.
-    ensures { OnOk result (map finding_seen list.new.items ≡ map finding_seen list.old.items ++ named_findings side (view file.now)) }
+    ensures { OnOk result (map finding_seen list.new.items ≡ map finding_seen list.old.items ++ required_table_findings side (view file.now)) }
 {
     let found = match side {
         Side::Interlocking => file.get("il"),
@@ -213,7 +213,7 @@ fn add_unknown(
     list: &mut Vec<Finding>,
 ) -> Result<(), AllocError>
     // If `add_unknown` succeeds, it has appended that the key is unknown in this table.
-    ensures { OnOk result (map finding_seen list.new.items ≡ map finding_seen list.old.items ++ plain (unknown named key.now) ∷ []) }
+    ensures { OnOk result (map finding_seen list.new.items ≡ map finding_seen list.old.items ++ plain_finding (unknown named key.now) ∷ []) }
 {
     match unknown(alloc, named, key) {
         SettingsFault::Memory(refused) => Err(refused),

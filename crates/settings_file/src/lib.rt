@@ -6,26 +6,26 @@
 #![tactic(auto)]
 
 ghost use Rattle.std.specs.Prelude.{◌≡◌, Ok, IfOk, IfErr};
-ghost use Rattle.settings_file.specs.Whole.{IsWrong, ends_of, ends_seen};
+ghost use Rattle.settings_file.specs.FileContents.{IsWrong, ends_of, ends_seen};
 
 mod all_faults;
+mod file_contents;
 mod groups;
 mod keys;
 mod lists;
 mod mistakes;
 mod readers;
 mod values;
-mod whole;
 
 pub use all_faults::{Finding, findings};
 use end_settings::Side;
+use file_contents::pair;
+pub use file_contents::{single, word_of};
 pub use keys::{ExpectedValue, Key, KeyFault, PresentValue, SettingsFault};
 pub use lists::put;
 pub use mistakes::{Warning, warnings};
 use std::alloc::Global;
-pub use values::{Ends, Put, Settings};
-use whole::pair;
-pub use whole::{single, word_of};
+pub use values::{Ends, PutEntry, Settings};
 
 /// The subcommands of the program that read a settings file, each with the ends that its file is for.
 #[derive(Clone, Copy, Debug, PartialEq, Eq)]

@@ -8,7 +8,7 @@ ghost use Rattle.settings_file.specs.Groups.{put_seen};
 
 use crate::keys::{ExpectedValue, Key, ReadFault};
 use crate::readers::wrong;
-use crate::values::Put;
+use crate::values::PutEntry;
 use hex::FromHexError;
 use octets::limits::CHANNELS_MAX;
 use std::alloc::{AllocError, Global};
@@ -74,7 +74,7 @@ pub fn addresses(alloc: Global, table: &Value, key: Key) -> Result<Vec<String>, 
 /// # Errors
 ///
 /// - Returns the error if an allocation fails.
-pub fn put(alloc: Global, octets: &[u8]) -> Result<Option<Put>, AllocError>
+pub fn put(alloc: Global, octets: &[u8]) -> Result<Option<PutEntry>, AllocError>
     // If `put` succeeds, it returns exactly the telegram whose message type and payload the bytes spell, with a
     // colon between them, or `None` if they spell none.
     ensures { IfOk result (λ r. option_map put_seen r ≡ put_of octets.now) }
@@ -87,7 +87,7 @@ pub fn put(alloc: Global, octets: &[u8]) -> Result<Option<Put>, AllocError>
         return Ok(None);
     };
     match hex::decode(alloc, &octets[5..]) {
-        Ok(payload) => Ok(Some(Put {
+        Ok(payload) => Ok(Some(PutEntry {
             kind: number_of(kind[0], kind[1]),
             payload,
         })),
@@ -105,7 +105,7 @@ fn number_of(high: u8, low: u8) -> u16
 }
 
 /// Reads the telegrams of a list; `None` if an item is not one.
-fn put_list(alloc: Global, items: &[Value]) -> Result<Option<Vec<Put>>, AllocError>
+fn put_list(alloc: Global, items: &[Value]) -> Result<Option<Vec<PutEntry>>, AllocError>
     // If `put_list` succeeds, it returns the telegrams of all items in order, or `None` if one of them is not a
     // telegram.
     ensures { IfOk result (λ r. option_map (λ v. map put_seen v.items) r ≡ puts_of (items_view items.now)) }
@@ -129,7 +129,7 @@ fn put_list(alloc: Global, items: &[Value]) -> Result<Option<Vec<Put>>, AllocErr
 ///
 /// - `Key` if the value is not a list of telegrams;
 /// - `Memory` if an allocation fails.
-pub fn puts(alloc: Global, table: &Value) -> Result<Vec<Put>, ReadFault>
+pub fn puts(alloc: Global, table: &Value) -> Result<Vec<PutEntry>, ReadFault>
     // If `puts` succeeds, its result is the list of telegrams at `puts`, empty if the key is missing.
     ensures ok { IfOk result (λ v. puts_at (view table.now) key_of.Puts ≡ Ok (map put_seen v.items)) }
     // If `puts` fails with `Key`, it is the fault of the value at `puts`.

@@ -6,11 +6,11 @@ ghost use Rattle.std.specs.Prelude.{◌≡◌, ◌+◌, ◌^◌, ◌<◌, ◌++�
 ghost use Rattle.pdi_session.specs.telegram.Tele.{owned_characters};
 ghost use Rattle.end_settings.specs.Lists.{checksum_in};
 ghost use Rattle.settings_file.specs.Groups.{put_seen};
-ghost use Rattle.settings_file.specs.Whole.{settings_seen};
-ghost use Rattle.settings_file.specs.Warnings.{address_warnings, are_two_kinds, channel_warnings, ends_early, heartbeats_of, identity_warnings, if_so, is_unsent, is_v6, limit_warnings, long_payloads, names_no_port, number_warnings, overruns, ports, repeat_warnings, stands_before, warnings_of};
+ghost use Rattle.settings_file.specs.FileContents.{settings_seen};
+ghost use Rattle.settings_file.specs.Warnings.{address_warnings, are_two_kinds, channel_warnings, is_t_max_short, heartbeats_of, identity_warnings, if_so, is_unsent, is_v6, limit_warnings, long_payloads, names_no_port, number_warnings, exceeds_q, port_warnings, repeat_warnings, contains_text, warnings_of};
 
 use crate::keys::Key;
-use crate::values::{Put, Settings};
+use crate::values::{PutEntry, Settings};
 use end_settings::{EndConfig, Side};
 use octets::Milliseconds;
 use octets::limits::PAYLOAD_MAX;
@@ -124,8 +124,8 @@ fn find_limits(config: &EndConfig, list: &mut Vec<Warning>) -> Result<(), AllocE
 
 /// Returns whether what can come after one lost datagram is more than the deferral queue holds.
 fn overruns(window: u64, mwa: u64, q: u64) -> bool
-    // `overruns` is true if and only if the other units of the window and its heartbeats are more than `q`.
-    ensures { result ≡ overruns window mwa q }
+    // `exceeds_q` is true if and only if the other units of the window and its heartbeats are more than `q`.
+    ensures { result ≡ exceeds_q window mwa q }
 {
     let others = window.saturating_sub(1);
     match others.checked_add(heartbeats(window, mwa)) {
@@ -144,8 +144,8 @@ fn heartbeats(window: u64, mwa: u64) -> u64
 
 /// Returns whether a single loss can end the connection.
 fn ends_early(t_max: Milliseconds, t_h: Milliseconds, t_seq: Milliseconds) -> bool
-    // `ends_early` is true if and only if T_max is below three T_h and T_seq.
-    ensures { result ≡ ends_early t_max t_h t_seq }
+    // `is_t_max_short` is true if and only if T_max is below three T_h and T_seq.
+    ensures { result ≡ is_t_max_short t_max t_h t_seq }
 {
     let Some(beats) = t_h.checked_mul(3) else {
         return true;
@@ -224,7 +224,7 @@ fn find_addresses(
 
 /// Adds a warning for each telegram with a payload that is too long. A loop, since there may be as many as a file has
 /// room for.
-fn find_long(puts: &[Put], list: &mut Vec<Warning>) -> Result<(), AllocError>
+fn find_long(puts: &[PutEntry], list: &mut Vec<Warning>) -> Result<(), AllocError>
     // If `find_long` succeeds, it has appended a warning for each telegram with more than 357 bytes of payload,
     // with its number from 1.
     ensures { OnOk result (list.new.items ≡ list.old.items ++ long_payloads 1 (map put_seen puts.now)) }
@@ -263,7 +263,7 @@ fn find_ports(
     requires { place + length texts.now < 2 ^ 64 }
     // If `find_ports` succeeds, it has appended a warning for each text that ends in port 0, numbered from
     // `place`.
-    ensures { OnOk result (list.new.items ≡ list.old.items ++ ports key place (map string_bytes texts.now)) }
+    ensures { OnOk result (list.new.items ≡ list.old.items ++ port_warnings key place (map string_bytes texts.now)) }
 {
     let [text, others @ ..] = texts else {
         return Ok(());
@@ -301,7 +301,7 @@ fn find_repeats(
         return Ok(());
     };
     add_if(
-        stands_in(text.as_str(), others),
+        is_listed(text.as_str(), others),
         Warning::Repeated(key, place),
         list,
     )?;
@@ -309,13 +309,13 @@ fn find_repeats(
 }
 
 /// Returns whether a text is in a list.
-fn stands_in(text: &str, others: &[String]) -> bool
-    // `stands_in` is true if and only if one of the other texts has the same bytes.
-    ensures { result ≡ stands_before text.now (map string_bytes others.now) }
+fn is_listed(text: &str, others: &[String]) -> bool
+    // `is_listed` is true if and only if one of the other texts has the same bytes.
+    ensures { result ≡ contains_text text.now (map string_bytes others.now) }
 {
     match others {
         [] => false,
-        [first, rest @ ..] => text == first.as_str() || stands_in(text, rest),
+        [first, rest @ ..] => text == first.as_str() || is_listed(text, rest),
     }
 }
 
@@ -345,7 +345,7 @@ fn find_channels(
     )?;
     add_if(
         are_two_kinds(own.as_bytes(), peer.as_bytes()),
-        Warning::TwoKinds(channel, stands_in_brackets(peer.as_bytes())),
+        Warning::TwoKinds(channel, is_in_brackets(peer.as_bytes())),
         list,
     )?;
     find_channels(channel + 1, local, remote, list)
@@ -356,16 +356,16 @@ fn are_two_kinds(own: &[u8], peer: &[u8]) -> bool
     // `are_two_kinds` is true if and only if exactly one of the two texts begins with a bracket.
     ensures { result ≡ are_two_kinds own.now peer.now }
 {
-    if stands_in_brackets(own) {
-        !stands_in_brackets(peer)
+    if is_in_brackets(own) {
+        !is_in_brackets(peer)
     } else {
-        stands_in_brackets(peer)
+        is_in_brackets(peer)
     }
 }
 
 /// Returns whether an address is in brackets, as addresses of IPv6 are.
-fn stands_in_brackets(text: &[u8]) -> bool
-    // `stands_in_brackets` is true if and only if the text begins with `[`.
+fn is_in_brackets(text: &[u8]) -> bool
+    // `is_in_brackets` is true if and only if the text begins with `[`.
     ensures { result ≡ is_v6 text.now }
 {
     0 < text.len() && text[0] == b'['

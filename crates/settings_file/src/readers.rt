@@ -5,7 +5,7 @@ ghost use Rattle.toml.specs.View.{view, items_view};
 ghost use Rattle.toml.specs.Data.{as_array};
 ghost use Rattle.std.specs.Prelude.{Some};
 ghost use Rattle.pdi_session.specs.telegram.Tele.{owned_characters};
-ghost use Rattle.settings_file.specs.Readers.{wrong_at, number_at, code_at, first_number_at, name_at, initial_value_at, checksum_at, octets_of, short_octets, different_octets, few_octets, if_different, one_version, il_versions, fe_versions, versions_at, are_different, stands_in, read_as};
+ghost use Rattle.settings_file.specs.Readers.{wrong_at, number_at, code_at, first_number_at, name_at, initial_value_at, checksum_at, octets_of, short_octets, different_octets, few_octets, if_different, one_version, il_versions, fe_versions, versions_at, are_different, contains_number, read_as};
 ghost use Rattle.end_settings.specs.Lists.{versions_in, checksum_in};
 ghost use Rattle.pdi_session.specs.declared.TheConstants.{VERSIONS_MAX};
 ghost use Rattle.settings_file.specs.declared.keys.Key.TheVariants as key_of;
@@ -225,13 +225,13 @@ pub fn checksum(table: &Value) -> Result<Checksum, KeyFault>
 }
 
 /// Returns whether a number is among others.
-fn stands_among(number: u8, others: &[u8]) -> bool
-    // `stands_among` is true if and only if one of the others equals the number.
-    ensures { result ≡ stands_in number others.now }
+fn is_among(number: u8, others: &[u8]) -> bool
+    // `is_among` is true if and only if one of the others equals the number.
+    ensures { result ≡ contains_number number others.now }
 {
     match others {
         [] => false,
-        [first, rest @ ..] => number == *first || stands_among(number, rest),
+        [first, rest @ ..] => number == *first || is_among(number, rest),
     }
 }
 
@@ -242,7 +242,7 @@ fn all_differ(numbers: &[u8]) -> bool
 {
     match numbers {
         [] => true,
-        [first, rest @ ..] => !stands_among(*first, rest) && all_differ(rest),
+        [first, rest @ ..] => !is_among(*first, rest) && all_differ(rest),
     }
 }
 

@@ -2,15 +2,17 @@
 
 use end_settings::{Checksum, EndConfig, Versions};
 use octets::Milliseconds;
+use pdi_session::MessageType;
 use pdi_session::telegram::OwnedName;
+use safe_pdu::Identifier;
 
 /// An end and its peer.
 #[derive(Clone, Copy, Debug, PartialEq, Eq)]
 pub struct Identity {
     /// The end's own identifier.
-    pub id: u32,
+    pub id: Identifier,
     /// The identifier of the peer.
-    pub peer_id: u32,
+    pub peer_id: Identifier,
     /// The end's own name.
     pub name: OwnedName,
     /// The name of the peer.
@@ -57,9 +59,9 @@ pub struct Limits {
 
 /// A telegram to be put.
 #[derive(Debug, Drop)]
-pub struct Put {
+pub struct PutEntry {
     /// Its message type.
-    pub kind: u16,
+    pub kind: MessageType,
     /// Its payload, of any length: an end refuses one that is too long.
     pub payload: Vec<u8>,
 }
@@ -76,7 +78,7 @@ pub struct Settings {
     /// The addresses of the peer, as many as its own.
     pub remote: Vec<String>,
     /// The telegrams that the end is to put, in order.
-    pub puts: Vec<Put>,
+    pub puts: Vec<PutEntry>,
 }
 
 /// The settings of the ends that a word runs.

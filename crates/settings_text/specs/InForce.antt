@@ -11,7 +11,7 @@ use Rattle.pdu_text.specs.Lines.{join_pieces}
 use Rattle.settings_file.specs.declared.keys.Key.{Key}
 use Rattle.settings_file.specs.declared.keys.Key.TheVariants as key
 use Rattle.settings_file.specs.Keys.{text_of}
-use Rattle.settings_file.specs.Whole.{EndsSeen, SettingsSeen, fe_seen, il_seen, pair_seen}
+use Rattle.settings_file.specs.FileContents.{EndsSeen, SettingsSeen, fe_seen, il_seen, pair_seen}
 
 -- the table of an end before a key, in a file for both ends
 abbrev pub table_text : Option Side → List ℕ

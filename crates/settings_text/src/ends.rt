@@ -3,8 +3,8 @@
 ghost use Rattle.std.specs.Prelude.{◌≡◌, OnOk, map, string_bytes};
 ghost use Rattle.std.specs.Io.KnownBytes.{Appends};
 ghost use Rattle.safe_pdu.specs.SafeText.{code_octets};
-ghost use Rattle.end_settings.specs.Configured.{code_of, settings_of};
-ghost use Rattle.settings_file.specs.Whole.{ends_seen, settings_seen};
+ghost use Rattle.end_settings.specs.ConfigValue.{code_of, settings_of};
+ghost use Rattle.settings_file.specs.FileContents.{ends_seen, settings_seen};
 ghost use Rattle.settings_text.specs.InForce.{address_lines, all_lines, beginning_lines, count_lines, end_lines, expected_lines, head_text, identity_lines, limit_lines, settings_text, time_lines};
 
 use crate::lists::{write_addresses, write_puts, write_versions};

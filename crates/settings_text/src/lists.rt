@@ -9,7 +9,7 @@ ghost use Rattle.settings_text.specs.InForce.{addresses_text, all_texts, later_a
 use crate::pieces::{write_key, write_number};
 use end_settings::Side;
 use pdu_text::{write_hex, write_text};
-use settings_file::{Key, Put};
+use settings_file::{Key, PutEntry};
 use std::io;
 use std::io::Write;
 
@@ -118,7 +118,11 @@ fn write_later_text<W: Write>(writer: &mut W, text: &String) -> io::Result<()>
 
 /// Writes the line of telegrams to be put.
 #[tactic(auto, unfolding(crate::specs::InForce::list_line))]
-pub fn write_puts<W: Write>(writer: &mut W, named: Option<Side>, puts: &[Put]) -> io::Result<()>
+pub fn write_puts<W: Write>(
+    writer: &mut W,
+    named: Option<Side>,
+    puts: &[PutEntry],
+) -> io::Result<()>
     // If it succeeds, `write_puts` has appended the line with the telegrams.
     ensures { OnOk result (Appends (W.contents writer.old) (W.contents writer.new)
         (list_line named key_of.Puts (puts_text (map put_seen puts.now)))) }
@@ -130,7 +134,7 @@ pub fn write_puts<W: Write>(writer: &mut W, named: Option<Side>, puts: &[Put]) -
 }
 
 /// Writes telegrams with commas between them.
-fn write_telegrams<W: Write>(writer: &mut W, puts: &[Put]) -> io::Result<()>
+fn write_telegrams<W: Write>(writer: &mut W, puts: &[PutEntry]) -> io::Result<()>
     // If it succeeds, `write_telegrams` has appended the telegrams with commas between them.
     ensures { OnOk result (Appends (W.contents writer.old) (W.contents writer.new) (puts_text (map put_seen puts.now))) }
 {
@@ -142,7 +146,7 @@ fn write_telegrams<W: Write>(writer: &mut W, puts: &[Put]) -> io::Result<()>
 }
 
 /// Writes telegrams, each after a comma. A loop, since there may be as many as a file has room for.
-fn write_later_puts<W: Write>(writer: &mut W, puts: &[Put]) -> io::Result<()>
+fn write_later_puts<W: Write>(writer: &mut W, puts: &[PutEntry]) -> io::Result<()>
     // If it succeeds, `write_later_puts` has appended each telegram after a comma.
     ensures { OnOk result (Appends (W.contents writer.old) (W.contents writer.new)
         (all_texts later_put (map put_seen puts.now))) }
@@ -154,7 +158,7 @@ fn write_later_puts<W: Write>(writer: &mut W, puts: &[Put]) -> io::Result<()>
 }
 
 /// Writes a telegram after a comma.
-fn write_later_put<W: Write>(writer: &mut W, put: &Put) -> io::Result<()>
+fn write_later_put<W: Write>(writer: &mut W, put: &PutEntry) -> io::Result<()>
     // If it succeeds, `write_later_put` has appended a comma and the telegram.
     ensures { OnOk result (Appends (W.contents writer.old) (W.contents writer.new) (later_put (put_seen put.now))) }
 {
@@ -164,7 +168,7 @@ fn write_later_put<W: Write>(writer: &mut W, put: &Put) -> io::Result<()>
 
 /// Writes a telegram in quotes.
 #[tactic(auto, unfolding(crate::specs::InForce::put_text))]
-fn write_put<W: Write>(writer: &mut W, put: &Put) -> io::Result<()>
+fn write_put<W: Write>(writer: &mut W, put: &PutEntry) -> io::Result<()>
     // If it succeeds, `write_put` has appended the message type and the payload in hex digits, with a colon
     // between them, in quotes.
     ensures { OnOk result (Appends (W.contents writer.old) (W.contents writer.new) (put_text (put_seen put.now))) }

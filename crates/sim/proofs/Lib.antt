@@ -1,2 +1,2 @@
 pub mod LedgerLemmas
-pub mod MadeLemmas
+pub mod MadePdusLemmas

@@ -2,7 +2,7 @@
 use Rattle.std.specs.Prelude.{ℕ, Bool, not, List, [], ◌∷◌, ◌++◌, length, Option, filter}
 use Rattle.end_settings.specs.declared.Side.{Side}
 use Rattle.end_settings.specs.declared.Side.TheVariants.{Interlocking, FieldElement}
-use Rattle.sim.specs.Made.{MadePdu, datagram_at, fresh, is_named_at, named_at}
+use Rattle.sim.specs.MadePdus.{MadePdu, datagram_at, new_pdu, is_named_at, mark_named_at}
 use Rattle.sim.specs.declared.label.Label.{Label}
 
 -- The PDUs of both ends.
@@ -21,20 +21,20 @@ list_of_side Interlocking il fe = il
 list_of_side FieldElement il fe = fe
 
 -- The PDUs of an end.
-abbrev pub made_by : Side → Ledger → List MadePdu
-made_by side l = list_of_side side l.il l.fe
+abbrev pub pdus_of : Side → Ledger → List MadePdu
+pdus_of side l = list_of_side side l.il l.fe
 
 -- The datagram of a PDU, if it has been made.
 abbrev pub datagram_of : Label → Ledger → Option (List ℕ)
-datagram_of label l = datagram_at label.place (made_by label.side l)
+datagram_of label l = datagram_at label.place (pdus_of label.side l)
 
 -- A line has named the PDU of this label, among these of the interlocking and these of the field element.
-abbrev pub named_by : List MadePdu → List MadePdu → Label → Bool
-named_by il fe label = is_named_at label.place (list_of_side label.side il fe)
+abbrev pub is_named_among : List MadePdu → List MadePdu → Label → Bool
+is_named_among il fe label = is_named_at label.place (list_of_side label.side il fe)
 
 -- A line has named the PDU of this label.
 abbrev pub is_named : Ledger → Label → Bool
-is_named l label = named_by l.il l.fe label
+is_named l label = is_named_among l.il l.fe label
 
 -- The labels that no line has named yet, in the order of making; `flow` delivers the first one.
 abbrev pub unnamed_of : Ledger → List Label
@@ -42,7 +42,7 @@ unnamed_of l = filter (λ label. not (is_named l label)) l.order
 
 -- The label of an end's next PDU.
 abbrev pub next_label : Side → Ledger → Label
-next_label side l = record { side = side; place = length (made_by side l) }
+next_label side l = record { side = side; place = length (pdus_of side l) }
 
 -- The ledger with other PDUs of one end.
 abbrev pub with_made : Side → List MadePdu → Ledger → Ledger
@@ -50,10 +50,10 @@ with_made Interlocking ps l = record l { il = ps }
 with_made FieldElement ps l = record l { fe = ps }
 
 -- The ledger after an end made a PDU.
-abbrev pub after_making : Side → List ℕ → Ledger → Ledger
-after_making side datagram l =
-    record (with_made side (made_by side l ++ fresh datagram ∷ []) l) { order = l.order ++ next_label side l ∷ [] }
+abbrev pub add_pdu : Side → List ℕ → Ledger → Ledger
+add_pdu side datagram l =
+    record (with_made side (pdus_of side l ++ new_pdu datagram ∷ []) l) { order = l.order ++ next_label side l ∷ [] }
 
 -- The ledger after a line named a PDU; a label that has not been made changes nothing.
-abbrev pub after_naming : Label → Ledger → Ledger
-after_naming label l = with_made label.side (named_at label.place (made_by label.side l)) l
+abbrev pub mark_named : Label → Ledger → Ledger
+mark_named label l = with_made label.side (mark_named_at label.place (pdus_of label.side l)) l

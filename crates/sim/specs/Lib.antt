@@ -1,6 +1,6 @@
 pub mod Status
 pub mod LabelText
-pub mod Made
-pub mod MadeView
+pub mod MadePdus
+pub mod MadePdusView
 pub mod Ledger
 pub mod LedgerView

@@ -3,10 +3,10 @@
 ghost use Rattle.std.specs.Prelude.{◌≡◌, ◌≤◌, length, take, filter, not, true, slice_get, OnOk, OnErr};
 ghost use Rattle.std.specs.List.{list_all};
 ghost use Rattle.std.specs.Option.{option_copied};
-ghost use Rattle.sim.specs.Ledger.{named_by};
+ghost use Rattle.sim.specs.Ledger.{is_named_among};
 
 use crate::Label;
-use crate::made::Made;
+use crate::made_pdus::MadePdus;
 use end_settings::Side;
 use std::alloc::{AllocError, Allocator, Global};
 use std::marker::Model;
@@ -17,9 +17,9 @@ pub struct Labels<A: Allocator = Global> {
     /// The allocator for datagrams and labels.
     alloc: A,
     /// The PDUs of the interlocking.
-    il: Made<A>,
+    il: MadePdus<A>,
     /// The PDUs of the field element.
-    fe: Made<A>,
+    fe: MadePdus<A>,
     /// The labels of both ends in the order in which they made the PDUs.
     order: Vec<Label, A>,
     /// All labels before this place of the order are named.
@@ -38,7 +38,7 @@ impl<A: Allocator> Model for Labels<A> {
 }
 
 impl<A: Allocator + Copy> Labels<A> {
-    ghost use Rattle.sim.specs.Ledger.{after_making, no_pdus};
+    ghost use Rattle.sim.specs.Ledger.{add_pdu, no_pdus};
 
     /// Returns labels without PDUs.
     pub fn new(alloc: A) -> Self
@@ -47,8 +47,8 @@ impl<A: Allocator + Copy> Labels<A> {
     {
         Labels {
             alloc,
-            il: Made::new(alloc),
-            fe: Made::new(alloc),
+            il: MadePdus::new(alloc),
+            fe: MadePdus::new(alloc),
             order: Vec::new(alloc),
             unnamed: 0,
         }
@@ -61,8 +61,8 @@ impl<A: Allocator + Copy> Labels<A> {
     /// An allocation failed. Nothing has changed then.
     pub fn make(&mut self, side: Side, datagram: &[u8]) -> Result<(), AllocError>
         // On success the PDU is the last of its end and not named, and its label is the last of the order
-        // (`after_making`).
-        ensures ok { OnOk result (self.new ≡ after_making side datagram.now self.old) }
+        // (`add_pdu`).
+        ensures ok { OnOk result (self.new ≡ add_pdu side datagram.now self.old) }
         // If an allocation fails, no PDU and no label was added.
         ensures err { OnErr result (self.new ≡ self.old) }
     {
@@ -88,7 +88,7 @@ impl<A: Allocator + Copy> Labels<A> {
 }
 
 impl<A: Allocator> Labels<A> {
-    ghost use Rattle.sim.specs.Ledger.{after_naming, datagram_of, unnamed_of};
+    ghost use Rattle.sim.specs.Ledger.{mark_named, datagram_of, unnamed_of};
 
     /// Returns how many PDUs both ends have made.
     pub fn len(&self) -> usize
@@ -121,8 +121,8 @@ impl<A: Allocator> Labels<A> {
     /// Marks a PDU as named by a line. A label that has not been made stays unnamed.
     pub fn name(&mut self, label: Label)
         // Only the PDU of this `label` changes, to named; a label that has not been made changes nothing
-        // (`after_naming`).
-        ensures { self.new ≡ after_naming label self.old }
+        // (`mark_named`).
+        ensures { self.new ≡ mark_named label self.old }
     {
         match label.side {
             Side::Interlocking => self.il.name(label.place),
@@ -143,16 +143,21 @@ impl<A: Allocator> Labels<A> {
 }
 
 /// Returns the first place from this one on whose label is not named, or the number of labels.
-fn first_from<A: Allocator>(il: &Made<A>, fe: &Made<A>, order: &[Label], from: usize) -> usize
+fn first_from<A: Allocator>(
+    il: &MadePdus<A>,
+    fe: &MadePdus<A>,
+    order: &[Label],
+    from: usize,
+) -> usize
     requires within { from ≤ length order.now }
-    requires named { list_all (named_by il.now fe.now) (take from order.now) ≡ true }
+    requires named { list_all (is_named_among il.now fe.now) (take from order.now) ≡ true }
     // The place is at most the number of labels.
     ensures within { result ≤ length order.now }
     // All labels before the place are named.
-    ensures named { list_all (named_by il.now fe.now) (take result order.now) ≡ true }
+    ensures named { list_all (is_named_among il.now fe.now) (take result order.now) ≡ true }
     // The label at the place is the first one in the whole order that is not named.
     ensures first { slice_get order.now result
-        ≡ slice_get (filter (λ label. not (named_by il.now fe.now label)) order.now) 0 }
+        ≡ slice_get (filter (λ label. not (is_named_among il.now fe.now label)) order.now) 0 }
 {
     for place in from..order.len() {
         if !is_named(il, fe, order[place]) {
@@ -163,9 +168,9 @@ fn first_from<A: Allocator>(il: &Made<A>, fe: &Made<A>, order: &[Label], from: u
 }
 
 /// Returns `true` if a line has named a PDU.
-fn is_named<A: Allocator>(il: &Made<A>, fe: &Made<A>, label: Label) -> bool
-    // The result is that of the PDU with this `label` among those of its end (`named_by`).
-    ensures { result ≡ named_by il.now fe.now label }
+fn is_named<A: Allocator>(il: &MadePdus<A>, fe: &MadePdus<A>, label: Label) -> bool
+    // The result is that of the PDU with this `label` among those of its end (`is_named_among`).
+    ensures { result ≡ is_named_among il.now fe.now label }
 {
     match label.side {
         Side::Interlocking => il.is_named(label.place),

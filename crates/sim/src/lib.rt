@@ -9,7 +9,7 @@ mod fault;
 mod label;
 mod labels;
 mod line;
-mod made;
+mod made_pdus;
 mod script;
 mod settings;
 mod sides;

@@ -64,8 +64,8 @@ pub fn read_line<A: Allocator + Copy>(alloc: A, line: &str) -> Result<Command<A>
     };
     let found = match first {
         "give" | "hit" | "lose" | "flow" => delivery(alloc, first, &mut words)?,
-        "put" | "putlen" | "puts" => putting(alloc, first, &mut words)?,
-        "set" => Command::Set(setting(&mut words)?),
+        "put" | "putlen" | "puts" => read_put(alloc, first, &mut words)?,
+        "set" => Command::Set(read_setting(&mut words)?),
         "versions" => versions(alloc, &mut words)?,
         "open" => Command::Open(words.side()?),
         "close" => Command::Close(words.side()?),
@@ -106,7 +106,7 @@ fn delivery<A: Allocator + Copy>(
 }
 
 /// Reads a line that puts telegrams.
-fn putting<A: Allocator + Copy>(
+fn read_put<A: Allocator + Copy>(
     alloc: A,
     first: &str,
     words: &mut Words<'_>,
@@ -127,7 +127,7 @@ fn putting<A: Allocator + Copy>(
 }
 
 /// Reads a setting: a key and a number.
-fn setting(words: &mut Words<'_>) -> Result<Setting, ScriptLineFault> {
+fn read_setting(words: &mut Words<'_>) -> Result<Setting, ScriptLineFault> {
     let key = Key::of(words.word()?).ok_or(ScriptLineFault::Unreadable)?;
     let value = words.number(u64::from(key.greatest()))?;
     Ok(Setting {

@@ -9,6 +9,7 @@ use crate::{
 use end_settings::Side;
 use octets::Milliseconds;
 use octets::limits::TIME_MAX;
+use pdi_session::MessageType;
 use pdu_text::EndReport;
 use stack_engine::{Action, ApplyFault, Call, Event, Pair};
 use std::alloc::Allocator;
@@ -123,7 +124,7 @@ impl<W: Write + Drop, A: Allocator + Copy> Script<W, A> {
     /// Prints the state of both ends.
     fn report(&mut self) -> Result<(), ScriptLineFault> {
         for side in [Side::Interlocking, Side::FieldElement] {
-            self.trace.report(side, standing(&self.pair, side))?;
+            self.trace.report(side, report_of(&self.pair, side))?;
         }
         Ok(())
     }
@@ -225,12 +226,22 @@ impl<W: Write + Drop, A: Allocator + Copy> Script<W, A> {
     }
 
     /// Puts a telegram.
-    fn put(&mut self, side: Side, kind: u16, payload: &[u8]) -> Result<(), ScriptLineFault> {
+    fn put(
+        &mut self,
+        side: Side,
+        kind: MessageType,
+        payload: &[u8],
+    ) -> Result<(), ScriptLineFault> {
         self.call(side, Call::Put { kind, payload })
     }
 
     /// Puts a telegram with a payload of zero bytes.
-    fn put_zeros(&mut self, side: Side, kind: u16, length: usize) -> Result<(), ScriptLineFault> {
+    fn put_zeros(
+        &mut self,
+        side: Side,
+        kind: MessageType,
+        length: usize,
+    ) -> Result<(), ScriptLineFault> {
         let zeros = [0; ZEROS_MAX];
         match zeros.split_at_checked(length) {
             Some((payload, _)) => self.put(side, kind, payload),
@@ -239,7 +250,12 @@ impl<W: Write + Drop, A: Allocator + Copy> Script<W, A> {
     }
 
     /// Puts telegrams whose payloads count up from 0.
-    fn put_counted(&mut self, side: Side, count: u64, kind: u16) -> Result<(), ScriptLineFault> {
+    fn put_counted(
+        &mut self,
+        side: Side,
+        count: u64,
+        kind: MessageType,
+    ) -> Result<(), ScriptLineFault> {
         for place in 0..count {
             self.put(side, kind, &[(place & 0xff) as u8])?;
         }
@@ -400,7 +416,7 @@ fn arrive<A: Allocator + Copy>(
 }
 
 /// Returns the state of an end; `None` if it was never opened.
-fn standing<A: Allocator + Copy>(pair: &Pair<A>, side: Side) -> Option<EndReport> {
+fn report_of<A: Allocator + Copy>(pair: &Pair<A>, side: Side) -> Option<EndReport> {
     let end = pair.end_of(side)?;
     let last = pair.incarnations(side).checked_sub(1)?;
     let entry = pair.report(side, last)?;

@@ -3,6 +3,7 @@
 use crate::sides::Sides;
 use end_settings::{Checksum, EndConfig, Side, Versions};
 use pdi_session::telegram::{Name, OwnedName};
+use safe_pdu::Identifier;
 
 /// The keys of `set`.
 #[derive(Clone, Copy, Debug, PartialEq, Eq)]
@@ -135,7 +136,12 @@ impl ScriptSettings {
 }
 
 /// Returns the settings of an end at the start of a script.
-fn begin_config(id: u32, name: OwnedName, peer_id: u32, peer_name: OwnedName) -> Option<EndConfig> {
+fn begin_config(
+    id: Identifier,
+    name: OwnedName,
+    peer_id: Identifier,
+    peer_name: OwnedName,
+) -> Option<EndConfig> {
     Some(EndConfig {
         id,
         peer_id,

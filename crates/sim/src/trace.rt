@@ -8,6 +8,7 @@ use channels::Note;
 use end_settings::Side;
 use octets::limits::{Q_MAX, RED_HEADER, SAFE_HEADER};
 use octets::places::{u16_at, u32_at};
+use pdi_session::MessageType;
 use pdu_text::{
     EndReport, phase_name, red_cause, side_name, state_name, step_cause, write_refusal,
     write_report, write_take,
@@ -276,7 +277,12 @@ impl<W: Write + Drop, A: Allocator + Copy> Trace<W, A> {
     }
 
     /// Prints a telegram that was taken.
-    fn take(&mut self, side: Side, kind: u16, payload: &[u8]) -> Result<(), ScriptLineFault> {
+    fn take(
+        &mut self,
+        side: Side,
+        kind: MessageType,
+        payload: &[u8],
+    ) -> Result<(), ScriptLineFault> {
         if self.is_on {
             check_written(write_take(&mut self.out, side, kind, payload))
         } else {

@@ -1,17 +1,17 @@
 -- An end that is opened again: no call changes its settings, so that each layer is as newly opened.
 use Rattle.stack_end.proofs.Words.{[], ap, Arrives, Bool, by_cond, ClosedByUser, Closes, Completes, Datagram, datagrams, Dialogue, EndSettings, Err, Event, false}
-use Rattle.stack_end.proofs.Words.{if◌then◌else◌, Input, Inside, is_nil, judge_messages, judge_read, judge_units, judge_unpacked, Judged, Leaving, length, List, process_event, None, number_behind}
-use Rattle.stack_end.proofs.Words.{Ok, opening_turn, Option, Part, parts_passed, Puts, Receiver, red_after, RedTick, refl, Result, rises, rule_of, sendings, session_in, Settings, Some, subst}
+use Rattle.stack_end.proofs.Words.{if◌then◌else◌, Input, Inside, is_nil, judge_messages, judge_read, judge_units, judge_unpacked, Judgement, Leaving, length, List, process_event, None, number_after}
+use Rattle.stack_end.proofs.Words.{Ok, opening_turn, Option, Part, parts_passed, Puts, Receiver, red_after, RedTick, refl, Result, bring_up, rule_of, sendings, session_in, Settings, Some, subst}
 use Rattle.stack_end.proofs.Words.{can_pack, suc, sym, Tele, tele_seen, TeleFault, true, unit_seen, unit_text, unless_leaving, Unspecified, View, zero, ℕ, ◌%◌, ◌^◌, ◌∙◌, ◌∷◌, ◌≡◌, PackFault, take, comes_up}
 use Rattle.pdi_session.specs.SessionStep.{new_session as session_opened, SessionState}
 use Rattle.red_layer.specs.FiniteMap.{has_number}
 use Rattle.red_layer.specs.Redundancy.{after_release, arrival, decoded, defer, follow, step_decoded as red_heard, is_due, least_waiting, new_receiver as red_opened, ReceiverStep}
 use Rattle.red_layer.specs.declared.pdu.RedFault.{RedFault}
 use Rattle.octets.specs.declared.limits.TheConstants.{REACH}
-use Rattle.safe_machine.specs.Turned.{HasMade}
+use Rattle.safe_machine.specs.TurnLaws.{HasMade}
 use Rattle.std.specs.Prelude.{nat_lt, ◌==◌, ◌+◌, ◌*◌}
-use Rattle.safe_machine.proofs.one.Identified.{settings_law_holds}
-use Rattle.safe_machine.proofs.one.Turning.{opened-cases, opening_law_holds}
+use Rattle.safe_machine.proofs.one.SameSettings.{settings_law_holds}
+use Rattle.safe_machine.proofs.one.TurnSteps.{opened-cases, opening_law_holds}
 use Rattle.safe_machine.specs.Moves.{Move, move}
 use Rattle.safe_machine.specs.Moves.Move.{Guards, Leaves, Sends, Ticks}
 use Rattle.safe_machine.specs.Octets.{arrive_octets, move_of as heard_move, seen_by}
@@ -21,15 +21,15 @@ use Rattle.safe_machine.specs.View.{kept_of}
 use Rattle.safe_machine.specs.World.{Side}
 use Rattle.safe_machine.specs.World.Side.{Il, Fe}
 use Rattle.end_settings.specs.EndSettings.{connection_of, session_of}
-use Rattle.stack_end.proofs.Turning.{behind-wrap, datagrams-are, opens-made}
+use Rattle.stack_end.proofs.TurnOfCall.{behind-wrap, datagrams-are, opens-made}
 use Rattle.stack_end.proofs.Effects.{answered, handed_up, heard, leaves, moved, packed, put_done, put_in, settle, with_machine, with_session}
-use Rattle.stack_end.proofs.Following.{closed-is, finished-is, guarded-is, packed-is, part-is, queued-is, ticked-is}
+use Rattle.stack_end.proofs.TurnSteps.{closed-is, finished-is, guarded-is, packed-is, part-is, queued-is, ticked-is}
 use Rattle.stack_end.specs.Ends.{Call, Close, Deliver, EndState, InitDone, is_shut, new_end, Put, Tick}
-use Rattle.stack_end.specs.Steps.{by_steps, call, guarded, kept_of as fields_kept, part, parts, receives, step, ticked, whole_way, with_input}
-use Rattle.stack_end.specs.Turns.{call_by, closes, finishes, goes_by, packs, packs_by, queues, sends_by}
-use Rattle.stack_end.specs.Fields.{BothStand, Stands}
+use Rattle.stack_end.specs.Steps.{by_steps, call, guard_step, kept_of as fields_kept, part_step, parts_step, input_step, step, tick_step, whole_way, with_input}
+use Rattle.stack_end.specs.Turns.{call_by, close_turn, finish_turn, input_and_send_by, pack_turn, pack_by, queue_turn, send_by}
+use Rattle.stack_end.specs.Fields.{LayersRepresent, UpperRepresent}
 use Rattle.stack_end.specs.Reopening.{after_calls, AgainLaw, IsAgain, reopening_turn}
-use Rattle.stack_end.specs.Statistics.{none_made, with_made}
+use Rattle.stack_end.specs.Statistics.{no_made_counts, with_made}
 use Rattle.std.proofs.Common.{zero-add}
 
 -- the settings of a session
@@ -50,7 +50,7 @@ same-read : (r : Result Tele TeleFault) (d : Dialogue) → Same d (judge_read r 
 same-read (Ok t) d = same-meets (Arrives t) d
 same-read (Err fault) d = same d
 
-same-unless : (o : Option Leaving) (d : Dialogue) (a b : Judged) → Same d b.left → Same d a.left → Same d (unless_leaving o a b).left
+same-unless : (o : Option Leaving) (d : Dialogue) (a b : Judgement) → Same d b.left → Same d a.left → Same d (unless_leaving o a b).left
 same-unless None d a b k h = k
 same-unless (Some why) d a b k h = h
 
@@ -72,7 +72,7 @@ same-units (u ∷ us) d =
     let one = same-unpacked (unit_seen u) d in
     same-unless first.leaving d first (judge_units us first.left) (same-then d first.left (judge_units us first.left).left one (same-units us first.left)) one
 
-same-rises : (up : Bool) (d : Dialogue) → Same d (rises up d)
+same-rises : (up : Bool) (d : Dialogue) → Same d (bring_up up d)
 same-rises true d = same-meets Event.Up d
 same-rises false d = same d
 
@@ -172,7 +172,7 @@ kept-answered now octets x =
       session = same-then x.session d _ (same-units (handed_up x s) x.session) (same-rises (comes_up x.machine.connection s.connection) d);
     }
 
-kept-part : (now : ℕ) (octets : List ℕ) (x : EndState) → Kept x (part now octets x)
+kept-part : (now : ℕ) (octets : List ℕ) (x : EndState) → Kept x (part_step now octets x)
 kept-part now octets x =
     let s = arrive_octets octets now x.machine in
     let y = answered octets x s in
@@ -180,19 +180,19 @@ kept-part now octets x =
     let left = kept-then x y z (kept-answered now octets x) (kept-leaves now (judge_units (handed_up x s) x.session).leaving y) in
     subst (Kept x) (sym (part-is now octets x)) (kept-then x z (settle z) left (kept-settle z))
 
-kept-parts : (now : ℕ) (ps : List Part) (x : EndState) → Kept x (parts now ps x)
+kept-parts : (now : ℕ) (ps : List Part) (x : EndState) → Kept x (parts_step now ps x)
 kept-parts now [] x = kept x
 kept-parts now (p ∷ ps) x =
-    let y = part now p.1 x in
-    kept-then x y (parts now ps y) (kept-part now p.1 x) (kept-parts now ps y)
+    let y = part_step now p.1 x in
+    kept-then x y (parts_step now ps y) (kept-part now p.1 x) (kept-parts now ps y)
 
-kept-receives : (now : ℕ) (i : Input) (x : EndState) → Kept x (receives now i x)
+kept-receives : (now : ℕ) (i : Input) (x : EndState) → Kept x (input_step now i x)
 kept-receives now i x =
     let y = with_input i x in
     let red : Kept x y = record { settings = refl; red = still-after i x.red; machine = refl; session = same x.session } in
-    kept-then x y (receives now i x) red (kept-parts now (parts_passed i x.red) y)
+    kept-then x y (input_step now i x) red (kept-parts now (parts_passed i x.red) y)
 
-kept-packed : (now : ℕ) (x : EndState) → Kept x (step (packs now) x)
+kept-packed : (now : ℕ) (x : EndState) → Kept x (step (pack_turn now) x)
 kept-packed now x =
     subst (Kept x) (sym (packed-is now x))
     (record {
@@ -202,37 +202,37 @@ kept-packed now x =
       session = record { addressing = refl; role = refl };
     })
 
-kept-packs : (n now : ℕ) (x : EndState) → Kept x (packs_by by_steps n now x)
+kept-packs : (n now : ℕ) (x : EndState) → Kept x (pack_by by_steps n now x)
 kept-packs zero now x = kept x
 kept-packs (suc n) now x =
-    let y = step (packs now) x in
-    let more = kept-then x y (packs_by by_steps n now y) (kept-packed now x) (kept-packs n now y) in
+    let y = step (pack_turn now) x in
+    let more = kept-then x y (pack_by by_steps n now y) (kept-packed now x) (kept-packs n now y) in
     kept-if (can_pack (fields_kept x)) x _ _ more (kept x)
 
-kept-sends : (now : ℕ) (x : EndState) → Kept x (sends_by by_steps now x)
+kept-sends : (now : ℕ) (x : EndState) → Kept x (send_by by_steps now x)
 kept-sends now x = kept-packs (length x.session.waiting) now x
 
-kept-goes_on : (now : ℕ) (i : Input) (x : EndState) → Kept x (goes_by whole_way now i x)
+kept-goes_on : (now : ℕ) (i : Input) (x : EndState) → Kept x (input_and_send_by whole_way now i x)
 kept-goes_on now i x =
-    let y = receives now i x in
-    kept-if (is_shut x) x _ _ (kept x) (kept-then x y (sends_by by_steps now y) (kept-receives now i x) (kept-sends now y))
+    let y = input_step now i x in
+    kept-if (is_shut x) x _ _ (kept x) (kept-then x y (send_by by_steps now y) (kept-receives now i x) (kept-sends now y))
 
 -- what follows the timers of the machine
-kept-first : (now : ℕ) (i : Input) (m : Move) (x y : EndState) → y ≡ moved m x → Kept x (if is_shut x then x else goes_by whole_way now i y)
+kept-first : (now : ℕ) (i : Input) (m : Move) (x y : EndState) → y ≡ moved m x → Kept x (if is_shut x then x else input_and_send_by whole_way now i y)
 kept-first now i m x y is =
-    kept-if (is_shut x) x _ _ (kept x) (kept-then x y (goes_by whole_way now i y) (subst (Kept x) (sym is) (kept-moved m x)) (kept-goes_on now i y))
+    kept-if (is_shut x) x _ _ (kept x) (kept-then x y (input_and_send_by whole_way now i y) (subst (Kept x) (sym is) (kept-moved m x)) (kept-goes_on now i y))
 
 kept-did : (c : Call) (x : EndState) → Kept x (call_by whole_way c x)
 kept-did (Close now) x = subst (Kept x) (sym (closed-is now x)) (kept-moved (Leaves ClosedByUser Unspecified now) x)
 kept-did (Put kind payload now) x =
-    let y = step (queues kind payload) x in
+    let y = step (queue_turn kind payload) x in
     let queued = subst (Kept x) (sym (queued-is kind payload x)) (kept-meets (Puts kind payload (length x.session.waiting)) x) in
-    kept-then x y (sends_by by_steps now y) queued (kept-sends now y)
+    kept-then x y (send_by by_steps now y) queued (kept-sends now y)
 kept-did (InitDone now) x =
-    let y = step finishes x in
-    kept-then x y (sends_by by_steps now y) (subst (Kept x) (sym (finished-is x)) (kept-meets (Completes (length x.session.waiting)) x)) (kept-sends now y)
-kept-did (Tick now) x = kept-first now (RedTick now) (Ticks now) x (ticked now x) (ticked-is now x)
-kept-did (Deliver channel octets now) x = kept-first now (Datagram octets now) (Guards now) x (guarded now x) (guarded-is now x)
+    let y = step finish_turn x in
+    kept-then x y (send_by by_steps now y) (subst (Kept x) (sym (finished-is x)) (kept-meets (Completes (length x.session.waiting)) x)) (kept-sends now y)
+kept-did (Tick now) x = kept-first now (RedTick now) (Ticks now) x (tick_step now x) (ticked-is now x)
+kept-did (Deliver channel octets now) x = kept-first now (Datagram octets now) (Guards now) x (guard_step now x) (guarded-is now x)
 
 kept-call : (c : Call) (x : EndState) → Kept x (call c x)
 kept-call c x =
@@ -257,8 +257,8 @@ rule-same Fe s = refl
 record Machine (side : Side) (s : EndSettings) (first now : ℕ) (m : Settings) (n : ℕ) : Type 0 where
   stands : (opening_turn m first now).left ≡ kept_of (new_state (connection_of side s) first now)
   has_made : HasMade (opening_turn m first now).left
-  numbers : number_behind 0 (opening_turn m first now).made ≡ length (new_state (connection_of side s) first now).made % 2 ^ 32
-  made : with_made (opening_turn m first now).made none_made ≡ with_made (new_state (connection_of side s) first now).made none_made
+  numbers : number_after 0 (opening_turn m first now).made ≡ length (new_state (connection_of side s) first now).made % 2 ^ 32
+  made : with_made (opening_turn m first now).made no_made_counts ≡ with_made (new_state (connection_of side s) first now).made no_made_counts
   sent : datagrams m.rule n 0 (opening_turn m first now).made ≡ sendings s 0 (new_state (connection_of side s) first now).made
 
 machine-new : (side : Side) (s : EndSettings) (first now : ℕ) → Machine side s first now (connection_of side s) s.channels
@@ -271,7 +271,7 @@ machine-new side s first now =
       has_made = opens-made m first now;
       numbers = behind-wrap 0 made
           ∙ (ap (λ n. n % 2 ^ 32) (zero-add (length made)) ∙ ap (λ ms. length ms % 2 ^ 32) (sym law.made));
-      made = ap (λ ms. with_made ms none_made) (sym law.made);
+      made = ap (λ ms. with_made ms no_made_counts) (sym law.made);
       sent = ap (λ r. datagrams r s.channels 0 made) (rule-same side s) ∙ (datagrams-are s 0 made ∙ ap (λ ms. sendings s 0 ms) (sym law.made));
     }
 

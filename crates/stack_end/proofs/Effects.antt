@@ -1,6 +1,6 @@
--- What the steps of an end do to its history, change by change: the vocabulary of the laws' proofs. `Following` proves that a step is these changes.
+-- What the steps of an end do to its history, change by change: the vocabulary of the laws' proofs. `TurnSteps` proves that a step is these changes.
 use Rattle.stack_end.proofs.Words.{Bool, ClosedByUser, Closes, Completes, Dialogue, drop, if◌then◌else◌, Input, judge_units, Leaving, length, List, process_event, None, Option, Puts}
-use Rattle.stack_end.proofs.Words.{comes_up, noted, rises, Some, take, unit_text, ℕ}
+use Rattle.stack_end.proofs.Words.{comes_up, request_after, bring_up, Some, take, unit_text, ℕ}
 use Rattle.safe_machine.specs.Moves.{Move, move}
 use Rattle.safe_machine.specs.Octets.{arrive_octets}
 use Rattle.safe_machine.specs.State.{State}
@@ -8,7 +8,7 @@ use Rattle.safe_machine.specs.Step.{leave, send}
 use Rattle.safe_machine.specs.World.{is_joining}
 use Rattle.stack_end.specs.Ends.{Call, EndState, is_shut}
 use Rattle.stack_end.specs.Steps.{by_steps, whole_way}
-use Rattle.stack_end.specs.Turns.{call_by, goes_by, packs_by, sends_by}
+use Rattle.stack_end.specs.Turns.{call_by, input_and_send_by, pack_by, send_by}
 
 -- the end with this state of its machine
 abbrev pub with_machine : State → EndState → EndState
@@ -38,8 +38,8 @@ answered octets x s =
       red = x.red;
       inputs = x.inputs;
       machine = s;
-      session = rises (comes_up x.machine.connection s.connection) (judge_units (handed_up x s) x.session).left;
-      request = noted (is_joining x.machine.connection s.connection) octets x.request;
+      session = bring_up (comes_up x.machine.connection s.connection) (judge_units (handed_up x s) x.session).left;
+      request = request_after (is_joining x.machine.connection s.connection) octets x.request;
       time = x.time;
     }
 
@@ -73,13 +73,13 @@ packed now x =
 
 -- short names of the steps
 abbrev pub goes_on : ℕ → Input → EndState → EndState
-goes_on now i x = goes_by whole_way now i x
+goes_on now i x = input_and_send_by whole_way now i x
 
 abbrev pub packed_up_to : ℕ → ℕ → EndState → EndState
-packed_up_to n now x = packs_by by_steps n now x
+packed_up_to n now x = pack_by by_steps n now x
 
 abbrev pub sends : ℕ → EndState → EndState
-sends now x = sends_by by_steps now x
+sends now x = send_by by_steps now x
 
 abbrev pub did : Call → EndState → EndState
 did c x = call_by whole_way c x

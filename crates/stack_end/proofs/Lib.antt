@@ -1,10 +1,10 @@
 pub mod Words
-pub mod Going
-pub mod Packing
+pub mod CallParts
+pub mod Deliveries
 pub mod Effects
-pub mod Following
-pub mod Turning
-pub mod Taking
+pub mod TurnSteps
+pub mod TurnOfCall
+pub mod Takes
 pub mod Timely
 pub mod Stale
 pub mod Again

@@ -1,7 +1,7 @@
 -- An end that is not stale takes the next request of a peer that was just opened.
-use Rattle.stack_end.proofs.Words.{[], above, ap, arith, Bool, ConnectionState, Datagram, Deliver, Down, false, Fields, followed, goes_on, guards}
-use Rattle.stack_end.proofs.Words.{has_room, Inside, is_nil, is_over, octets_units, List, machine_hears, MachineTurn, not, Ok, packs_up_to, Part, part, parts}
-use Rattle.stack_end.proofs.Words.{parts_passed, Receiver, receives, red_after, refl, sends, Some, Start, still, subst, suc, sym, true, true≢false, Turn, turn}
+use Rattle.stack_end.proofs.Words.{[], upper_turn, ap, arith, Bool, ConnectionState, Datagram, Deliver, Down, false, Fields, turn_then, input_and_send_turn, guard_turn}
+use Rattle.stack_end.proofs.Words.{has_room, Inside, is_nil, is_over, octets_units, List, machine_octets_turn, MachineTurn, not, Ok, pack_up_to_turn, Part, part_turn, parts_turn}
+use Rattle.stack_end.proofs.Words.{parts_passed, Receiver, input_turn, red_after, refl, send_turn, Some, Start, still, subst, suc, sym, true, true≢false, Turn, turn}
 use Rattle.stack_end.proofs.Words.{View, zero, ℕ, ◌&&◌, ◌∙◌, ◌∷◌, ◌≡◌, if◌then◌else◌, Option}
 use Rattle.red_layer.specs.Begun.{has_begun}
 use Rattle.red_layer.specs.Redundancy.{decoded, step_decoded as red_heard}
@@ -10,15 +10,15 @@ use Rattle.safe_pdu.specs.declared.Kind.TheVariants.{ConnReq}
 use Rattle.safe_machine.specs.Connections.{is_closed}
 use Rattle.safe_machine.specs.Decision.{is_foreign, is_ours}
 use Rattle.safe_machine.specs.Octets.{move_of as heard_move}
-use Rattle.safe_machine.specs.Turned.{turn as machine_move, units_of_move}
+use Rattle.safe_machine.specs.TurnLaws.{turn as machine_move, units_of_move}
 use Rattle.safe_machine.specs.Made.{opening_body}
 use Rattle.safe_machine.specs.Settings.{Settings}
 use Rattle.safe_machine.specs.Turns.{acceptance_turn, arrival_turn as machine_arrives, handed_units, opening_turn, sending_turn}
 use Rattle.safe_machine.specs.Turns.{still as machine_still, new_view}
 use Rattle.end_settings.specs.EndSettings.{connection_of}
 use Rattle.stack_end.specs.Stale.{HasTaken, TakesRequestLaw, FreshLaw, stale_in}
-use Rattle.stack_end.proofs.Words.{dialogue_of, goes_up, judge_units, leaves, machine_turn, notes, packs, session_turn, settles}
-use Rattle.stack_end.specs.Turns.{closing, departs}
+use Rattle.stack_end.proofs.Words.{dialogue_of, up_turn, judge_units, leave_turn, machine_turn, note_request_turn, pack_turn, session_turn, end_session_turn}
+use Rattle.stack_end.specs.Turns.{closing_departure, departure_turn}
 use Rattle.stack_end.specs.declared.departure.Departure.{Departure}
 use Rattle.std.proofs.lemmas.Bool.{leb-false}
 use Rattle.std.specs.Prelude.{nat_lt, ◌||◌}
@@ -41,18 +41,18 @@ record Accepted (upper : List ℕ) (p : Pdu) (now : ℕ) (u w : Fields) : Type 0
 abbrev part-by : ConnectionState → MachineTurn → List (List ℕ) → Option Departure → ℕ → List ℕ → Fields → Turn Fields
 part-by before t units cause now octets u =
     let j = judge_units units (dialogue_of u) in
-    followed
-    (followed (followed (followed (followed (followed (machine_turn t u) (session_turn j.left)) (notes before octets)) (goes_up before)) (leaves now j.leaving))
-    settles)
-    (departs cause)
+    turn_then
+    (turn_then (turn_then (turn_then (turn_then (turn_then (machine_turn t u) (session_turn j.left)) (note_request_turn before octets)) (up_turn before)) (leave_turn now j.leaving))
+    end_session_turn)
+    (departure_turn cause)
 
-part-accepts : (upper : List ℕ) (p : Pdu) (now : ℕ) (u : Fields) → u.machine.connection ≡ Down → machine_hears upper now u.machine ≡ acceptance_turn p now u.machine
+part-accepts : (upper : List ℕ) (p : Pdu) (now : ℕ) (u : Fields) → u.machine.connection ≡ Down → machine_octets_turn upper now u.machine ≡ acceptance_turn p now u.machine
     → octets_units upper now u.machine ≡ []
-    → Accepted upper p now u (part now upper u).left
+    → Accepted upper p now u (part_turn now upper u).left
 part-accepts upper p now u down turns none =
-    let t = machine_hears upper now u.machine in
+    let t = machine_octets_turn upper now u.machine in
     let us = octets_units upper now u.machine in
-    let cause = closing now upper u in
+    let cause = closing_departure now upper u in
     let a = acceptance_turn p now u.machine in
     record {
       machine =
@@ -66,9 +66,9 @@ part-accepts upper p now u down turns none =
     }
 
 -- an end in Start packs nothing
-packs-none : (n now : ℕ) (w : Fields) → has_room w.machine ≡ false → (packs_up_to n now w).left ≡ w
+packs-none : (n now : ℕ) (w : Fields) → has_room w.machine ≡ false → (pack_up_to_turn n now w).left ≡ w
 packs-none zero now w shut = refl
-packs-none (suc n) now w shut = ap (λ (b : Bool). (if b then followed (packs now w) (packs_up_to n now) else still w).left) (none (is_nil w.waiting) shut)
+packs-none (suc n) now w shut = ap (λ (b : Bool). (if b then turn_then (pack_turn now w) (pack_up_to_turn n now) else still w).left) (none (is_nil w.waiting) shut)
   where
     none : (nil : Bool) {b : Bool} → b ≡ false → (not nil && b) ≡ false
     none true h = refl
@@ -117,7 +117,7 @@ expects-one r octets upper now h coded =
     ∙ ap (λ d. (red_heard now d (record r { expected = 0; waiting = [] })).left.expected) coded
 
 -- the timeout check leaves what is in Down
-guards-none : (now : ℕ) (v : Inside) → v.upper.machine.connection ≡ Down → (above (guards now) v).left ≡ v
+guards-none : (now : ℕ) (v : Inside) → v.upper.machine.connection ≡ Down → (upper_turn (guard_turn now) v).left ≡ v
 guards-none now v down = rw down refl
 
 -- a stale end: what is not stale in Down has not begun
@@ -128,24 +128,24 @@ pub takes_request_holds : TakesRequestLaw
 takes_request_holds v channel now octets upper p fresh down r =
     let m = v.upper.machine in
     let begun = not-begun m.connection (has_begun v.red) fresh down in
-    let hears : machine_hears upper now m ≡ acceptance_turn p now m =
+    let hears : machine_octets_turn upper now m ≡ acceptance_turn p now m =
     ap (λ d. machine_move (heard_move d now) m) r.coded ∙ accepts-turn m p now down r.known r.request r.ours in
     let none : octets_units upper now m ≡ [] =
     ap (λ d. units_of_move (heard_move d now) m) r.coded ∙ accepts-hands m p now down r.known r.request r.ours in
     let taken = part-accepts upper p now v.upper down hears none in
     let i = Datagram octets now in
-    let w : Inside = record { red = red_after i v.red; upper = (part now upper v.upper).left } in
+    let w : Inside = record { red = red_after i v.red; upper = (part_turn now upper v.upper).left } in
     let open-end : is_over v ≡ false = ap is_closed down in
-    let received : (receives now i v).left ≡ w =
-    ap (λ (ps : List Part). record { red = red_after i v.red; upper = (parts now ps v.upper).left }) (passes-first v.red octets upper now begun r.first) in
+    let received : (input_turn now i v).left ≡ w =
+    ap (λ (ps : List Part). record { red = red_after i v.red; upper = (parts_turn now ps v.upper).left }) (passes-first v.red octets upper now begun r.first) in
     let shut : has_room w.upper.machine ≡ false = ap has_room taken.machine in
-    let sent : (above (sends now) w).left ≡ w = ap (λ (u : Fields). record { red = w.red; upper = u }) (packs-none _ now w.upper shut) in
-    let on : (goes_on now i v).left ≡ w =
-    ap (λ (b : Bool). (if b then still v else followed (receives now i v) (above (sends now))).left) open-end
-    ∙ (ap (λ (x : Inside). (above (sends now) x).left) received ∙ sent) in
+    let sent : (upper_turn (send_turn now) w).left ≡ w = ap (λ (u : Fields). record { red = w.red; upper = u }) (packs-none _ now w.upper shut) in
+    let on : (input_and_send_turn now i v).left ≡ w =
+    ap (λ (b : Bool). (if b then still v else turn_then (input_turn now i v) (upper_turn (send_turn now))).left) open-end
+    ∙ (ap (λ (x : Inside). (upper_turn (send_turn now) x).left) received ∙ sent) in
     let all : (turn (Deliver channel octets now) v).left ≡ w =
-    ap (λ (b : Bool). (if b then still v else followed (above (guards now) v) (goes_on now i)).left) open-end
-    ∙ (ap (λ (x : Inside). (goes_on now i x).left) (guards-none now v down) ∙ on) in
+    ap (λ (b : Bool). (if b then still v else turn_then (upper_turn (guard_turn now) v) (input_and_send_turn now i)).left) open-end
+    ∙ (ap (λ (x : Inside). (input_and_send_turn now i x).left) (guards-none now v down) ∙ on) in
     subst (λ (x : Inside). HasTaken v upper p now x) (sym all)
     record {
       state = ap (λ (x : View). x.connection) taken.machine;

@@ -1,7 +1,7 @@
 -- The own time last confirmed never goes back in a call, and what is taken comes after a timeout check that passed.
-use Rattle.stack_end.proofs.Words.{[], above, ap, append-nil, arith, Bool, dialogue_of, false, Fields, followed, goes_on, goes_up, guards, hears, octets_units, if◌then◌else◌}
-use Rattle.stack_end.proofs.Words.{Inside, inl, inr, Input, is_closed, is_over, judge_units, judged_at, Leaving, leaves, List, machine_hears, machine_turn, MachineTurn, None}
-use Rattle.stack_end.proofs.Words.{notes, Ok, Option, packs, packs_up_to, Part, part, parts, parts_passed, receives, refl, rules, sends, session_turn, settles, Some, still}
+use Rattle.stack_end.proofs.Words.{[], upper_turn, ap, append-nil, arith, Bool, dialogue_of, false, Fields, turn_then, input_and_send_turn, up_turn, guard_turn, judge_turn, octets_units, if◌then◌else◌}
+use Rattle.stack_end.proofs.Words.{Inside, inl, inr, Input, is_closed, is_over, judge_units, judge_part, Leaving, leave_turn, List, machine_octets_turn, machine_turn, MachineTurn, None}
+use Rattle.stack_end.proofs.Words.{note_request_turn, Ok, Option, pack_turn, pack_up_to_turn, Part, part_turn, parts_turn, parts_passed, input_turn, refl, rules, send_turn, session_turn, end_session_turn, Some, still}
 use Rattle.stack_end.proofs.Words.{Closes, process_event, RedTick, subst, suc, sym, true, Turn, View, zero, ℕ, ◌++◌, ◌+◌, ◌<◌, ◌∙◌, ◌∷◌, ◌≡◌, ◌≢◌, ◌⊎◌, Err, Result, Datagram, can_pack}
 use Rattle.std.specs.Prelude.{◌-◌, nat_le, nat_lt, ◌&&◌}
 use Rattle.safe_machine.specs.Connections.{in_turn, is_live}
@@ -9,9 +9,9 @@ use Rattle.safe_machine.specs.Decision.{as_client, by_connection, by_table, cts_
 use Rattle.safe_machine.specs.Deadlines.{beat_due}
 use Rattle.safe_machine.specs.Made.{is_carrier_kind, leaving_body}
 use Rattle.safe_machine.specs.Octets.{move_of as heard_move}
-use Rattle.safe_machine.specs.Turned.{turn as machine_move, units_of_move}
-use Rattle.safe_machine.specs.Turns.{acceptance_turn as machine_accepts, answer_ahead_turn, answer_early_turn, answer_next_turn, request_turn, both_confirmed, decision_turn, response_turn, count_pdu, guard_turn as machine_guards, handed_units, leave_turn as machine_leaves}
-use Rattle.safe_machine.specs.Turns.{move_past, reply_turn, mark_answered, resend_turn, sending_turn, send_turn as machine_sends, send_unit_turn, has_room, still as machine_still, take_unit_turn, tick_turn as machine_ticks}
+use Rattle.safe_machine.specs.TurnLaws.{turn as machine_move, units_of_move}
+use Rattle.safe_machine.specs.Turns.{acceptance_turn as machine_accepts, answer_ahead_turn, answer_early_turn, answer_next_turn, request_turn, both_confirmed, decision_turn, response_turn, count_pdu, guard_turn as machine_guard_turn, handed_units, leave_turn as machine_leave_turn}
+use Rattle.safe_machine.specs.Turns.{move_past, reply_turn, mark_answered, resend_turn, sending_turn, send_turn as machine_send_turn, send_unit_turn, has_room, still as machine_still, take_unit_turn, tick_turn as machine_tick_turn}
 use Rattle.safe_machine.specs.Turns.{units_confirmed, heartbeat_turn}
 use Rattle.safe_machine.specs.declared.ConnectionState.{ConnectionState}
 use Rattle.safe_machine.specs.declared.ConnectionState.TheVariants.{Closed, Down, RetrReq as Requesting, RetrRun, Start, Up}
@@ -26,8 +26,8 @@ use Rattle.safe_pdu.specs.declared.reasons.Detail.TheVariants.{Limit, Unspecifie
 use Rattle.safe_pdu.specs.declared.reasons.Reason.{Reason}
 use Rattle.safe_pdu.specs.declared.reasons.Reason.TheVariants.{ProtocolError, Timeout, UnexpectedPdu}
 use Rattle.stack_end.specs.Timely.{IsTimely, t_max_of, TimelyLaw, TurnTimely}
-use Rattle.stack_end.specs.Turns.{arrives, closing, departs, passes, ticks}
-use Rattle.stack_end.proofs.Packing.{guards-none, part-taken, sends-none, ticks-none}
+use Rattle.stack_end.specs.Turns.{arrival_turn, closing_departure, departure_turn, time_turn, tick_turn}
+use Rattle.stack_end.proofs.Deliveries.{guards-none, part-taken, sends-none, ticks-none}
 
 -- one machine after another: T_max stays, and what was less than T_max old at this time still is
 record Ages (now : ℕ) (v w : View) : Type 0 where
@@ -68,16 +68,16 @@ Aged now v t = Ages now v t.left
 closed-ages : (now : ℕ) (v : View) (t : MachineTurn) (c : ConnectionState) → Aged now v t → Ages now v (record t.left { connection = c })
 closed-ages now v t c h = record { limit = h.limit; stays = h.stays }
 
-leaves-ages : (reason : Reason) (detail : Detail) (now : ℕ) (v : View) → Aged now v (machine_leaves reason detail now v)
+leaves-ages : (reason : Reason) (detail : Detail) (now : ℕ) (v : View) → Aged now v (machine_leave_turn reason detail now v)
 leaves-ages reason detail now v =
     closed-ages now v (if is_live v.connection then sending_turn DiscReq (leaving_body reason detail) now v else machine_still v) Closed
     (choice (Aged now v) (is_live v.connection) (sending_turn DiscReq (leaving_body reason detail) now v) (machine_still v) (ages-same now v _ refl refl)
     (ages-same now v _ refl refl))
 
-guards-ages : (now : ℕ) (v : View) → Aged now v (machine_guards now v)
+guards-ages : (now : ℕ) (v : View) → Aged now v (machine_guard_turn now v)
 guards-ages now v =
-    let over = machine_leaves Timeout Unspecified now v in
-    let many = machine_leaves ProtocolError Limit now v in
+    let over = machine_leave_turn Timeout Unspecified now v in
+    let many = machine_leave_turn ProtocolError Limit now v in
     let rest = if nat_le v.settings.pdu_limit v.made then many else machine_still v in
     let same = ages-same now v v refl refl in
     choice (Aged now v) (is_live v.connection) (if nat_le (v.confirmed_at + v.settings.t_max) now then over else rest) (machine_still v)
@@ -85,9 +85,9 @@ guards-ages now v =
     (choice (Aged now v) (nat_le v.settings.pdu_limit v.made) many (machine_still v) (leaves-ages ProtocolError Limit now v) same))
     same
 
-ticks-ages : (now : ℕ) (v : View) → Aged now v (machine_ticks now v)
+ticks-ages : (now : ℕ) (v : View) → Aged now v (machine_tick_turn now v)
 ticks-ages now v =
-    let u = (machine_guards now v).left in
+    let u = (machine_guard_turn now v).left in
     then-ages now v u _ (guards-ages now v)
     (choice (Aged now u) (beat_due now u) (sending_turn Heartbeat [] now u) (machine_still u) (ages-same now u _ refl refl) (ages-same now u _ refl refl))
 
@@ -190,7 +190,7 @@ responds-ages p now v =
 -- bytes that come
 read-ages : (read : Result Pdu SafeFault) (now : ℕ) (v : View) → Aged now v (machine_move (heard_move read now) v)
 read-ages (Ok p) now v =
-    let u = (machine_guards now v).left in then-ages now v u _ (guards-ages now v) (responds-ages p now u)
+    let u = (machine_guard_turn now v).left in then-ages now v u _ (guards-ages now v) (responds-ages p now u)
 read-ages (Err fault) now v = guards-ages now v
 
 -- what is handed up comes after a timeout check that passed
@@ -212,7 +212,7 @@ both-taken xs ys X Y (inl e) (inr y) k = inr y
 both-taken xs ys X Y (inr x) r k = inr (k x)
 
 then-tells : {V : Type 0} (machine : V → View) (now : ℕ) (v : V) (t : Turn V) (next : V → Turn V) → Tells machine now v t → Tells machine now t.left (next t.left)
-    → Tells machine now v (followed t next)
+    → Tells machine now v (turn_then t next)
 then-tells machine now v t next h k =
     record {
       taken = both-taken t.taken (next t.left).taken _ _ h.taken k.taken k.ages.stays;
@@ -229,20 +229,20 @@ machine_of v = v.machine
 abbrev below : Inside → View
 below v = v.upper.machine
 
-settles-machine : (v : Fields) → (settles v).left.machine ≡ v.machine
+settles-machine : (v : Fields) → (end_session_turn v).left.machine ≡ v.machine
 settles-machine v =
     choice (λ (t : Turn Fields). t.left.machine ≡ v.machine) (is_closed v.machine.connection) (session_turn (process_event Closes (dialogue_of v)) v) (still v) refl refl
 
-leaves-up : (now : ℕ) (why : Option Leaving) (v : Fields) → Ages now v.machine (leaves now why v).left.machine
+leaves-up : (now : ℕ) (why : Option Leaving) (v : Fields) → Ages now v.machine (leave_turn now why v).left.machine
 leaves-up now None v = ages-same now v.machine v.machine refl refl
 leaves-up now (Some why) v = leaves-ages why.0 why.1 now v.machine
 
-part-ages : (now : ℕ) (octets : List ℕ) (v : Fields) → Ages now v.machine (part now octets v).left.machine
+part-ages : (now : ℕ) (octets : List ℕ) (v : Fields) → Ages now v.machine (part_turn now octets v).left.machine
 part-ages now octets v =
     let before = v.machine.connection in
-    let why = (judged_at now octets v).leaving in
-    let u = (followed (followed (hears now octets v) (notes before octets)) (goes_up before)).left in
-    let w = (leaves now why u).left in
+    let why = (judge_part now octets v).leaving in
+    let u = (turn_then (turn_then (judge_turn now octets v) (note_request_turn before octets)) (up_turn before)).left in
+    let w = (leave_turn now why u).left in
     subst (λ (m : View). Ages now v.machine m) (sym (settles-machine w))
     (then-ages now v.machine u.machine w.machine (read-ages (safe_seen v.machine.settings.rule octets) now v.machine) (leaves-up now why u))
 
@@ -252,73 +252,73 @@ some-units x xs e = cc
 before-part : (c m now : ℕ) → 0 < m → now < c + m → now - c < m
 before-part c m now positive h = omega (arith, positive, h)
 
-part-tells : (now : ℕ) (octets : List ℕ) (v : Fields) → 0 < v.machine.settings.t_max → Tells machine_of now v (part now octets v)
+part-tells : (now : ℕ) (octets : List ℕ) (v : Fields) → 0 < v.machine.settings.t_max → Tells machine_of now v (part_turn now octets v)
 part-tells now octets v positive = record { taken = by-units (octets_units octets now v.machine) refl; ages = part-ages now octets v }
   where
     by-units : (us : List (List ℕ)) → octets_units octets now v.machine ≡ us
-        → ((part now octets v).taken ≡ []) ⊎ (now - (part now octets v).left.machine.confirmed_at < (part now octets v).left.machine.settings.t_max)
+        → ((part_turn now octets v).taken ≡ []) ⊎ (now - (part_turn now octets v).left.machine.confirmed_at < (part_turn now octets v).left.machine.settings.t_max)
     by-units [] e = inl (part-taken now octets v ∙ ap (λ us. (judge_units us (dialogue_of v)).left.history.taken) e)
     by-units (u ∷ us) e =
         inr ((part-ages now octets v).stays
         (before-part v.machine.confirmed_at v.machine.settings.t_max now positive
         (read-timely (safe_seen v.machine.settings.rule octets) now v.machine (λ none. some-units u us (sym e ∙ none)))))
 
-parts-tells : (now : ℕ) (ps : List Part) (v : Fields) → 0 < v.machine.settings.t_max → Tells machine_of now v (parts now ps v)
+parts-tells : (now : ℕ) (ps : List Part) (v : Fields) → 0 < v.machine.settings.t_max → Tells machine_of now v (parts_turn now ps v)
 parts-tells now [] v positive = still-tells machine_of now v
 parts-tells now (p ∷ ps) v positive =
     let one = part-tells now p.1 v positive in
-    then-tells machine_of now v (part now p.1 v) (parts now ps) one
-    (parts-tells now ps (part now p.1 v).left (subst (λ n. 0 < n) (sym one.ages.limit) positive))
+    then-tells machine_of now v (part_turn now p.1 v) (parts_turn now ps) one
+    (parts-tells now ps (part_turn now p.1 v).left (subst (λ n. 0 < n) (sym one.ages.limit) positive))
 
-packs-ages : (now : ℕ) (v : Fields) → Ages now v.machine (packs now v).left.machine
+packs-ages : (now : ℕ) (v : Fields) → Ages now v.machine (pack_turn now v).left.machine
 packs-ages now v =
     choice (Aged now v.machine) (has_room v.machine) (send_unit_turn _ now v.machine) (machine_still v.machine) (ages-same now v.machine _ refl refl)
     (ages-same now v.machine _ refl refl)
 
-up-to-ages : (n now : ℕ) (v : Fields) → Ages now v.machine (packs_up_to n now v).left.machine
+up-to-ages : (n now : ℕ) (v : Fields) → Ages now v.machine (pack_up_to_turn n now v).left.machine
 up-to-ages zero now v = ages-same now v.machine v.machine refl refl
 up-to-ages (suc n) now v =
-    choice (λ (t : Turn Fields). Ages now v.machine t.left.machine) (can_pack v) (followed (packs now v) (packs_up_to n now)) (still v)
-    (then-ages now v.machine (packs now v).left.machine _ (packs-ages now v) (up-to-ages n now (packs now v).left))
+    choice (λ (t : Turn Fields). Ages now v.machine t.left.machine) (can_pack v) (turn_then (pack_turn now v) (pack_up_to_turn n now)) (still v)
+    (then-ages now v.machine (pack_turn now v).left.machine _ (packs-ages now v) (up-to-ages n now (pack_turn now v).left))
     (ages-same now v.machine v.machine refl refl)
 
-sends-tells : (now : ℕ) (v : Fields) → Tells machine_of now v (sends now v)
+sends-tells : (now : ℕ) (v : Fields) → Tells machine_of now v (send_turn now v)
 sends-tells now v = record { taken = inl (sends-none now v); ages = up-to-ages _ now v }
 
-guards-tells : (now : ℕ) (v : Fields) → Tells machine_of now v (guards now v)
+guards-tells : (now : ℕ) (v : Fields) → Tells machine_of now v (guard_turn now v)
 guards-tells now v =
-    let t = machine_turn (machine_guards now v.machine) v in
+    let t = machine_turn (machine_guard_turn now v.machine) v in
     record {
       taken = inl (guards-none now v);
       ages = subst (λ (m : View). Ages now v.machine m) (sym (settles-machine t.left)) (guards-ages now v.machine);
     }
 
-ticks-tells : (now : ℕ) (v : Fields) → Tells machine_of now v (ticks now v)
+ticks-tells : (now : ℕ) (v : Fields) → Tells machine_of now v (tick_turn now v)
 ticks-tells now v =
-    let t = machine_turn (machine_ticks now v.machine) v in
+    let t = machine_turn (machine_tick_turn now v.machine) v in
     record {
       taken = inl (ticks-none now v);
       ages = subst (λ (m : View). Ages now v.machine m) (sym (settles-machine t.left)) (ticks-ages now v.machine);
     }
 
 -- of all layers
-above-tells : (now : ℕ) (next : Fields → Turn Fields) (v : Inside) → Tells machine_of now v.upper (next v.upper) → Tells below now v (above next v)
+above-tells : (now : ℕ) (next : Fields → Turn Fields) (v : Inside) → Tells machine_of now v.upper (next v.upper) → Tells below now v (upper_turn next v)
 above-tells now next v h = record { taken = h.taken; ages = h.ages }
 
-goes_on-tells : (now : ℕ) (i : Input) (v : Inside) → 0 < t_max_of v → Tells below now v (goes_on now i v)
+goes_on-tells : (now : ℕ) (i : Input) (v : Inside) → 0 < t_max_of v → Tells below now v (input_and_send_turn now i v)
 goes_on-tells now i v positive =
     let h = parts-tells now (parts_passed i v.red) v.upper positive in
-    let u = (receives now i v).left in
-    choice (Tells below now v) (is_over v) (still v) (followed (receives now i v) (above (sends now))) (still-tells below now v)
-    (then-tells below now v (receives now i v) (above (sends now)) record { taken = h.taken; ages = h.ages }
-    (above-tells now (sends now) u (sends-tells now u.upper)))
+    let u = (input_turn now i v).left in
+    choice (Tells below now v) (is_over v) (still v) (turn_then (input_turn now i v) (upper_turn (send_turn now))) (still-tells below now v)
+    (then-tells below now v (input_turn now i v) (upper_turn (send_turn now)) record { taken = h.taken; ages = h.ages }
+    (above-tells now (send_turn now) u (sends-tells now u.upper)))
 
 first-tells : (now : ℕ) (i : Input) (next : Fields → Turn Fields) (v : Inside) → 0 < t_max_of v → Tells machine_of now v.upper (next v.upper)
-    → Tells below now v (if is_over v then still v else followed (above next v) (goes_on now i))
+    → Tells below now v (if is_over v then still v else turn_then (upper_turn next v) (input_and_send_turn now i))
 first-tells now i next v positive h =
-    let w = (above next v).left in
-    choice (Tells below now v) (is_over v) (still v) (followed (above next v) (goes_on now i)) (still-tells below now v)
-    (then-tells below now v (above next v) (goes_on now i) (above-tells now next v h)
+    let w = (upper_turn next v).left in
+    choice (Tells below now v) (is_over v) (still v) (turn_then (upper_turn next v) (input_and_send_turn now i)) (still-tells below now v)
+    (then-tells below now v (upper_turn next v) (input_and_send_turn now i) (above-tells now next v h)
     (goes_on-tells now i w (subst (λ n. 0 < n) (sym h.ages.limit) positive)))
 
 turn-timely : (now : ℕ) (v : Inside) (t : Turn Inside) → Tells below now v t → TurnTimely now v t
@@ -326,6 +326,6 @@ turn-timely now v t h = record { taken = h.taken; stays = h.ages.stays; limit = 
 
 pub timely_law_holds : TimelyLaw
 timely_law_holds now octets v positive = (
-  turn-timely now v (arrives now octets v) (first-tells now (Datagram octets now) (guards now) v positive (guards-tells now v.upper)),
-  turn-timely now v (passes now v) (first-tells now (RedTick now) (ticks now) v positive (ticks-tells now v.upper)),
+  turn-timely now v (arrival_turn now octets v) (first-tells now (Datagram octets now) (guard_turn now) v positive (guards-tells now v.upper)),
+  turn-timely now v (time_turn now v) (first-tells now (RedTick now) (tick_turn now) v positive (ticks-tells now v.upper)),
 )

@@ -5,7 +5,7 @@ use Rattle.pdi_session.specs.packing.Places.{unit_seen}
 use Rattle.pdi_session.specs.declared.telegram.TeleFault.{TeleFault}
 use Rattle.pdi_session.specs.telegram.Tele.{Tele}
 use Rattle.pdi_session.specs.telegram.Places.{tele_seen}
-use Rattle.pdi_session.specs.Counted.{items_in, items_in_unit}
+use Rattle.pdi_session.specs.TelegramCounts.{items_in, items_in_unit}
 use Rattle.pdi_session.specs.Laws.{items_of}
 use Rattle.pdi_session.specs.SessionStep.{Item}
 use Rattle.safe_machine.specs.State.{unconfirmed}

@@ -7,7 +7,7 @@ use Rattle.safe_machine.specs.Decision.{is_closed}
 use Rattle.safe_machine.specs.Step.{new_state}
 use Rattle.safe_machine.specs.World.{Side}
 use Rattle.end_settings.specs.EndSettings.{EndSettings, connection_of, session_of}
-use Rattle.end_settings.specs.Configured.{settings_of, side_of}
+use Rattle.end_settings.specs.ConfigValue.{settings_of, side_of}
 use Rattle.end_settings.specs.declared.EndConfig.{EndConfig}
 use Rattle.end_settings.specs.declared.Side.{Side as ConfiguredSide}
 use Rattle.stack_end.specs.Dialogue.{Dialogue, new_dialogue}

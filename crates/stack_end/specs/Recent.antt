@@ -6,7 +6,7 @@ use Rattle.red_layer.specs.Redundancy.{Datagram, Input, Tick as RedTick, parts_p
 use Rattle.safe_pdu.specs.Places.{safe_seen}
 use Rattle.safe_machine.specs.Properties.{IsRecent}
 use Rattle.pdi_session.specs.SessionStep.{Item}
-use Rattle.stack_end.specs.Turns.{Fields, Inside, above, guards, is_over, part, ticks}
+use Rattle.stack_end.specs.Turns.{Fields, Inside, upper_turn, guard_turn, is_over, part_turn, tick_turn}
 
 -- these bytes are a PDU whose confirmed timestamp is recent to the end at this time
 abbrev pub RecentAt : ℕ → List ℕ → Fields → Type 0
@@ -16,7 +16,7 @@ RecentAt now octets v = IsRecent (safe_seen v.machine.settings.rule octets) now 
 abbrev pub TakesRecent : {T : Type 0} → (T → Item → T → Type 0) → ℕ → List Part → Fields → T → T → Type 0
 TakesRecent takes now [] v t u = t ≡ u
 TakesRecent {T = T} takes now (p ∷ ps) v t u =
-    (mid : T) × FoldsTo takes t (part now p.1 v).taken mid × (((part now p.1 v).taken ≡ []) ⊎ RecentAt now p.1 v) × TakesRecent takes now ps (part now p.1 v).left mid u
+    (mid : T) × FoldsTo takes t (part_turn now p.1 v).taken mid × (((part_turn now p.1 v).taken ≡ []) ⊎ RecentAt now p.1 v) × TakesRecent takes now ps (part_turn now p.1 v).left mid u
 
 -- an input of the redundancy layer: at a closed end nothing is taken; at an open one, only from recent parts
 abbrev pub InputRecent : {T : Type 0} → (T → Item → T → Type 0) → ℕ → Input → Inside → T → T → Type 0
@@ -25,8 +25,8 @@ InputRecent takes now i v t u = (is_over v ≡ true → t ≡ u) × (is_over v �
 -- a datagram: anything taken from it, after the timeout check, is recent
 abbrev pub DatagramRecent : {T : Type 0} → (T → Item → T → Type 0) → ℕ → List ℕ → Inside → T → T → Type 0
 DatagramRecent takes now octets v t u =
-    (is_over v ≡ true → t ≡ u) × (is_over v ≡ false → InputRecent takes now (Datagram octets now) (above (guards now) v).left t u)
+    (is_over v ≡ true → t ≡ u) × (is_over v ≡ false → InputRecent takes now (Datagram octets now) (upper_turn (guard_turn now) v).left t u)
 
 -- a tick: anything taken from the parts that it lets up, after the machine's timers, is recent
 abbrev pub TickRecent : {T : Type 0} → (T → Item → T → Type 0) → ℕ → Inside → T → T → Type 0
-TickRecent takes now v t u = (is_over v ≡ true → t ≡ u) × (is_over v ≡ false → InputRecent takes now (RedTick now) (above (ticks now) v).left t u)
+TickRecent takes now v t u = (is_over v ≡ true → t ≡ u) × (is_over v ≡ false → InputRecent takes now (RedTick now) (upper_turn (tick_turn now) v).left t u)

@@ -7,8 +7,8 @@ use Rattle.safe_machine.specs.World.{Side}
 use Rattle.end_settings.specs.EndSettings.{EndSettings}
 use Rattle.stack_end.specs.Datagrams.{sent_at_opening}
 use Rattle.stack_end.specs.Ends.{Call, EndState, new_end}
-use Rattle.stack_end.specs.Fields.{BothStand}
-use Rattle.stack_end.specs.Statistics.{none_heard, none_made}
+use Rattle.stack_end.specs.Fields.{LayersRepresent}
+use Rattle.stack_end.specs.Statistics.{no_part_counts, no_made_counts}
 use Rattle.stack_end.specs.Steps.{call}
 use Rattle.stack_end.specs.Turns.{Fields, Inside, Turn, machine_turn, with_red}
 
@@ -26,8 +26,8 @@ empty_fields v =
       t_max = v.t_max;
       accepted = 0;
       departed = None;
-      made = none_made;
-      parts = none_heard;
+      made = no_made_counts;
+      parts = no_part_counts;
     }
 
 -- the machine opens again with its settings: an interlocking sends its ConnReq
@@ -45,11 +45,11 @@ after_calls (c ∷ cs) x = after_calls cs (call c x)
 
 -- an end that keeps this and opens again is as one that is newly opened with these settings on this side, and sends the same datagrams
 pub record IsAgain (side : Side) (s : EndSettings) (first now : ℕ) (v : Inside) : Type 0 where
-  pub stands : BothStand (reopening_turn first now v).left (new_end side s first now)  -- what it keeps is that of a new end
+  pub stands : LayersRepresent (reopening_turn first now v).left (new_end side s first now)  -- what it keeps is that of a new end
   pub sent : (reopening_turn first now v).sent ≡ sent_at_opening (new_end side s first now)  -- what it sends is that of an opening
 
 -- whatever calls an end has made since it was opened: if it opens again, it is as newly opened with the settings of its opening
 abbrev pub AgainLaw : Type 0
 AgainLaw =
-    (side : Side) (s : EndSettings) (first began : ℕ) (calls : List Call) (v : Inside) → BothStand v (after_calls calls (new_end side s first began))
+    (side : Side) (s : EndSettings) (first began : ℕ) (calls : List Call) (v : Inside) → LayersRepresent v (after_calls calls (new_end side s first began))
     → (next now : ℕ) → IsAgain side s next now v

@@ -13,7 +13,7 @@ use Rattle.safe_machine.specs.declared.ConnectionState.TheVariants.{Closed, Down
 use Rattle.end_settings.specs.EndSettings.{EndSettings}
 use Rattle.safe_machine.specs.World.{Side}
 use Rattle.stack_end.specs.Ends.{Deliver, new_end}
-use Rattle.stack_end.specs.Fields.{BothStand}
+use Rattle.stack_end.specs.Fields.{LayersRepresent}
 use Rattle.stack_end.specs.Turns.{Inside, turn}
 
 -- an end in this state of its connection is stale: it is closed, or it is in Down and its redundancy layer has accepted something (begun)
@@ -51,4 +51,4 @@ TakesRequestLaw =
 
 -- what represents a newly opened end is not stale
 abbrev pub FreshLaw : Type 0
-FreshLaw = (side : Side) (settings : EndSettings) (first now : ℕ) (v : Inside) → BothStand v (new_end side settings first now) → is_stale v ≡ false
+FreshLaw = (side : Side) (settings : EndSettings) (first now : ℕ) (v : Inside) → LayersRepresent v (new_end side settings first now) → is_stale v ≡ false

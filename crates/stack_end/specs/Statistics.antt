@@ -21,8 +21,8 @@ abbrev pub one_more : ℕ → ℕ
 one_more n = (n + 1) % 2 ^ 64
 
 -- nothing was made
-abbrev pub none_made : MadeCounts
-none_made = record { units = 0; resent = 0; heartbeats = 0; requests = 0; answers = 0 }
+abbrev pub no_made_counts : MadeCounts
+no_made_counts = record { units = 0; resent = 0; heartbeats = 0; requests = 0; answers = 0 }
 
 -- one PDU of this type more was made; those that open or end a connection are not counted
 abbrev pub with_kind : Kind → MadeCounts → MadeCounts
@@ -50,8 +50,8 @@ abbrev pub with_pdu : List ℕ → MadeCounts → MadeCounts
 with_pdu octets c = with_known (kind_of (number_at 2 octets)) c
 
 -- nothing has gone up
-abbrev pub none_heard : PartCounts
-none_heard =
+abbrev pub no_part_counts : PartCounts
+no_part_counts =
     record {
       taken = 0;
       gaps = 0;
@@ -85,8 +85,8 @@ with_step (step.Left reason detail) waited age c = c
 with_step step.Nothing waited age c = c
 
 -- nothing has come on a channel
-abbrev pub none_received : ReceptionCounts
-none_received =
+abbrev pub no_reception_counts : ReceptionCounts
+no_reception_counts =
     record { received = 0; passed = 0; deferred = 0; old = 0; repeated = 0; far = 0; full = 0; damaged = 0; last = None }
 
 -- an event of the redundancy layer
@@ -114,4 +114,4 @@ with_event (Some e) now c = with_answer e (with_time e now (record c { received 
 abbrev pub count_reception : (channel : ℕ) → Option RedEvent → (now : ℕ) → List ReceptionCounts → List ReceptionCounts
 count_reception channel e now cs =
     if channel == 0 || nat_lt CHANNELS_MAX channel then cs
-    else slice_set cs (channel - 1) (with_event e now (slice_index_or cs (channel - 1) none_received))
+    else slice_set cs (channel - 1) (with_event e now (slice_index_or cs (channel - 1) no_reception_counts))

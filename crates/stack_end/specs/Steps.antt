@@ -8,8 +8,8 @@ use Rattle.safe_machine.specs.View.{kept_of as machine_kept}
 use Rattle.stack_end.specs.Certain.{cap_count}
 use Rattle.stack_end.specs.Dialogue.{session_in}
 use Rattle.stack_end.specs.Ends.{Call, EndState, time_of}
-use Rattle.stack_end.specs.Statistics.{none_heard, none_made, with_made}
-use Rattle.stack_end.specs.Turns.{Fields, Turn, Way, WholeWay, call_by, guards, part as part_turn, parts_by, sends_by, ticks}
+use Rattle.stack_end.specs.Statistics.{no_part_counts, no_made_counts, with_made}
+use Rattle.stack_end.specs.Turns.{Fields, Turn, Way, WholeWay, call_by, guard_turn, part_turn as part_turn, parts_by, send_by, tick_turn}
 
 -- what an end in this state keeps above its redundancy layer; how it was closed, and what it counts of parts, is no part of the state
 abbrev pub kept_of : EndState → Fields
@@ -25,13 +25,13 @@ kept_of x =
       t_max = x.machine.settings.t_max;
       accepted = cap_count (length x.session.history.put);
       departed = None;
-      made = with_made x.machine.made none_made;
-      parts = none_heard;
+      made = with_made x.machine.made no_made_counts;
+      parts = no_part_counts;
     }
 
 -- a history of a session, and then one that begins where it ends
-abbrev pub joined : History → History → History
-joined h k =
+abbrev pub join_histories : History → History → History
+join_histories h k =
     record {
       state = k.state;
       phases = h.phases ++ k.phases;
@@ -43,9 +43,9 @@ joined h k =
     }
 
 -- a history of a session, and then all of these, in order
-abbrev pub continued : History → List History → History
-continued h [] = h
-continued h (k ∷ ks) = continued (joined h k) ks
+abbrev pub add_histories : History → List History → History
+add_histories h [] = h
+add_histories h (k ∷ ks) = add_histories (join_histories h k) ks
 
 -- the state after a turn: what is kept is that of the turn, and what the turn did is appended
 abbrev pub follow : Turn Fields → EndState → EndState
@@ -55,7 +55,7 @@ follow t x =
       red = x.red;
       inputs = x.inputs;
       machine = history t.left.machine (x.machine.made ++ t.made) (x.machine.taken ++ t.units);
-      session = record { history = continued x.session.history t.talks; waiting = t.left.waiting };
+      session = record { history = add_histories x.session.history t.talks; waiting = t.left.waiting };
       request = t.left.request;
       time = x.time;
     }
@@ -65,36 +65,36 @@ abbrev pub step : (Fields → Turn Fields) → EndState → EndState
 step next x = follow (next (kept_of x)) x
 
 -- the timeout check of the machine
-abbrev pub guarded : ℕ → EndState → EndState
-guarded now x = step (guards now) x
+abbrev pub guard_step : ℕ → EndState → EndState
+guard_step now x = step (guard_turn now) x
 
 -- the timers of the machine
-abbrev pub ticked : ℕ → EndState → EndState
-ticked now x = step (ticks now) x
+abbrev pub tick_step : ℕ → EndState → EndState
+tick_step now x = step (tick_turn now) x
 
 -- a part that goes up
-abbrev pub part : ℕ → List ℕ → EndState → EndState
-part now octets x = step (part_turn now octets) x
+abbrev pub part_step : ℕ → List ℕ → EndState → EndState
+part_step now octets x = step (part_turn now octets) x
 
 -- the steps of a state above the redundancy layer
 abbrev pub by_steps : Way EndState EndState
 by_steps = record { kept = kept_of; stays = λ x. x; follows = λ x next. next x; takes = step }
 
 -- the parts that go up, in order
-abbrev pub parts : ℕ → List Part → EndState → EndState
-parts now ps x = parts_by by_steps now ps x
+abbrev pub parts_step : ℕ → List Part → EndState → EndState
+parts_step now ps x = parts_by by_steps now ps x
 
 -- the redundancy layer processes an input, which is recorded
 abbrev pub with_input : Input → EndState → EndState
 with_input i x = record x { red = after i x.red; inputs = x.inputs ++ i ∷ [] }
 
 -- the redundancy layer processes an input, and each part that goes up is processed
-abbrev pub receives : ℕ → Input → EndState → EndState
-receives now i x = parts now (parts_passed i x.red) (with_input i x)
+abbrev pub input_step : ℕ → Input → EndState → EndState
+input_step now i x = parts_step now (parts_passed i x.red) (with_input i x)
 
 -- the steps of a state with all layers
 abbrev pub whole_way : WholeWay EndState EndState
-whole_way = record { way = by_steps; receives = receives; sends = sends_by by_steps }
+whole_way = record { way = by_steps; receives = input_step; sends = send_by by_steps }
 
 -- a call: its steps, and its time becomes that of the end
 abbrev pub call : Call → EndState → EndState

@@ -3,18 +3,18 @@
 
 ghost use Rattle.std.specs.Prelude.{◌≡◌, ◌≤◌, ◌^◌, false, Some, None, OnOk, OnErr, MatchResult};
 ghost use Rattle.octets.specs.declared.limits.TheConstants.{TIME_MAX};
-ghost use Rattle.stack_end.specs.EndValue.{EndTurns, EndTurnsAlone, inside};
+ghost use Rattle.stack_end.specs.EndValue.{EndTakesTurn, EndTakesTurnAlone, inside};
 ghost use Rattle.stack_end.specs.Outstanding.{PutOut};
-ghost use Rattle.stack_end.specs.Hearing.{HasHeard, TakesPart};
+ghost use Rattle.stack_end.specs.Reception.{HasProcessed, TakesPart};
 ghost use Rattle.stack_end.specs.Recent.{DatagramRecent};
 ghost use Rattle.stack_end.specs.Statistics.{count_reception};
-ghost use Rattle.stack_end.specs.Turns.{above, arrives, can_pack, event_of, put_answer, puts};
+ghost use Rattle.stack_end.specs.Turns.{upper_turn, arrival_turn, can_pack, event_of, put_answer, put_turn};
 
 use crate::End;
 use crate::statistics::count_reception;
 use channels::Channels;
 use octets::Milliseconds;
-use pdi_session::{PutFault, Taker};
+use pdi_session::{MessageType, PutFault, Taker};
 use std::alloc::Allocator;
 
 impl<C: Channels, A: Allocator> End<C, A> {
@@ -29,15 +29,15 @@ impl<C: Channels, A: Allocator> End<C, A> {
         requires now { now ≤ TIME_MAX }
         requires later { self.old.time ≤ now }
         // The datagram passes the timeout check, then redundancy layer, safety machine and session; then waiting
-        // messages are sent. State, datagrams and telegrams are those of `arrives`.
-        ensures turns { EndTurns C.told T.takes (arrives now octets.now) self.old taker.old self.new taker.new }
+        // messages are sent. State, datagrams and telegrams are those of `arrival_turn`.
+        ensures turns { EndTakesTurn C.told T.takes (arrival_turn now octets.now) self.old taker.old self.new taker.new }
         // After a datagram, no message waits that the machine could send.
         ensures packs { can_pack (inside self.new).upper ≡ false }
         // Each part that goes up delivers what the session takes of it. If that is anything, the part's confirmed
         // timestamp, as this end reads it, is less than T_max old.
         ensures recent { DatagramRecent T.takes now octets.now (inside self.old) taker.old taker.new }
         // If the end is open and stays so in the timeout check, the redundancy layer has processed the datagram.
-        ensures hears { HasHeard now octets.now (inside self.old) (inside self.new) }
+        ensures hears { HasProcessed now octets.now (inside self.old) (inside self.new) }
         // If exactly one part goes up, the taker gets what the session takes of that part's units.
         ensures passes { TakesPart T.takes now octets.now (inside self.old) taker.old taker.new }
         // The time of the end becomes that of the datagram.
@@ -53,15 +53,15 @@ impl<C: Channels, A: Allocator> End<C, A> {
     /// Does the work of `put`: queues a telegram after all waiting messages, and sends what the peer's window allows.
     pub(crate) fn put_behind(
         &mut self,
-        kind: u16,
+        kind: MessageType,
         payload: &[u8],
         now: Milliseconds,
     ) -> Result<(), PutFault>
         requires now { now ≤ TIME_MAX }
         requires later { self.old.time ≤ now }
         // The telegram is queued last, then waiting messages are sent while the machine may send. State and datagrams
-        // are those of `puts`; nothing is taken.
-        ensures turns { OnOk result (EndTurnsAlone C.told (above (puts kind payload.now now)) self.old self.new) }
+        // are those of `put_turn`; nothing is taken.
+        ensures turns { OnOk result (EndTakesTurnAlone C.told (upper_turn (put_turn kind payload.now now)) self.old self.new) }
         // After the telegram is queued, no message waits that the machine could send.
         ensures packs { OnOk result (can_pack (inside self.new).upper ≡ false) }
         // The messages that waited, and then the new one, are now in newly unconfirmed units or still wait, in this

@@ -4,26 +4,26 @@ ghost use Rattle.std.specs.Prelude.{◌≡◌, ◌≤◌, ◌^◌, ◌↔◌, �
 ghost use Rattle.std.specs.Prelude.{OnOk, OnErr, IfErr, IsErrAnd, MatchResult, if◌then◌else◌};
 ghost use Rattle.std.specs.List.{FoldsTo};
 ghost use Rattle.std.specs.Borrow.{sem};
-ghost use Rattle.channels.specs.Told.{SendsOne};
+ghost use Rattle.channels.specs.ChannelHistory.{SendsOne};
 ghost use Rattle.end_settings.specs.EndSettings.{are_fit};
-ghost use Rattle.end_settings.specs.Configured.{settings_of, side_of};
+ghost use Rattle.end_settings.specs.ConfigValue.{settings_of, side_of};
 ghost use Rattle.stack_end.specs.Ends.{opened_end};
 ghost use Rattle.stack_end.specs.Datagrams.{sent_at_opening};
-ghost use Rattle.stack_end.specs.EndValue.{EndStands, EndTurns, EndTurnsAlone, channels_of, inside, statistics_of};
-ghost use Rattle.stack_end.specs.Turns.{above, arrives, can_pack, closes, completes, init_answer, is_over, event_of, is_settled, passes, put_answer, puts};
+ghost use Rattle.stack_end.specs.EndValue.{EndRepresents, EndTakesTurn, EndTakesTurnAlone, channels_of, inside, statistics_of};
+ghost use Rattle.stack_end.specs.Turns.{upper_turn, arrival_turn, can_pack, close_turn, init_done_turn, init_answer, is_over, event_of, is_settled, time_turn, put_answer, put_turn};
 ghost use Rattle.stack_end.specs.Outstanding.{PutOut};
-ghost use Rattle.stack_end.specs.Hearing.{HasHeard, TakesPart};
+ghost use Rattle.stack_end.specs.Reception.{HasProcessed, TakesPart};
 ghost use Rattle.stack_end.specs.Recent.{DatagramRecent, TickRecent};
 ghost use Rattle.stack_end.specs.Bounds.{IsBounded};
 ghost use Rattle.stack_end.specs.Certain.{confirmed_in};
 ghost use Rattle.stack_end.specs.Stale.{is_stale};
 ghost use Rattle.stack_end.specs.Timely.{margin_of};
 ghost use Rattle.stack_end.specs.Reopening.{reopening_turn};
-ghost use Rattle.stack_end.specs.Statistics.{none_received, count_reception};
+ghost use Rattle.stack_end.specs.Statistics.{no_reception_counts, count_reception};
 ghost use Rattle.octets.specs.declared.limits.TheConstants.{CHANNELS_MAX, TIME_MAX};
 ghost use Rattle.safe_machine.specs.Deadlines.{IsBefore, IsReachedAt};
 ghost use Rattle.stack_end.specs.Deadlines.{HasFallen, IsQuiet, earliest};
-ghost use Rattle.stack_end.specs.Polling.{Asked, AskedOnce, HeardAll, HeardNext, HeardUntilFault, Polled, buffer_size, most_datagrams};
+ghost use Rattle.stack_end.specs.Poll.{RequestsDatagram, RequestsOnce, ProcessesAll, ProcessesNext, ProcessesUntilFault, IsPoll, buffer_size, most_datagrams};
 ghost use Rattle.stack_end.specs.declared.OpenFault.TheVariants.{BadConfig};
 
 use crate::departure::Departure;
@@ -34,7 +34,7 @@ use channels::{ChannelFault, Channels};
 use end_settings::{EndConfig, Side};
 use octets::Milliseconds;
 use octets::limits::CHANNELS_MAX;
-use pdi_session::{InitFault, Phase, PutFault, Taker};
+use pdi_session::{InitFault, MessageType, Phase, PutFault, Taker};
 use safe_machine::ConnectionState;
 use std::alloc::{Allocator, Global};
 use std::cmp::min;
@@ -59,13 +59,13 @@ pub struct End<C, A: Allocator = Global> {
 
 impl<C, A: Allocator> Model for End<C, A> {
     ghost use Rattle.stack_end.specs.EndValue.{EndValue};
-    ghost use Rattle.stack_end.specs.Kept.{IsKept};
+    ghost use Rattle.stack_end.specs.LayerBounds.{KeepsLayerBounds};
 
     ghost Value = { EndValue C A };
 
     ghost view = { λ e. record { layers = e.layers; time = e.time; receptions = e.receptions } };
 
-    ghost invariant = { λ e. IsKept e.layers };
+    ghost invariant = { λ e. KeepsLayerBounds e.layers };
 }
 
 impl<C: Channels, A: Allocator + Copy> End<C, A> {
@@ -96,13 +96,13 @@ impl<C: Channels, A: Allocator + Copy> End<C, A> {
         ensures back { IfErr result (λ e. e.1 ≡ channels) }
         // The new end is in the initial state for its settings, side, first sequence number and time: an
         // interlocking in Start, a field element in Down.
-        ensures stands { IfOk result (λ end. EndStands C.told end (opened_end side config first_sn now)) }
+        ensures stands { IfOk result (λ end. EndRepresents C.told end (opened_end side config first_sn now)) }
         // The ConnReq of an interlocking is sent with redundancy number 0 on every channel in order; a send
         // that fails is counted. A field element sends nothing.
         ensures sent { IfOk result (λ end. FoldsTo SendsOne (C.told channels)
             (sent_at_opening (opened_end side config first_sn now)) (C.told (channels_of end))) }
         // Nothing has come on any channel.
-        ensures received { IfOk result (λ end. end.receptions ≡ replicate CHANNELS_MAX none_received) }
+        ensures received { IfOk result (λ end. end.receptions ≡ replicate CHANNELS_MAX no_reception_counts) }
     {
         match opening::open(alloc, channels, config, side, first_sn, now) {
             Ok(layers) => Ok(End {
@@ -116,7 +116,7 @@ impl<C: Channels, A: Allocator + Copy> End<C, A> {
 }
 
 impl<C: Channels, A: Allocator> End<C, A> {
-    ghost use Rattle.stack_end.specs.Lending.{lends_channels};
+    ghost use Rattle.stack_end.specs.LentChannels.{lends_channels};
 
     /// Processes a received datagram, which may contain any bytes.
     ///
@@ -134,8 +134,8 @@ impl<C: Channels, A: Allocator> End<C, A> {
         // `arrive` checks T_max and the PDU limit, then passes the datagram up: redundancy layer, safety
         // machine and session. It then sends waiting messages. Each PDU goes out on every channel in order, and
         // a send that fails is counted. The new state, the datagrams sent and the telegrams delivered are
-        // exactly those of `arrives`.
-        ensures turns { EndTurns C.told T.takes (arrives now octets.now) self.old taker.old self.new taker.new }
+        // exactly those of `arrival_turn`.
+        ensures turns { EndTakesTurn C.told T.takes (arrival_turn now octets.now) self.old taker.old self.new taker.new }
         // After `arrive`, no message waits that the safety machine could send.
         ensures packs { can_pack (inside self.new).upper ≡ false }
         // The parts that the datagram releases go up one at a time, and the taker receives what the session
@@ -144,7 +144,7 @@ impl<C: Channels, A: Allocator> End<C, A> {
         ensures recent { DatagramRecent T.takes now octets.now (inside self.old) taker.old taker.new }
         // If the end is open, and neither T_max nor the PDU limit closes it first, the redundancy layer
         // processes the datagram, whatever its channel.
-        ensures hears { HasHeard now octets.now (inside self.old) (inside self.new) }
+        ensures hears { HasProcessed now octets.now (inside self.old) (inside self.new) }
         // If the datagram releases exactly one part, the taker receives everything that the session accepts
         // from that part's unit, and nothing else.
         ensures passes { TakesPart T.takes now octets.now (inside self.old) taker.old taker.new }
@@ -165,8 +165,8 @@ impl<C: Channels, A: Allocator> End<C, A> {
         requires later { self.old.time ≤ now }
         // `tick` runs the timers of the safety machine, and unless that closes the end, the timer of the
         // redundancy layer. It then sends waiting messages. The new state, the datagrams sent (or counted as
-        // failed) and the telegrams delivered are exactly those of `passes`.
-        ensures turns { EndTurns C.told T.takes (passes now) self.old taker.old self.new taker.new }
+        // failed) and the telegrams delivered are exactly those of `time_turn`.
+        ensures turns { EndTakesTurn C.told T.takes (time_turn now) self.old taker.old self.new taker.new }
         // After `tick`, no message waits that the safety machine could send.
         ensures packs { can_pack (inside self.new).upper ≡ false }
         // Deferred parts that `tick` releases go up one at a time, and the taker receives what the session
@@ -193,13 +193,18 @@ impl<C: Channels, A: Allocator> End<C, A> {
     /// - `Full` if 64 messages wait;
     /// - `ReservedType` if `kind` is one of the five message types that set up the session;
     /// - `TooLong` if the payload is longer than 357 bytes.
-    pub fn put(&mut self, kind: u16, payload: &[u8], now: Milliseconds) -> Result<(), PutFault>
+    pub fn put(
+        &mut self,
+        kind: MessageType,
+        payload: &[u8],
+        now: Milliseconds,
+    ) -> Result<(), PutFault>
         requires now { now ≤ TIME_MAX }
         requires later { self.old.time ≤ now }
         // An accepted put queues the telegram last and sends waiting messages while the safety machine may
-        // send. The new state and the datagrams sent (or counted as failed) are exactly those of `puts`;
+        // send. The new state and the datagrams sent (or counted as failed) are exactly those of `put_turn`;
         // nothing is delivered to the application.
-        ensures turns { OnOk result (EndTurnsAlone C.told (above (puts kind payload.now now)) self.old self.new) }
+        ensures turns { OnOk result (EndTakesTurnAlone C.told (upper_turn (put_turn kind payload.now now)) self.old self.new) }
         // After an accepted put, no message waits that the safety machine could send.
         ensures packs { OnOk result (can_pack (inside self.new).upper ≡ false) }
         // An accepted put loses no message: those that waited, followed by the new telegram, are now in newly
@@ -234,8 +239,8 @@ impl<C: Channels, A: Allocator> End<C, A> {
         requires later { self.old.time ≤ now }
         // An accepted end of the initialisation queues its telegram last and sends waiting messages while the
         // safety machine may send. The new state and the datagrams sent (or counted as failed) are exactly
-        // those of `completes`; nothing is delivered to the application.
-        ensures turns { OnOk result (EndTurnsAlone C.told (above (completes now)) self.old self.new) }
+        // those of `init_done_turn`; nothing is delivered to the application.
+        ensures turns { OnOk result (EndTakesTurnAlone C.told (upper_turn (init_done_turn now)) self.old self.new) }
         // After an accepted end of the initialisation, no message waits that the safety machine could send.
         ensures packs { OnOk result (can_pack (inside self.new).upper ≡ false) }
         // An accepted end of the initialisation sets the end's time to `now`.
@@ -260,9 +265,9 @@ impl<C: Channels, A: Allocator> End<C, A> {
         requires now { now ≤ TIME_MAX }
         requires later { self.old.time ≤ now }
         // If there is a connection, the end sends a DiscReq with reason 0. Connection and session are then
-        // over. The new state and the datagrams sent (or counted as failed) are exactly those of `closes`;
+        // over. The new state and the datagrams sent (or counted as failed) are exactly those of `close_turn`;
         // nothing is delivered to the application.
-        ensures turns { EndTurnsAlone C.told (above (closes now)) self.old self.new }
+        ensures turns { EndTakesTurnAlone C.told (upper_turn (close_turn now)) self.old self.new }
         // `close` sets the end's time to `now`.
         ensures time { self.new.time ≡ now }
         // `close` counts no datagram.
@@ -280,11 +285,11 @@ impl<C: Channels, A: Allocator> End<C, A> {
         requires later { self.old.time ≤ now }
         // Every layer is as newly opened with the settings that it has. The new state, and the ConnReq sent (or
         // counted as failed), are exactly those of `reopening_turn`; nothing is delivered to the application.
-        ensures turns { EndTurnsAlone C.told (reopening_turn first_sn now) self.old self.new }
+        ensures turns { EndTakesTurnAlone C.told (reopening_turn first_sn now) self.old self.new }
         // `reopen` sets the end's time to `now`.
         ensures time { self.new.time ≡ now }
         // Nothing has come on any channel since.
-        ensures received { self.new.receptions ≡ replicate CHANNELS_MAX none_received }
+        ensures received { self.new.receptions ≡ replicate CHANNELS_MAX no_reception_counts }
     {
         self.layers.reopen(first_sn, now);
         self.receptions = [ReceptionCounts::none(); CHANNELS_MAX];
@@ -306,11 +311,11 @@ impl<C: Channels, A: Allocator> End<C, A> {
         // nothing more has come. Each request offers a buffer of 2,048 bytes, more than the longest datagram
         // (1,258).
         ensures done { OnOk result
-            (Polled C.told T.takes most_datagrams now (self.old, taker.old) (self.new, taker.new)) }
+            (IsPoll C.told T.takes most_datagrams now (self.old, taker.old) (self.new, taker.new)) }
         // A failed poll has processed fewer than 64 datagrams in order, each as a delivery, until a reception
         // failed. It has not ticked.
         ensures failed { OnErr result
-            (HeardUntilFault C.told T.takes most_datagrams now (self.old, taker.old) (self.new, taker.new)) }
+            (ProcessesUntilFault C.told T.takes most_datagrams now (self.old, taker.old) (self.new, taker.new)) }
         // After a successful poll, no message waits that the safety machine could send.
         ensures packs { OnOk result (can_pack (inside self.new).upper ≡ false) }
         // A poll never sets the end's time later than `now`, even if it fails.
@@ -338,10 +343,10 @@ impl<C: Channels, A: Allocator> End<C, A> {
         requires later { self.old.time ≤ now }
         // Up to 64 datagrams have been processed in order, and fewer only if nothing more has come.
         ensures done { OnOk result
-            (HeardAll C.told T.takes most_datagrams now (self.old, taker.old) (self.new, taker.new)) }
+            (ProcessesAll C.told T.takes most_datagrams now (self.old, taker.old) (self.new, taker.new)) }
         // Fewer than 64 datagrams have been processed, in order, before a reception failed.
         ensures failed { OnErr result
-            (HeardUntilFault C.told T.takes most_datagrams now (self.old, taker.old) (self.new, taker.new)) }
+            (ProcessesUntilFault C.told T.takes most_datagrams now (self.old, taker.old) (self.new, taker.new)) }
         // The end's time is not later than `now`.
         ensures time { self.new.time ≤ now }
     {
@@ -368,8 +373,8 @@ impl<C: Channels, A: Allocator> End<C, A> {
         // Either one datagram was received and processed, or nothing had come, or the reception failed and
         // nothing else has changed.
         ensures heard { MatchResult result
-            (λ came. HeardNext C.told T.takes now came (self.old, taker.old) (self.new, taker.new))
-            (λ fault. AskedOnce C.told (Err fault) (self.old, taker.old) (self.new, taker.new)) }
+            (λ came. ProcessesNext C.told T.takes now came (self.old, taker.old) (self.new, taker.new))
+            (λ fault. RequestsOnce C.told (Err fault) (self.old, taker.old) (self.new, taker.new)) }
         // The end's time is at most `now`, whether or not a datagram came.
         ensures time { self.new.time ≤ now }
     {
@@ -387,7 +392,7 @@ impl<C: Channels, A: Allocator> End<C, A> {
     fn ask(&mut self, buffer: &mut [u8]) -> Result<Option<(usize, usize)>, ChannelFault>
         requires { length buffer.old ≡ buffer_size }
         // The channels were asked once with the whole buffer; nothing else of the end has changed.
-        ensures asked { Asked C.told result buffer.new self.old self.new }
+        ensures asked { RequestsDatagram C.told result buffer.new self.old self.new }
         // A received datagram fits the buffer.
         ensures fits { IfOk result (λ came. IfSome came (λ p. p.1 ≤ length buffer.new)) }
     {

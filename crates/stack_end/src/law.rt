@@ -3,7 +3,7 @@
 ghost use Rattle.stack_end.specs.Reopening.{AgainLaw};
 ghost use Rattle.stack_end.specs.Stale.{FreshLaw, TakesRequestLaw};
 ghost use Rattle.stack_end.specs.Timely.{TimelyLaw};
-ghost use Rattle.stack_end.specs.Turned.{AnyChannelLaw, LastLaw, TellsLaw, TurnsLaw};
+ghost use Rattle.stack_end.specs.TurnLaws.{AnyChannelLaw, LastLaw, DeterminesLaw, TurnsLaw};
 
 /// The laws of an end. They hold of anything that an end can keep, and of every state (with the whole history) that
 /// it represents. A call does nothing.
@@ -16,7 +16,7 @@ pub fn end_law()
     ensures any_channel { AnyChannelLaw }
     // From what an end keeps follows whether the state is settled, how many units are unconfirmed, how many telegrams
     // are confirmed, and whether a tick changes the machine.
-    ensures tells { TellsLaw }
+    ensures tells { DeterminesLaw }
     // An accepted telegram is the last of all that were put.
     ensures last { LastLaw }
 {}

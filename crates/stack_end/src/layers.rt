@@ -4,16 +4,16 @@ ghost use Rattle.std.specs.Prelude.{◌≡◌, ◌≤◌, ◌^◌, length, Some,
 ghost use Rattle.octets.specs.declared.limits.TheConstants.{TIME_MAX};
 ghost use Rattle.pdi_session.specs.SessionStep.{init_refusal, put_refusal};
 ghost use Rattle.red_layer.specs.Redundancy.{Datagram, Tick as RedTick};
-ghost use Rattle.stack_end.specs.Fields.{BothDo, BothDoAlone, inside_of};
-ghost use Rattle.stack_end.specs.Kept.{IsKept};
+ghost use Rattle.stack_end.specs.Fields.{LayersTakeTurn, LayersTakeTurnAlone, inside_of};
+ghost use Rattle.stack_end.specs.LayerBounds.{KeepsLayerBounds};
 ghost use Rattle.stack_end.specs.Reopening.{reopening_turn};
-ghost use Rattle.stack_end.specs.Turns.{above, arrives, closes, completes, event_of, goes_on, passes, puts, red_event};
+ghost use Rattle.stack_end.specs.Turns.{upper_turn, arrival_turn, close_turn, init_done_turn, event_of, input_and_send_turn, time_turn, put_turn, red_event};
 
-use crate::telling::{tell_change, tell_opened};
+use crate::notes::{tell_change, tell_opened};
 use crate::upper::UpperLayers;
 use channels::Channels;
 use octets::Milliseconds;
-use pdi_session::{InitFault, PutFault, Taker};
+use pdi_session::{InitFault, MessageType, PutFault, Taker};
 use red_layer::{RedEvent, RedLayer};
 use safe_machine::ConnectionState;
 use std::alloc::{Allocator, Global};
@@ -36,15 +36,15 @@ impl<C: Channels, A: Allocator> Layers<C, A> {
         taker: &mut T,
     ) -> Option<RedEvent>
         requires now { now ≤ TIME_MAX }
-        requires kept { IsKept self.old }
+        requires kept { KeepsLayerBounds self.old }
         // The result is what the redundancy layer did with the datagram, or `None` if the end is closed, or the timeout
         // check closes it.
         ensures event { result ≡ event_of now octets.now (inside_of self.old) }
         // The timeout check comes first, then the datagram goes up, then waiting messages are sent, exactly as in
-        // `arrives`. The channel has no effect.
-        ensures does { BothDo C.told T.takes (arrives now octets.now) self.old taker.old self.new taker.new }
+        // `arrival_turn`. The channel has no effect.
+        ensures does { LayersTakeTurn C.told T.takes (arrival_turn now octets.now) self.old taker.old self.new taker.new }
         // The bounds between the layers hold after a datagram.
-        ensures kept { IsKept self.new }
+        ensures kept { KeepsLayerBounds self.new }
     {
         match self.upper.machine.state() {
             ConnectionState::Closed => None,
@@ -67,14 +67,14 @@ impl<C: Channels, A: Allocator> Layers<C, A> {
         taker: &mut T,
     ) -> Option<RedEvent>
         requires now { now ≤ TIME_MAX }
-        requires kept { IsKept self.old }
+        requires kept { KeepsLayerBounds self.old }
         // The result is what the redundancy layer did with the datagram, or `None` if the end is closed.
         ensures event { result ≡ red_event now octets.now (inside_of self.old) }
         // If the end is open, the redundancy layer takes the datagram, each part that goes up passes the machine and
         // the session, and waiting messages are sent.
-        ensures does { BothDo C.told T.takes (goes_on now (Datagram octets.now now)) self.old taker.old self.new taker.new }
+        ensures does { LayersTakeTurn C.told T.takes (input_and_send_turn now (Datagram octets.now now)) self.old taker.old self.new taker.new }
         // The bounds between the layers hold after the delivery.
-        ensures kept { IsKept self.new }
+        ensures kept { KeepsLayerBounds self.new }
     {
         match self.upper.machine.state() {
             ConnectionState::Closed => None,
@@ -89,12 +89,12 @@ impl<C: Channels, A: Allocator> Layers<C, A> {
     /// Lets time pass: the timers of the machine, and if they leave the end open, that of the redundancy layer.
     pub(crate) fn tick<T: Taker>(&mut self, now: Milliseconds, taker: &mut T)
         requires now { now ≤ TIME_MAX }
-        requires kept { IsKept self.old }
+        requires kept { KeepsLayerBounds self.old }
         // The machine's timers come first. If the end is open then, the T_seq timer follows, with the parts that it
         // releases, and then waiting messages are sent.
-        ensures does { BothDo C.told T.takes (passes now) self.old taker.old self.new taker.new }
+        ensures does { LayersTakeTurn C.told T.takes (time_turn now) self.old taker.old self.new taker.new }
         // The bounds between the layers hold after a tick.
-        ensures kept { IsKept self.new }
+        ensures kept { KeepsLayerBounds self.new }
     {
         match self.upper.machine.state() {
             ConnectionState::Closed => {}
@@ -112,12 +112,12 @@ impl<C: Channels, A: Allocator> Layers<C, A> {
     /// if the end is closed.
     fn wait<T: Taker>(&mut self, now: Milliseconds, taker: &mut T)
         requires now { now ≤ TIME_MAX }
-        requires kept { IsKept self.old }
+        requires kept { KeepsLayerBounds self.old }
         // If the end is open, the redundancy layer tries its timer, each part that it releases goes up, and waiting
         // messages are sent.
-        ensures does { BothDo C.told T.takes (goes_on now (RedTick now)) self.old taker.old self.new taker.new }
+        ensures does { LayersTakeTurn C.told T.takes (input_and_send_turn now (RedTick now)) self.old taker.old self.new taker.new }
         // The bounds between the layers hold after the redundancy layer's timer.
-        ensures kept { IsKept self.new }
+        ensures kept { KeepsLayerBounds self.new }
     {
         match self.upper.machine.state() {
             ConnectionState::Closed => {}
@@ -130,12 +130,12 @@ impl<C: Channels, A: Allocator> Layers<C, A> {
 
     /// Opens all layers again with the settings that they have.
     pub(crate) fn reopen(&mut self, first_sn: u32, now: Milliseconds)
-        requires kept { IsKept self.old }
+        requires kept { KeepsLayerBounds self.old }
         // Each layer is as newly opened with the settings that it has, and an interlocking sends its ConnReq (`reopening_turn`).
         // Nothing is taken.
-        ensures does { BothDoAlone C.told (reopening_turn first_sn now) self.old self.new }
+        ensures does { LayersTakeTurnAlone C.told (reopening_turn first_sn now) self.old self.new }
         // The bounds between the layers hold of layers that were just opened.
-        ensures kept { IsKept self.new }
+        ensures kept { KeepsLayerBounds self.new }
     {
         self.red.reopen();
         self.upper.reopen(first_sn, now);
@@ -146,14 +146,14 @@ impl<C: Channels, A: Allocator> Layers<C, A> {
     /// Queues a command or status, and sends what the peer's window allows.
     pub(crate) fn put(
         &mut self,
-        kind: u16,
+        kind: MessageType,
         payload: &[u8],
         now: Milliseconds,
     ) -> Result<(), PutFault>
-        requires kept { IsKept self.old }
-        // An accepted telegram is queued last and sent while the machine may send, exactly as in `puts`; nothing is
+        requires kept { KeepsLayerBounds self.old }
+        // An accepted telegram is queued last and sent while the machine may send, exactly as in `put_turn`; nothing is
         // taken.
-        ensures does { OnOk result (BothDoAlone C.told (above (puts kind payload.now now)) self.old self.new) }
+        ensures does { OnOk result (LayersTakeTurnAlone C.told (upper_turn (put_turn kind payload.now now)) self.old self.new) }
         // A refused telegram leaves all layers as they were.
         ensures refused { OnErr result (self.new ≡ self.old) }
         // The telegram is accepted if and only if the session, with this many messages waiting, has no refusal for
@@ -163,17 +163,17 @@ impl<C: Channels, A: Allocator> Layers<C, A> {
             (λ fault. put_refusal self.old.upper.session kind payload.now (length self.old.upper.waiting)
             ≡ Some fault) }
         // The bounds between the layers hold after a put, accepted or not.
-        ensures kept { IsKept self.new }
+        ensures kept { KeepsLayerBounds self.new }
     {
         self.upper.put(kind, payload, now)
     }
 
     /// Queues the end of the initialisation after the status that was put, and sends what the peer's window allows.
     pub(crate) fn init_done(&mut self, now: Milliseconds) -> Result<(), InitFault>
-        requires kept { IsKept self.old }
+        requires kept { KeepsLayerBounds self.old }
         // The closing telegram of the initialisation is queued last and sent while the machine may send, exactly as
-        // in `completes`; nothing is taken.
-        ensures does { OnOk result (BothDoAlone C.told (above (completes now)) self.old self.new) }
+        // in `init_done_turn`; nothing is taken.
+        ensures does { OnOk result (LayersTakeTurnAlone C.told (upper_turn (init_done_turn now)) self.old self.new) }
         // A refused end of the initialisation leaves all layers as they were.
         ensures refused { OnErr result (self.new ≡ self.old) }
         // It is accepted if and only if the session, with this many messages waiting, has no refusal for it;
@@ -182,19 +182,19 @@ impl<C: Channels, A: Allocator> Layers<C, A> {
             (λ _. init_refusal self.old.upper.session (length self.old.upper.waiting) ≡ None)
             (λ fault. init_refusal self.old.upper.session (length self.old.upper.waiting) ≡ Some fault) }
         // The bounds between the layers hold after the end of the initialisation, accepted or not.
-        ensures kept { IsKept self.new }
+        ensures kept { KeepsLayerBounds self.new }
     {
         self.upper.init_done(now)
     }
 
     /// Disconnects for the user, and ends the session.
     pub(crate) fn close(&mut self, now: Milliseconds)
-        requires kept { IsKept self.old }
+        requires kept { KeepsLayerBounds self.old }
         // An open end sends its DiscReq with reason 0; the session is over; and the departure is recorded, exactly as
-        // in `closes`. Nothing is taken.
-        ensures does { BothDoAlone C.told (above (closes now)) self.old self.new }
+        // in `close_turn`. Nothing is taken.
+        ensures does { LayersTakeTurnAlone C.told (upper_turn (close_turn now)) self.old self.new }
         // The bounds between the layers hold after a close.
-        ensures kept { IsKept self.new }
+        ensures kept { KeepsLayerBounds self.new }
     {
         let seen = self.upper.seen();
         self.upper.close(now);

@@ -6,13 +6,13 @@
 mod calls;
 mod departure;
 mod end;
-mod judging;
+mod judge;
 mod law;
 mod layers;
+mod notes;
 mod opening;
-mod sending;
+mod sender;
 mod statistics;
-mod telling;
 mod upper;
 
 pub use departure::{Departure, Leaver};

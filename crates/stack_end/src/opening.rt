@@ -2,27 +2,27 @@
 
 ghost use Rattle.std.specs.Prelude.{◌≡◌, ◌≤◌, ◌↔◌, ◌%◌, ◌^◌, false, true, length, IfOk, IfErr, IsErrAnd, OnOk, OnErr};
 ghost use Rattle.octets.specs.declared.limits.TheConstants.{CHANNELS_MAX, WINDOW_MAX};
-ghost use Rattle.safe_machine.specs.Turned.{HasMade};
+ghost use Rattle.safe_machine.specs.TurnLaws.{HasMade};
 ghost use Rattle.safe_machine.specs.View.{StandsFor};
 ghost use Rattle.std.specs.List.{FoldsTo};
-ghost use Rattle.channels.specs.Told.{SendsOne};
+ghost use Rattle.channels.specs.ChannelHistory.{SendsOne};
 ghost use Rattle.end_settings.specs.EndSettings.{are_fit, has_versions, session_of};
-ghost use Rattle.end_settings.specs.Configured.{settings_of, side_of};
+ghost use Rattle.end_settings.specs.ConfigValue.{settings_of, side_of};
 ghost use Rattle.pdi_session.specs.declared.TheConstants.{CHECKSUM_MAX, VERSIONS_MAX};
 ghost use Rattle.pdi_session.specs.Settings.{AreVersions, Field, Interlocking, addressing_of, first_version};
 ghost use Rattle.pdi_session.specs.SessionStep.{new_session as session_opened};
 ghost use Rattle.stack_end.specs.Datagrams.{sent_at_opening};
 ghost use Rattle.stack_end.specs.Ends.{opened_end};
-ghost use Rattle.stack_end.specs.Fields.{BothStand, inside_of};
-ghost use Rattle.stack_end.specs.Kept.{IsKept};
-ghost use Rattle.stack_end.specs.Statistics.{none_made, with_made};
+ghost use Rattle.stack_end.specs.Fields.{LayersRepresent, inside_of};
+ghost use Rattle.stack_end.specs.LayerBounds.{KeepsLayerBounds};
+ghost use Rattle.stack_end.specs.Statistics.{no_made_counts, with_made};
 ghost use Rattle.stack_end.specs.declared.OpenFault.TheVariants.{BadConfig};
 
 use crate::OpenFault;
 use crate::layers::Layers;
-use crate::sending::ToChannels;
+use crate::notes::tell_opened;
+use crate::sender::ToChannels;
 use crate::statistics::{MadeCounts, PartCounts};
-use crate::telling::tell_opened;
 use crate::upper::UpperLayers;
 use arrayvec::ArrayVec;
 use channels::Channels;
@@ -49,13 +49,13 @@ pub(crate) fn open<C: Channels, A: Allocator + Copy>(
     // A refused opening returns the channels as they came.
     ensures back { IfErr result (λ e. e.1 ≡ channels) }
     // The layers are in the state of a newly opened end with these settings, side, first sequence number and time.
-    ensures stands { IfOk result (λ layers. BothStand (inside_of layers) (opened_end side config first_sn now)) }
+    ensures stands { IfOk result (λ layers. LayersRepresent (inside_of layers) (opened_end side config first_sn now)) }
     // The PDUs of the opening are sent from redundancy number 0 on, each on every channel; a field element sends
     // none.
     ensures sent { IfOk result (λ layers. FoldsTo SendsOne (C.told channels)
         (sent_at_opening (opened_end side config first_sn now)) (C.told layers.upper.channels)) }
-    // The new layers meet the bounds that every later call needs (`IsKept`).
-    ensures kept { IfOk result (λ layers. IsKept layers) }
+    // The new layers meet the bounds that every later call needs (`KeepsLayerBounds`).
+    ensures kept { IfOk result (λ layers. KeepsLayerBounds layers) }
 {
     if !config.is_fit(side) {
         return Err((OpenFault::BadConfig, channels));
@@ -121,7 +121,7 @@ fn open_machine<C: Channels, A: Allocator>(
     requires counted { config.now.channels ≤ CHANNELS_MAX }
     requires window { config.now.n_sendmax ≤ WINDOW_MAX }
     requires first { numbers.old ≡ 0 }
-    requires none { made.old ≡ none_made }
+    requires none { made.old ≡ no_made_counts }
     // The machine is in the state of a newly opened one with these settings.
     ensures stands { IfOk result (λ machine. StandsFor machine (opened_end side config.now first_sn now).machine) }
     // If the machine sends units in its present state, it has made the PDU that was last confirmed.
@@ -135,7 +135,7 @@ fn open_machine<C: Channels, A: Allocator>(
     ensures numbered { OnOk result
         (numbers.new ≡ length (opened_end side config.now first_sn now).machine.made % 2 ^ 32) }
     // The PDUs made so far are counted.
-    ensures made { OnOk result (made.new ≡ with_made (opened_end side config.now first_sn now).machine.made none_made) }
+    ensures made { OnOk result (made.new ≡ with_made (opened_end side config.now first_sn now).machine.made no_made_counts) }
     // If the machine cannot be opened, the channels are unchanged.
     ensures nothing { OnErr result (channels.new ≡ channels.old) }
 {

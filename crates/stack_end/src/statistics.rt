@@ -32,7 +32,7 @@ impl MadeCounts {
     /// Returns the counts of an end that has made nothing.
     pub fn none() -> Self
         // Every count is 0.
-        ensures { result ≡ statistics.none_made }
+        ensures { result ≡ statistics.no_made_counts }
     {
         MadeCounts {
             units: 0,
@@ -111,7 +111,7 @@ impl PartCounts {
     /// Returns the counts of an end to which nothing has gone up.
     pub fn none() -> Self
         // Every count and both times are 0.
-        ensures { result ≡ statistics.none_heard }
+        ensures { result ≡ statistics.no_part_counts }
     {
         PartCounts {
             taken: 0,
@@ -203,7 +203,7 @@ impl ReceptionCounts {
     /// Returns the counts of a channel on which nothing has come.
     pub fn none() -> Self
         // Every count is 0, and there is no time.
-        ensures { result ≡ statistics.none_received }
+        ensures { result ≡ statistics.no_reception_counts }
     {
         ReceptionCounts {
             received: 0,

@@ -7,25 +7,25 @@ ghost use Rattle.safe_machine.specs.Properties.{index_step};
 ghost use Rattle.safe_machine.specs.retrans.Units.{octets_of};
 ghost use Rattle.stack_end.specs.Certain.{confirmed_in, items_in_units};
 ghost use Rattle.red_layer.specs.Redundancy.{Datagram, Tick as RedTick, after, judge, parts_passed};
-ghost use Rattle.stack_end.specs.Fields.{Does, DoesAlone, Keeps, fields_of};
+ghost use Rattle.stack_end.specs.Fields.{UpperTakeTurn, UpperTakeTurnAlone, KeepsBounds, fields_of};
 ghost use Rattle.safe_pdu.specs.Places.{safe_seen};
 ghost use Rattle.safe_machine.specs.Octets.{decoded_answer};
-ghost use Rattle.stack_end.specs.Turns.{can_pack, closes, completes, counts, departs, goes_up, guards, hears, judged_at, leaves, notes, packs_once, part, parts, puts, sends};
-ghost use Rattle.stack_end.specs.Turns.{settles, ticks, waited};
+ghost use Rattle.stack_end.specs.Turns.{can_pack, close_turn, init_done_turn, count_turn, departure_turn, up_turn, guard_turn, judge_turn, judge_part, leave_turn, note_request_turn, pack_once_turn, part_turn, parts_turn, put_turn, send_turn};
+ghost use Rattle.stack_end.specs.Turns.{end_session_turn, tick_turn, waiting_time};
 ghost use Rattle.stack_end.specs.Timely.{margin_of};
 ghost use Rattle.stack_end.specs.Reopening.{empty_fields, machine_reopening_turn};
 
 use crate::departure::{Departure, closes, own_departure, part_departure, user_leaves};
-use crate::judging::{JudgedMessages, ToSession};
-use crate::sending::ToChannels;
+use crate::judge::{JudgedMessages, ToSession};
+use crate::notes::{EndMoment, tell_change, tell_event, tell_step};
+use crate::sender::ToChannels;
 use crate::statistics::{MadeCounts, PartCounts};
-use crate::telling::{EndMoment, tell_change, tell_event, tell_step};
 use arrayvec::ArrayVec;
 use channels::Channels;
 use octets::limits::{SAFE_PDU_MAX, UNIT_MESSAGES};
 use octets::{Milliseconds, copy_of};
 use pdi_session::packing::{Unit, Waiting, pack_into};
-use pdi_session::{InitFault, PutFault, Session, Taker, items_in_unit};
+use pdi_session::{InitFault, MessageType, PutFault, Session, Taker, items_in_unit};
 use red_layer::{Numbers, RedEvent, RedLayer, Upward};
 use safe_machine::{ConnectionState, Detail, Machine, Reason, Step};
 use std::alloc::{Allocator, Global};
@@ -86,15 +86,15 @@ impl<C: Channels, A: Allocator> UpperLayers<C, A> {
         requires few { FewWait self.old.session self.old.waiting }
         // The machine processes the part and sends the PDUs that it makes; then the session judges the units
         // delivered, and the taker gets what the session takes.
-        ensures does { Does C.told T.takes (hears now octets.now) self.old taker.old self.new taker.new }
+        ensures does { UpperTakeTurn C.told T.takes (judge_turn now octets.now) self.old taker.old self.new taker.new }
         // The result says why the end has to disconnect because of the unit, if it has to.
-        ensures asks { result.asked ≡ (judged_at now octets.now (fields_of self.old)).leaving }
+        ensures asks { result.asked ≡ (judge_part now octets.now (fields_of self.old)).leaving }
         // The step is the machine's result for the part: closed, timeout check, fault of the PDU or what it did, the
         // first that applies.
         ensures answer { result.step ≡ decoded_answer (safe_seen self.old.machine.settings.rule octets.now) now self.old.machine }
         // Processing a part moves the index of the peer's next PDU by at most 321; the unit size is unchanged, and
         // there is still room for the session's next message.
-        ensures keeps { Keeps index_step self.old self.new }
+        ensures keeps { KeepsBounds index_step self.old self.new }
     {
         let mut out = ToChannels {
             channels: &mut self.channels,
@@ -123,10 +123,10 @@ impl<C: Channels, A: Allocator> UpperLayers<C, A> {
         requires few { FewWait self.old.session self.old.waiting }
         // If the state has changed from Start to Up, the session goes up too, and an interlocking queues its first
         // message; if not, nothing happens.
-        ensures does { DoesAlone C.told (goes_up before) self.old self.new }
+        ensures does { UpperTakeTurnAlone C.told (up_turn before) self.old self.new }
         // Going up changes neither unit size nor the peer's next index, and there is still room for the session's
         // next message.
-        ensures keeps { Keeps 0 self.old self.new }
+        ensures keeps { KeepsBounds 0 self.old self.new }
     {
         match (before, self.machine.state()) {
             (ConnectionState::Start, ConnectionState::Up) => self.session.up(&mut self.waiting),
@@ -139,10 +139,10 @@ impl<C: Channels, A: Allocator> UpperLayers<C, A> {
     fn leave(&mut self, asked: Option<(Reason, Detail)>, now: Milliseconds)
         // With a reason, the machine sends a DiscReq, if there is a connection, and closes; without one, nothing
         // happens.
-        ensures does { DoesAlone C.told (leaves now asked) self.old self.new }
+        ensures does { UpperTakeTurnAlone C.told (leave_turn now asked) self.old self.new }
         // Disconnecting changes neither unit size nor the peer's next index, and there is still room for the
         // session's next message.
-        ensures keeps { Keeps 0 self.old self.new }
+        ensures keeps { KeepsBounds 0 self.old self.new }
     {
         if let Some((reason, detail)) = asked {
             let mut out = ToChannels {
@@ -158,10 +158,10 @@ impl<C: Channels, A: Allocator> UpperLayers<C, A> {
     /// Ends the session if the machine is closed.
     fn settle(&mut self)
         // If the machine is closed, the session is over; if not, nothing happens.
-        ensures does { DoesAlone C.told settles self.old self.new }
+        ensures does { UpperTakeTurnAlone C.told end_session_turn self.old self.new }
         // Ending the session changes neither unit size nor the peer's next index, and there is still room for the
         // session's next message.
-        ensures keeps { Keeps 0 self.old self.new }
+        ensures keeps { KeepsBounds 0 self.old self.new }
     {
         if self.machine.state() == ConnectionState::Closed {
             self.session.end();
@@ -171,10 +171,10 @@ impl<C: Channels, A: Allocator> UpperLayers<C, A> {
     /// Records how the end came to be closed, if that is known.
     fn depart(&mut self, cause: Option<Departure>)
         // A known cause replaces the recorded departure; without a cause, the record stays.
-        ensures does { DoesAlone C.told (departs cause) self.old self.new }
+        ensures does { UpperTakeTurnAlone C.told (departure_turn cause) self.old self.new }
         // Recording a departure changes neither unit size nor the peer's next index, and there is still room for the
         // session's next message.
-        ensures keeps { Keeps 0 self.old self.new }
+        ensures keeps { KeepsBounds 0 self.old self.new }
     {
         if cause.is_some() {
             self.departed = cause;
@@ -184,7 +184,7 @@ impl<C: Channels, A: Allocator> UpperLayers<C, A> {
     /// Returns for how long nothing was confirmed, in milliseconds, or 0 without a connection.
     fn waited(&self, now: Milliseconds) -> Milliseconds
         // The result is the time since the last confirmed timestamp; it is 0 in Down and Closed.
-        ensures { result ≡ waited now (fields_of self.now) }
+        ensures { result ≡ waiting_time now (fields_of self.now) }
     {
         match self.machine.state() {
             ConnectionState::Down | ConnectionState::Closed => 0,
@@ -208,10 +208,10 @@ impl<C: Channels, A: Allocator> UpperLayers<C, A> {
     fn count(&mut self, step: Step, waited: Milliseconds, now: Milliseconds)
         // The part is counted by the machine's step, with the time waited before it and the age of the last confirmed
         // timestamp after it.
-        ensures does { DoesAlone C.told (counts step waited now) self.old self.new }
+        ensures does { UpperTakeTurnAlone C.told (count_turn step waited now) self.old self.new }
         // Counting changes neither unit size nor the peer's next index, and there is still room for the session's next
         // message.
-        ensures keeps { Keeps 0 self.old self.new }
+        ensures keeps { KeepsBounds 0 self.old self.new }
     {
         let age = now.saturating_sub(self.machine.confirmed_time());
         self.parts.count_step(step, waited, age);
@@ -232,10 +232,10 @@ impl<C: Channels, A: Allocator> UpperLayers<C, A> {
         // In this order: the machine processes the part and the session its units; an accepted ConnReq is kept; the
         // session goes up with the connection; the end disconnects if asked. A closed machine ends the session, the
         // departure is recorded, and the part is counted.
-        ensures does { Does C.told T.takes (part now octets.now) self.old taker.old self.new taker.new }
+        ensures does { UpperTakeTurn C.told T.takes (part_turn now octets.now) self.old taker.old self.new taker.new }
         // One part moves the index of the peer's next PDU by at most 321. The unit size is unchanged, and there is
         // still room for the session's next message.
-        ensures keeps { Keeps index_step self.old self.new }
+        ensures keeps { KeepsBounds index_step self.old self.new }
     {
         let before = self.machine.state();
         let waited = self.waited(now);
@@ -265,14 +265,14 @@ impl<C: Channels, A: Allocator> UpperLayers<C, A> {
         requires reach { self.old.machine.expected < 2 ^ 62 }
         requires few { FewWait self.old.session self.old.waiting }
         // The machine processes the part and the session its units. The notes of it change nothing.
-        ensures does { Does C.told T.takes (hears now octets.now) self.old taker.old self.new taker.new }
+        ensures does { UpperTakeTurn C.told T.takes (judge_turn now octets.now) self.old taker.old self.new taker.new }
         // The second result says why the end has to disconnect because of the part's unit, if it has to.
-        ensures asks { result.1 ≡ (judged_at now octets.now (fields_of self.old)).leaving }
+        ensures asks { result.1 ≡ (judge_part now octets.now (fields_of self.old)).leaving }
         // The first result is what the machine did with the part.
         ensures answer { result.0 ≡ decoded_answer (safe_seen self.old.machine.settings.rule octets.now) now self.old.machine }
         // A part that is noted moves the peer's next index by at most 321; the unit size is unchanged, and there is
         // still room for the session's next message.
-        ensures keeps { Keeps index_step self.old self.new }
+        ensures keeps { KeepsBounds index_step self.old self.new }
     {
         let before = self.seen();
         let heard = self.hear(octets, now, taker);
@@ -309,10 +309,10 @@ impl<C: Channels, A: Allocator> UpperLayers<C, A> {
         requires sized { length octets.now ≤ SAFE_PDU_MAX }
         // If the state has changed from Down to Start, these bytes become the `request` of the end; if not, nothing
         // happens.
-        ensures does { DoesAlone C.told (notes before octets.now) self.old self.new }
+        ensures does { UpperTakeTurnAlone C.told (note_request_turn before octets.now) self.old self.new }
         // Keeping a ConnReq changes neither unit size nor the peer's next index, and there is still room for the
         // session's next message.
-        ensures keeps { Keeps 0 self.old self.new }
+        ensures keeps { KeepsBounds 0 self.old self.new }
     {
         match (before, self.machine.state()) {
             (ConnectionState::Down, ConnectionState::Start) => self.request = Some(copy_of(octets)),
@@ -323,7 +323,7 @@ impl<C: Channels, A: Allocator> UpperLayers<C, A> {
     /// Opens these layers again with the settings that they have.
     pub(crate) fn reopen(&mut self, first_sn: u32, now: Milliseconds)
         // Everything is forgotten except the settings, and then the machine opens: an interlocking sends its ConnReq.
-        ensures does { DoesAlone C.told (λ v. machine_reopening_turn first_sn now (empty_fields v)) self.old self.new }
+        ensures does { UpperTakeTurnAlone C.told (λ v. machine_reopening_turn first_sn now (empty_fields v)) self.old self.new }
         // A machine that was just opened expects the peer's first PDU.
         ensures near { self.new.machine.expected ≡ 0 }
         // No message waits, so there is room for the session's first one.
@@ -355,7 +355,7 @@ impl<C: Channels, A: Allocator> UpperLayers<C, A> {
     /// Opens the machine again, and sends the PDU that it makes, if any.
     fn open_machine(&mut self, first_sn: u32, now: Milliseconds)
         // The machine opens with its settings, and the ConnReq of an interlocking is sent.
-        ensures does { DoesAlone C.told (machine_reopening_turn first_sn now) self.old self.new }
+        ensures does { UpperTakeTurnAlone C.told (machine_reopening_turn first_sn now) self.old self.new }
         // The machine expects the peer's first PDU.
         ensures near { self.new.machine.expected ≡ 0 }
     {
@@ -372,10 +372,10 @@ impl<C: Channels, A: Allocator> UpperLayers<C, A> {
     pub(crate) fn guard(&mut self, now: Milliseconds)
         // If T_max or the PDU limit is reached, the end sends a DiscReq, the session is over, and the departure is
         // recorded. If not, nothing happens.
-        ensures does { DoesAlone C.told (guards now) self.old self.new }
+        ensures does { UpperTakeTurnAlone C.told (guard_turn now) self.old self.new }
         // The timeout check changes neither unit size nor the peer's next index, and there is still room for the
         // session's next message.
-        ensures keeps { Keeps 0 self.old self.new }
+        ensures keeps { KeepsBounds 0 self.old self.new }
     {
         let mut out = ToChannels {
             channels: &mut self.channels,
@@ -392,10 +392,10 @@ impl<C: Channels, A: Allocator> UpperLayers<C, A> {
     pub(crate) fn tick(&mut self, now: Milliseconds)
         // The machine's timers run: the timeout check, and if that leaves the end open, the heartbeat. A closed
         // machine ends the session, and the departure is recorded.
-        ensures does { DoesAlone C.told (ticks now) self.old self.new }
+        ensures does { UpperTakeTurnAlone C.told (tick_turn now) self.old self.new }
         // The machine's timers change neither unit size nor the peer's next index, and there is still room for the
         // session's next message.
-        ensures keeps { Keeps 0 self.old self.new }
+        ensures keeps { KeepsBounds 0 self.old self.new }
     {
         let mut out = ToChannels {
             channels: &mut self.channels,
@@ -412,10 +412,10 @@ impl<C: Channels, A: Allocator> UpperLayers<C, A> {
     pub(crate) fn close(&mut self, now: Milliseconds)
         // The end sends a DiscReq with reason 0, if there is a connection, and the session is over. The departure is
         // recorded, unless the end was closed before.
-        ensures does { DoesAlone C.told (closes now) self.old self.new }
+        ensures does { UpperTakeTurnAlone C.told (close_turn now) self.old self.new }
         // Closing changes neither unit size nor the peer's next index, and there is still room for the session's next
         // message.
-        ensures keeps { Keeps 0 self.old self.new }
+        ensures keeps { KeepsBounds 0 self.old self.new }
     {
         let why = user_leaves(self.machine.state());
         self.leave(Some((Reason::ClosedByUser, Detail::Unspecified)), now);
@@ -426,7 +426,7 @@ impl<C: Channels, A: Allocator> UpperLayers<C, A> {
     /// Queues a command or status, and sends what the peer's window allows.
     pub(crate) fn put(
         &mut self,
-        kind: u16,
+        kind: MessageType,
         payload: &[u8],
         now: Milliseconds,
     ) -> Result<(), PutFault>
@@ -434,7 +434,7 @@ impl<C: Channels, A: Allocator> UpperLayers<C, A> {
         requires most { self.old.max ≤ UNIT_MESSAGES }
         // An accepted telegram is queued last and counted. Waiting messages are then packed and sent while the
         // machine may send.
-        ensures does { OnOk result (DoesAlone C.told (puts kind payload.now now) self.old self.new) }
+        ensures does { OnOk result (UpperTakeTurnAlone C.told (put_turn kind payload.now now) self.old self.new) }
         // A refused telegram changes nothing above the redundancy layer.
         ensures refused { OnErr result (self.new ≡ self.old) }
         // The session decides: the telegram is accepted, or the first refusal that applies is returned.
@@ -443,7 +443,7 @@ impl<C: Channels, A: Allocator> UpperLayers<C, A> {
             (λ fault. put_refusal self.old.session kind payload.now (length self.old.waiting) ≡ Some fault) }
         // A put changes neither unit size nor the peer's next index, and there is still room for the session's next
         // message.
-        ensures keeps { Keeps 0 self.old self.new }
+        ensures keeps { KeepsBounds 0 self.old self.new }
     {
         match self.session.put(kind, payload, &mut self.waiting) {
             Ok(()) => {
@@ -488,7 +488,7 @@ impl<C: Channels, A: Allocator> UpperLayers<C, A> {
         requires most { self.old.max ≤ UNIT_MESSAGES }
         // The session completes the initialisation and queues its closing telegram. Waiting messages are then packed
         // and sent while the machine may send.
-        ensures does { OnOk result (DoesAlone C.told (completes now) self.old self.new) }
+        ensures does { OnOk result (UpperTakeTurnAlone C.told (init_done_turn now) self.old self.new) }
         // A refused end of the initialisation changes nothing above the redundancy layer.
         ensures refused { OnErr result (self.new ≡ self.old) }
         // The session decides: the end of the initialisation is accepted, or the first refusal that applies is
@@ -497,7 +497,7 @@ impl<C: Channels, A: Allocator> UpperLayers<C, A> {
             (λ fault. init_refusal self.old.session (length self.old.waiting) ≡ Some fault) }
         // The end of the initialisation changes neither unit size nor the peer's next index, and there is still room
         // for the session's next message.
-        ensures keeps { Keeps 0 self.old self.new }
+        ensures keeps { KeepsBounds 0 self.old self.new }
     {
         let seen = self.seen();
         match self.session.init_done(&mut self.waiting) {
@@ -518,14 +518,14 @@ impl<C: Channels, A: Allocator> UpperLayers<C, A> {
         requires most { self.old.max ≤ UNIT_MESSAGES }
         // If messages wait and the machine may send, one unit of the first of them is sent, and these no longer wait.
         // If not, nothing happens.
-        ensures does { DoesAlone C.told (packs_once now) self.old self.new }
+        ensures does { UpperTakeTurnAlone C.told (pack_once_turn now) self.old self.new }
         // The result is true if and only if a message waited and the machine could send before.
         ensures packs { result ≡ can_pack (fields_of self.old) }
         // After a unit was sent, at least one message less waits; no call makes more wait.
         ensures fewer { length self.new.waiting + (if result then 1 else 0) ≤ length self.old.waiting }
         // Sending a unit changes neither unit size nor the peer's next index, and there is still room for the
         // session's next message.
-        ensures keeps { Keeps 0 self.old self.new }
+        ensures keeps { KeepsBounds 0 self.old self.new }
     {
         if !self.machine.may_send() {
             return false;
@@ -550,10 +550,10 @@ impl<C: Channels, A: Allocator> UpperLayers<C, A> {
         requires most { self.old.max ≤ UNIT_MESSAGES }
         // Units of the first waiting messages are sent, each as large as the settings allow, until none waits or the
         // machine may not send.
-        ensures does { DoesAlone C.told (sends now) self.old self.new }
+        ensures does { UpperTakeTurnAlone C.told (send_turn now) self.old self.new }
         // Sending all units changes neither unit size nor the peer's next index, and there is still room for the
         // session's next message.
-        ensures keeps { Keeps 0 self.old self.new }
+        ensures keeps { KeepsBounds 0 self.old self.new }
     {
         let mut packs = true;
         while packs {
@@ -580,7 +580,7 @@ impl<'a, 'b, C: Channels, A: Allocator, T: Taker> Upward for ToUpper<'a, 'b, C, 
     ghost passes = { λ s p t.
         (t.upper.ghost_name ≡ s.upper.ghost_name) × (t.taker.ghost_name ≡ s.taker.ghost_name) × (t.now ≡ s.now)
         × (t.upper.now.max ≡ s.upper.now.max)
-        × Does C.told T.takes (part s.now p.1) s.upper.now s.taker.now t.upper.now t.taker.now };
+        × UpperTakeTurn C.told T.takes (part_turn s.now p.1) s.upper.now s.taker.now t.upper.now t.taker.now };
 
     // Each part moves the index by at most 321, and may make the session queue a message, for which there must be
     // room.
@@ -612,7 +612,7 @@ impl<C: Channels, A: Allocator> UpperLayers<C, A> {
         ensures layer { red.new ≡ after (Datagram octets.now now) red.old }
         // The parts that go up at the datagram, those that the timer releases first, pass machine and session in
         // order, each one wholly before the next.
-        ensures does { Does C.told T.takes (parts now (parts_passed (Datagram octets.now now) red.old)) self.old taker.old self.new taker.new }
+        ensures does { UpperTakeTurn C.told T.takes (parts_turn now (parts_passed (Datagram octets.now now) red.old)) self.old taker.old self.new taker.new }
         // After the datagram, the index of the peer's next PDU is still at most 321 times the number that the
         // redundancy layer expects.
         ensures reach { self.new.machine.expected ≤ index_step * red.new.expected }
@@ -645,7 +645,7 @@ impl<C: Channels, A: Allocator> UpperLayers<C, A> {
         // as it is.
         ensures layer { red.new ≡ after (RedTick now) red.old }
         // The parts that the timer lets up pass machine and session in order, each one wholly before the next.
-        ensures does { Does C.told T.takes (parts now (parts_passed (RedTick now) red.old)) self.old taker.old self.new taker.new }
+        ensures does { UpperTakeTurn C.told T.takes (parts_turn now (parts_passed (RedTick now) red.old)) self.old taker.old self.new taker.new }
         // After the timer, the index of the peer's next PDU is still at most 321 times the number that the redundancy
         // layer expects.
         ensures reach { self.new.machine.expected ≤ index_step * red.new.expected }

@@ -14,8 +14,8 @@ pub use Rattle.std.specs.List.{AllByRecursion, FoldsTo, list_any, slice_get, sli
 pub use Rattle.std.specs.Prelude.{MatchOption, MatchResult, if◌then◌else◌, is_none, map, nat_le, nat_lt, not, option_map, reverse, ◌&&◌, ◌||◌}
 pub use Rattle.std.specs.Str.{bytes_eq}
 pub use Rattle.byteorder.specs.Endian.{little_bytes}
-pub use Rattle.channels.specs.Told.{Sending, SendsOne, ChannelHistory}
-pub use Rattle.end_settings.specs.Configured.{settings_of, side_of}
+pub use Rattle.channels.specs.ChannelHistory.{SentDatagram, SendsOne, ChannelHistory}
+pub use Rattle.end_settings.specs.ConfigValue.{settings_of, side_of}
 pub use Rattle.end_settings.specs.EndSettings.{EndSettings, are_fit, connection_of, in_limits, is_addressing, is_name, rule_of, session_of}
 pub use Rattle.end_settings.specs.declared.EndConfig.{EndConfig}
 pub use Rattle.md4.specs.declared.TheConstants.{INITIAL_VALUE}
@@ -27,7 +27,7 @@ pub use Rattle.pdi_session.specs.packing.Places.{after as after_read, behind_fir
 pub use Rattle.pdi_session.specs.packing.UnitText.{IsMessage, UnitText, piece, unit_text}
 pub use Rattle.pdi_session.specs.declared.packing.PackFault.{PackFault}
 pub use Rattle.pdi_session.specs.Histories.{History, new_history, ends_by, add_event, add_events, handed_by, is_ended, put_by}
-pub use Rattle.pdi_session.specs.JoinedSessions.{AreInStep, AtFe, AtIl, EndsEarly, Fits, InStepLaw, InTurn, IsNext, IsRunning, Joined, JoinedEvent, MatchingLaw}
+pub use Rattle.pdi_session.specs.JoinedSessions.{AreInStep, AtFe, AtIl, EndsEarly, Fits, InStepLaw, InTurn, IsNext, IsRunning, SessionPair, PairEvent, MatchingLaw}
 pub use Rattle.pdi_session.specs.JoinedSessions.{PhaseLaw, TakesFrontLaw, apply_events, new_sessions}
 pub use Rattle.pdi_session.specs.Laws.{BegunLaw, HasKind, HasMessage, MessageLaw, OverLaw, OwnEarlyLaw, TakenLaw, items_of}
 pub use Rattle.pdi_session.specs.SessionStep.{Arrives, Closes, Event as SessionEvent, InitDone as Completes, Item, Puts, SessionState, Up as GoesUp, added_by}
@@ -62,7 +62,7 @@ pub use Rattle.safe_machine.specs.Moves.{AreFrom, AreSoundMoves, ConnectionsLaw,
 pub use Rattle.safe_machine.specs.Moves.{IsUnitSized, Move, MovesLaw, ReachedLaw, ReachedState, SettingsLaw, StrangersLaw, TextsLaw, WaitsLaw, move, sent_by}
 pub use Rattle.safe_machine.specs.Moves.Move.{Guards, Hears, Leaves, Sends, Ticks}
 pub use Rattle.safe_machine.specs.Octets.{arrive_octets, move_of as heard_as, seen_by}
-pub use Rattle.safe_machine.specs.Reached.{AreRead, FewLaw, FewMade, IsRead}
+pub use Rattle.safe_machine.specs.Invariant.{AreRead, FewLaw, FewMade, IsRead}
 pub use Rattle.safe_machine.specs.Settings.{Settings, is_legal}
 pub use Rattle.safe_machine.specs.State.{State, unconfirmed}
 pub use Rattle.safe_machine.specs.Connections.{is_live as says_goodbye}
@@ -92,22 +92,22 @@ pub use Rattle.pdi_session.specs.telegram.Tele.{Tele}
 pub use Rattle.pdi_session.specs.telegram.TeleText.{tele_text}
 pub use Rattle.pdi_session.specs.declared.telegram.TeleFault.{TeleFault}
 pub use Rattle.stack_end.specs.Datagrams.{on_channels, sendings, sent_at_opening, upper_of}
-pub use Rattle.stack_end.specs.Dialogue.{Dialogue, Judged, Leaving, if_ended, judge_messages, judge_read, judge_units, judge_unpacked, judged_as, judged_none}
+pub use Rattle.stack_end.specs.Dialogue.{Dialogue, Judgement, Leaving, if_ended, judge_messages, judge_read, judge_units, judge_unpacked, judge_as, judge_nothing}
 pub use Rattle.stack_end.specs.Dialogue.{process_event, phase_in, session_in, unless_leaving}
-pub use Rattle.stack_end.specs.EndValue.{EndStands, EndTurns, EndTurnsAlone, EndValue, channels_of, inside}
+pub use Rattle.stack_end.specs.EndValue.{EndRepresents, EndTakesTurn, EndTakesTurnAlone, EndValue, channels_of, inside}
 pub use Rattle.stack_end.proofs.Effects.{answered, did, goes_on, handed_up, heard, leaves, moved, packed, packed_up_to, put_done, put_in as put_into}
 pub use Rattle.stack_end.proofs.Effects.{sends, settle, with_machine, with_session}
-pub use Rattle.stack_end.proofs.Following.{closed-is as closed-step-is, finished-is, guarded-is, may-pack, not-pack, packed-is, part-is, queued-is}
-pub use Rattle.stack_end.proofs.Following.{ticked-is}
+pub use Rattle.stack_end.proofs.TurnSteps.{closed-is as closed-step-is, finished-is, guarded-is, may-pack, not-pack, packed-is, part-is, queued-is}
+pub use Rattle.stack_end.proofs.TurnSteps.{ticked-is}
 pub use Rattle.stack_end.specs.Ends.{Call, EndState, is_settled, is_shut, new_end, time_of}
-pub use Rattle.stack_end.specs.Steps.{call, guarded, kept_of as fields_kept, part, parts, receives, step, ticked, with_input}
+pub use Rattle.stack_end.specs.Steps.{call, guard_step, kept_of as fields_kept, part_step, parts_step, input_step, step, tick_step, with_input}
 pub use Rattle.stack_end.specs.Ends.Call.{Close, Deliver, InitDone, Put, Tick}
-pub use Rattle.stack_end.specs.Fields.{BothStand}
-pub use Rattle.stack_end.specs.Turned.{Grew, Turned}
-pub use Rattle.stack_end.specs.Turns.{Inside, Turn, can_pack, closes, comes_up, finishes, noted, packs, queues, rises, turn}
+pub use Rattle.stack_end.specs.Fields.{LayersRepresent}
+pub use Rattle.stack_end.specs.TurnLaws.{GrowsBy, LeadsByTurn}
+pub use Rattle.stack_end.specs.Turns.{Inside, Turn, can_pack, close_turn, comes_up, finish_turn, request_after, pack_turn, queue_turn, bring_up, turn}
 pub use Rattle.stack_engine.specs.Bounds.{FewFirst, FewFirstLaw, FewMore, FewMoreLaw, IsSmallItem, IsSmallPdu, QueueLaw, most_pdus, most_taken}
 pub use Rattle.stack_engine.specs.Events.{call_of, doing_of, event_of}
-pub use Rattle.stack_engine.specs.Faithful.{AllArrived, AllFaithful, AllThere, Carries, CarriesAll, Crossed, Faithful, FaithfulCall, FaithfulEvent, GuardsHold}
+pub use Rattle.stack_engine.specs.Faithful.{AllArrived, AllFaithful, AllThere, CarriesPdu, CarriesAll, Crossed, Faithful, FaithfulCall, FaithfulEvent, GuardsHold}
 pub use Rattle.stack_engine.specs.Faithful.{IfAllArrived, IfOpen, IsNear, IsNoClose, Match, NothingLost, NothingLostCrossedLaw, NothingLostLaw, OfBoth}
 pub use Rattle.stack_engine.specs.Faithful.{OrderlyLaw, SameRule, UnitsThere, WaitsForWindow}
 pub use Rattle.stack_engine.specs.Freshness.{AllFresh, FreshCall, FreshEvent, Freshness, TakesFresh}
@@ -115,14 +115,14 @@ pub use Rattle.stack_engine.specs.Headline.{AllTakeBeginnings, HeadlineLaw, IsJo
 pub use Rattle.stack_engine.specs.Headline.{next_bound, put_at, taken_at}
 pub use Rattle.stack_engine.specs.Histories.{call_octets}
 pub use Rattle.stack_engine.specs.HistoryPlaces.{AreWithin, IsPlaced, IsWithin, deed_event, deed_in, event_in, events_in, opened_by}
-pub use Rattle.stack_engine.specs.Incarnations.{HasRoom, IncSame, IncStands, IncTurns, PastStands, TakesItem, datagrams_of, inc_refusal, puts_in, sure_items}
+pub use Rattle.stack_engine.specs.Incarnations.{HasRoom, IncarnationStays, IncarnationRepresents, IncarnationTakesTurn, PastRepresents, TakesItem, datagrams_of, inc_refusal, puts_in, sure_items}
 pub use Rattle.stack_engine.specs.Instances.{FreshInstances, HeadlineInstances, Instances, SettledInstances, made_after, confirming_pdu, made_one, one, two}
 pub use Rattle.stack_engine.specs.Joins.{joined_of, joins_in, joins_of, joins_with, join_latest, request_in}
-pub use Rattle.stack_engine.specs.Keeping.{Keeping, has_part, on_first, sure_room, told_of}
-pub use Rattle.stack_engine.specs.LossInstances.{Course, LossInstances, world_of_two, early, fe_with, il_with, lost_course, plain, starting, waiting_course}
-pub use Rattle.stack_engine.specs.Openings.{BeforeStand, IsOfSession, NamesRefusal, PresentStands, SideDoes, SideStands, breaks_with, is_memory, live_in}
+pub use Rattle.stack_engine.specs.Keeper.{KeeperValue, has_part, on_first, sure_room, told_of}
+pub use Rattle.stack_engine.specs.LossInstances.{Course, LossInstances, world_of_two, early, fe_with, il_with, lost_course, plain, not_up, waiting_course}
+pub use Rattle.stack_engine.specs.Openings.{EarlierRepresent, IsOfSession, NamesRefusal, PresentRepresents, SideTakesCall, SideRepresents, breaks_with, is_memory, live_in}
 pub use Rattle.stack_engine.specs.Openings.{rest_of}
-pub use Rattle.stack_engine.specs.PairValue.{Ran, RanBefore, events_of}
+pub use Rattle.stack_engine.specs.PairValue.{RunsTo, RunsToFault, events_of}
 pub use Rattle.stack_engine.specs.Pairs.{Event, InitRefused, JoinedEnd, PutRefused, Refusal, World, call_fe, call_il, call_refusal, change_world, ends_of, apply_event}
 pub use Rattle.stack_engine.specs.Pairs.{has_made, is_untimely, joined_by, last_time, latest, latest_maker, made_of, open_refusal, present, refusal, run}
 pub use Rattle.stack_engine.specs.Pairs.{session_refusal, start, unless_refused, with_joined}
@@ -130,11 +130,11 @@ pub use Rattle.stack_engine.specs.Pairs.Event.{Calls, Open}
 pub use Rattle.stack_engine.specs.Pairs.Refusal.{BadConfig, Clock}
 pub use Rattle.stack_engine.specs.Premise.{AreTyped, AtArrivals, AtCall, AtInput, AtOpened, AtParts, BreaksLaw, Genuine, GenuineCall, GenuineEvent, IsGenuine}
 pub use Rattle.stack_engine.specs.Premise.{IsTyped, breaks_at, breaks_by, is_asked_of, is_live}
-pub use Rattle.stack_engine.specs.Premises.{Arrived, FaithfulInstance, GenuineInstance, OfOpened, Premises}
+pub use Rattle.stack_engine.specs.Premises.{Arrived, FaithfulInstance, GenuineInstance, OfBothOpened, Premises}
 pub use Rattle.stack_engine.specs.Reports.{entry_of, fe_entry, il_entry, incarnations_of, joined_entry, past_of, place_of, present_list}
 pub use Rattle.stack_engine.specs.Settled.{ConfirmedTakenLaw, FeTaken, SettledAt, SettledFe, SettledLaw, WasTaken, found_messages, found_telegram, is_number}
 pub use Rattle.stack_engine.specs.Settled.{items_unconfirmed, items_waiting, messages_in, taken_from_fe, taken_from_il, telegrams_in}
-pub use Rattle.stack_engine.specs.Sides.{FewAt, SidesDo, SidesStand, ends_at}
+pub use Rattle.stack_engine.specs.Sides.{FewAt, SidesTakeEvent, SidesRepresent, ends_at}
 pub use Rattle.stack_engine.specs.TextPlaces.{text_in, texts_in}
 pub use Rattle.stack_engine.specs.Texts.{Shelf}
 pub use Rattle.stack_engine.specs.declared.ApplyFault.{ApplyFault}

@@ -1,6 +1,6 @@
 -- That both tellings of a promise are one.
 pub mod Places
-pub mod Closing
+pub mod Closed
 pub mod Calls
 pub mod Genuines
 pub mod Headlines

@@ -2,3 +2,4 @@
 pub mod Histories
 pub mod Few
 pub mod Lasts
+pub mod Numbers

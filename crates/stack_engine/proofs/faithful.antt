@@ -1,4 +1,4 @@
 -- Faithful lists: machines receive each other's PDUs in order, and nothing is lost.
-pub mod Ordering
+pub mod Order
 pub mod Faithfuls
 pub mod NothingLost

@@ -1,3 +1,3 @@
 -- What one end keeps, call by call, for any input.
-pub mod Speaking
-pub mod Heeding
+pub mod Sent
+pub mod Received

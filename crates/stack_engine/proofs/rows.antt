@@ -6,6 +6,6 @@ pub mod GenuineRow
 pub mod RoughRow
 pub mod FarRow
 pub mod Drops
-pub mod Forged
+pub mod Forgery
 pub mod Instances
 pub mod LossInstances

@@ -9,7 +9,7 @@ use Rattle.safe_machine.specs.World.{Side}
 use Rattle.safe_machine.specs.World.Side.{Il, Fe}
 use Rattle.stack_end.specs.Ends.{EndState, Call, time_of}
 use Rattle.stack_end.specs.Ends.Call.{Tick, Deliver}
-use Rattle.stack_end.specs.Steps.{guarded as end_guarded, ticked, parts, with_input}
+use Rattle.stack_end.specs.Steps.{guard_step as end_guarded, tick_step, parts_step, with_input}
 use Rattle.stack_engine.specs.Pairs.{World, Event, present, refusal, run}
 use Rattle.stack_engine.specs.Pairs.Event.{Calls}
 
@@ -26,7 +26,7 @@ pub record IsCallAt (es : List Event) (w : World) (n : ℕ) (side : Side) (c : C
 
 -- the end after the timeout check of an arrival, or after the machine's tick
 abbrev pub guard_end : Call → EndState → EndState
-guard_end (Tick now) x = ticked now x
+guard_end (Tick now) x = tick_step now x
 guard_end (Deliver channel octets now) x = end_guarded now x
 guard_end _ x = x
 
@@ -43,7 +43,7 @@ pub record GoesUp (c : Call) (x : EndState) (k : ℕ) (p : Part) (y : EndState) 
   pub input : Input  -- the input of the redundancy layer
   pub brings : input_of c ≡ Some input  -- the call brings it
   pub part : slice_get (parts_passed input (guard_end c x).red) k ≡ Some p  -- the part is among those that go up
-  pub meanwhile : parts (time_of c) (take k (parts_passed input (guard_end c x).red)) (with_input input (guard_end c x)) ≡ y  -- the earlier ones lead to y
+  pub meanwhile : parts_step (time_of c) (take k (parts_passed input (guard_end c x).red)) (with_input input (guard_end c x)) ≡ y  -- the earlier ones lead to y
 
 -- a part with this number came to an end
 pub record Came (number : ℕ) (inputs : List Input) : Type 0 where

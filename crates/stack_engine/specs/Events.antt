@@ -1,6 +1,6 @@
 -- The event that an event of the code represents.
 use Rattle.std.specs.Prelude.{ℕ, length}
-use Rattle.end_settings.specs.Configured.{settings_of, side_of}
+use Rattle.end_settings.specs.ConfigValue.{settings_of, side_of}
 use Rattle.stack_end.specs.Ends.{Call}
 use Rattle.stack_end.specs.Ends.Call.{Close, Put, InitDone, Tick, Deliver}
 use Rattle.stack_engine.specs.Pairs.{Event}

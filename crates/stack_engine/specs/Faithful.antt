@@ -27,13 +27,13 @@ use Rattle.stack_engine.specs.Headline.{put_at, taken_at}
 use Rattle.stack_engine.specs.Settled.{items_waiting}
 
 -- a part with number k is the peer's PDU with index k
-abbrev pub Carries : Option EndState → Part → Type 0
-Carries None p = ⊥
-Carries (Some peer) p = (m : Made) × (later : List Made) × (drop p.0 peer.machine.made ≡ m ∷ later) × (p.1 ≡ upper_of (rule_of peer.settings) m)
+abbrev pub CarriesPdu : Option EndState → Part → Type 0
+CarriesPdu None p = ⊥
+CarriesPdu (Some peer) p = (m : Made) × (later : List Made) × (drop p.0 peer.machine.made ≡ m ∷ later) × (p.1 ≡ upper_of (rule_of peer.settings) m)
 
 -- this of the part that a call brings
 abbrev pub CarriesAll : Option EndState → Call → Type 0
-CarriesAll peer (Deliver channel octets now) = AllByRecursion (Carries peer) (arrivals_of (Datagram octets now))
+CarriesAll peer (Deliver channel octets now) = AllByRecursion (CarriesPdu peer) (arrivals_of (Datagram octets now))
 CarriesAll peer _ = Unit {0}
 
 -- no timeout check disconnects: neither the first of a call nor that of a part
@@ -145,8 +145,8 @@ abbrev pub FeUp : EndState → EndState → Type 0
 FeUp il fe = Match il fe → fe.machine.connection ≡ IsUp
 
 -- with matching settings, if no message waits at either, both are in step
-abbrev pub Steps : EndState → EndState → Type 0
-Steps il fe = Match il fe → il.session.waiting ≡ [] → fe.session.waiting ≡ [] → InStep il fe
+abbrev pub StayInStep : EndState → EndState → Type 0
+StayInStep il fe = Match il fe → il.session.waiting ≡ [] → fe.session.waiting ≡ [] → InStep il fe
 
 -- what holds if every PDU has arrived
 pub record AllThere (il fe : EndState) : Type 0 where
@@ -158,7 +158,7 @@ pub record AllThere (il fe : EndState) : Type 0 where
   pub status : StatusThere il fe  -- status put was taken or waits
   pub il_up : IlUp il fe  -- the interlocking is Up, if the settings match
   pub fe_up : FeUp il fe  -- the field element is Up, if the settings match
-  pub in_step : Steps il fe  -- both are in step, if no message waits
+  pub in_step : StayInStep il fe  -- both are in step, if no message waits
 
 -- if every PDU has arrived at each open end, all this holds; a closed end ignores what comes, so nothing is asked of it
 abbrev pub IfAllArrived : EndState → EndState → Type 0

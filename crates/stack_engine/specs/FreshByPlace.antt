@@ -8,7 +8,7 @@ use Rattle.safe_machine.specs.Made.{Made}
 use Rattle.safe_machine.specs.World.{Side}
 use Rattle.end_settings.specs.EndSettings.{rule_of}
 use Rattle.stack_end.specs.Ends.{EndState, Call, time_of}
-use Rattle.stack_end.specs.Steps.{part}
+use Rattle.stack_end.specs.Steps.{part_step}
 use Rattle.stack_engine.specs.Pairs.{World, Event, start, run, present, made_of}
 use Rattle.stack_engine.specs.Premise.{AreTyped}
 use Rattle.stack_engine.specs.PremiseByPlace.{GenuineByPlace}
@@ -35,7 +35,7 @@ pub record IsFreshAt (now : ℕ) (peer : List Made) (octets : List ℕ) (y : End
 abbrev pub FreshByPlace : List Event → World → Type 0
 FreshByPlace es w =
     (n k : ℕ) (side : Side) (c : Call) (p : Part) (x y : EndState) → IsCallAt es w n side c x → GoesUp c x k p y →
-    (part (time_of c) p.1 y).session.history.taken ≢ y.session.history.taken →
+    (part_step (time_of c) p.1 y).session.history.taken ≢ y.session.history.taken →
     IsFreshAt (time_of c) (made_of (present (other side) (run (take n es) w))) p.1 y
 
 -- freshness, second form, holds over every list of events that is genuine by place

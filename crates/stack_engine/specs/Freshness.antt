@@ -7,7 +7,7 @@ use Rattle.safe_machine.specs.Law.{Fresh}
 use Rattle.safe_machine.specs.World.Side.{Il, Fe}
 use Rattle.end_settings.specs.EndSettings.{rule_of}
 use Rattle.stack_end.specs.Ends.{EndState, Call, time_of}
-use Rattle.stack_end.specs.Steps.{part}
+use Rattle.stack_end.specs.Steps.{part_step}
 use Rattle.stack_engine.specs.Pairs.{World, Event, start, present, made_of, refusal, apply_event}
 use Rattle.stack_engine.specs.Pairs.Event.{Calls}
 use Rattle.stack_engine.specs.Premise.{AtCall, AtOpened, Genuine, AreTyped}
@@ -16,7 +16,7 @@ use Rattle.stack_engine.specs.Headline.{taken_at}
 -- if something is taken from a part, the part is a PDU that the peer made, and it is fresh
 abbrev pub TakesFresh : ℕ → List Made → EndState → List ℕ → Type 0
 TakesFresh now peer x octets =
-    taken_at (part now octets x) ≢ taken_at x → (p : Pdu) × (safe_seen (rule_of x.settings) octets ≡ Ok p) × Fresh x.machine p now peer
+    taken_at (part_step now octets x) ≢ taken_at x → (p : Pdu) × (safe_seen (rule_of x.settings) octets ≡ Ok p) × Fresh x.machine p now peer
 
 -- this of each part that goes up in a call
 abbrev pub FreshCall : List Made → Call → EndState → Type 0

@@ -2,7 +2,7 @@
 use Rattle.std.specs.Prelude.{ℕ, ◌<◌, Option, Some, None, List, map, slice_get}
 use Rattle.std.specs.List.{AllByRecursion}
 use Rattle.safe_machine.specs.World.{Side}
-use Rattle.end_settings.specs.Configured.{settings_of, side_of}
+use Rattle.end_settings.specs.ConfigValue.{settings_of, side_of}
 use Rattle.end_settings.specs.declared.EndConfig.{EndConfig}
 use Rattle.stack_end.specs.Ends.Call.{Close, Put, InitDone, Tick, Deliver}
 use Rattle.stack_engine.specs.Pairs.{Event}

@@ -6,17 +6,17 @@ use Rattle.red_layer.specs.pdu.RedText.{red_text}
 use Rattle.safe_machine.specs.Made.{Made}
 use Rattle.pdi_session.specs.SessionStep.{Item}
 use Rattle.end_settings.specs.EndSettings.{EndSettings, rule_of}
-use Rattle.end_settings.specs.Configured.{settings_of}
+use Rattle.end_settings.specs.ConfigValue.{settings_of}
 use Rattle.stack_end.specs.Datagrams.{upper_of}
 use Rattle.stack_end.specs.Ends.{EndState, Call, time_of}
 use Rattle.stack_end.specs.Ends.Call.{InitDone, Put}
 use Rattle.stack_end.specs.Steps.{call}
-use Rattle.stack_end.specs.EndValue.{EndStands, EndTurns, channels_of, inside}
+use Rattle.stack_end.specs.EndValue.{EndRepresents, EndTakesTurn, channels_of, inside}
 use Rattle.stack_end.specs.Turns.{init_answer, put_answer, turn}
 use Rattle.stack_engine.specs.declared.incarnation.Incarnation.{Incarnation}
 use Rattle.stack_engine.specs.declared.past.Past.{Past}
 use Rattle.stack_engine.specs.Bounds.{FewMore, most_pdus, most_taken}
-use Rattle.stack_engine.specs.Keeping.{told_of, sure_room}
+use Rattle.stack_engine.specs.Keeper.{told_of, sure_room}
 use Rattle.stack_engine.specs.Texts.{Shelf}
 use Rattle.stack_engine.specs.Events.{put_size}
 use Rattle.stack_engine.specs.Pairs.{InitRefused, PutRefused, Refusal}
@@ -36,15 +36,15 @@ abbrev pub TakesItem : Shelf ℕ → Item → Shelf ℕ → Type 0
 TakesItem s item t = length item.1 ≤ PAYLOAD_MAX → 1 ≤ sure_items s → (t.texts ≡ s.texts ++ item ∷ []) × (sure_items s ≤ sure_items t + 1)
 
 -- the incarnation represents the state: its end does, and all that was made, put and taken is kept
-pub record IncStands {A : Type 0} (i : Incarnation A) (x : EndState) : Type 0 where
-  pub end : EndStands told_of i.end x  -- the end represents the state
+pub record IncarnationRepresents {A : Type 0} (i : Incarnation A) (x : EndState) : Type 0 where
+  pub end : EndRepresents told_of i.end x  -- the end represents the state
   pub config : settings_of i.config ≡ x.settings  -- it was opened with the settings of the state
   pub kept : (channels_of i.end).datagrams ≡ datagrams_of x.settings 0 x.machine.made  -- the kept datagrams are those of all PDUs made
   pub put : i.put.texts ≡ x.session.history.put  -- the telegrams put
   pub taken : i.taken.texts ≡ x.session.history.taken  -- the telegrams taken
 
 -- what is kept of an earlier incarnation represents the state: all that was made, put and taken is kept
-pub record PastStands {A : Type 0} (p : Past A) (x : EndState) : Type 0 where
+pub record PastRepresents {A : Type 0} (p : Past A) (x : EndState) : Type 0 where
   pub kept : p.keeper.datagrams ≡ datagrams_of x.settings 0 x.machine.made  -- the kept datagrams are those of all PDUs made
   pub put : p.put.texts ≡ x.session.history.put  -- the telegrams put
   pub taken : p.taken.texts ≡ x.session.history.taken  -- the telegrams taken
@@ -69,19 +69,19 @@ inc_refusal (InitDone now) i = option_map InitRefused (init_answer (inside i.end
 inc_refusal _ i = None
 
 -- the end took the turn of the call, and its telegrams are kept
-pub record IncTurns {A : Type 0} (c : Call) (i j : Incarnation A) : Type 0 where
-  pub end : EndTurns told_of TakesItem (turn c) i.end i.taken j.end j.taken  -- the turn, with the telegrams that it delivers
+pub record IncarnationTakesTurn {A : Type 0} (c : Call) (i j : Incarnation A) : Type 0 where
+  pub end : EndTakesTurn told_of TakesItem (turn c) i.end i.taken j.end j.taken  -- the turn, with the telegrams that it delivers
   pub time : j.end.time ≡ time_of c  -- the end has the time of the call
   pub put : j.put.texts ≡ i.put.texts ++ puts_in c  -- a telegram that was put is added
   pub config : j.config ≡ i.config  -- the settings are unchanged
 
 -- a refused call leaves everything that represents the state
-pub record IncSame {A : Type 0} (i j : Incarnation A) : Type 0 where
+pub record IncarnationStays {A : Type 0} (i j : Incarnation A) : Type 0 where
   pub end : j.end ≡ i.end  -- the end
   pub put : j.put ≡ i.put  -- the telegrams put
   pub taken : j.taken ≡ i.taken  -- the telegrams taken
   pub config : j.config ≡ i.config  -- the settings
 
 -- of each state that it represented it now represents the one after the call, if that makes no more than the bounds allow
-abbrev pub IncDoes : {A : Type 0} → Call → Incarnation A → Incarnation A → Type 0
-IncDoes c i j = (x : EndState) → IncStands i x → FewMore x (call c x) → IncStands j (call c x)
+abbrev pub IncarnationTakesCall : {A : Type 0} → Call → Incarnation A → Incarnation A → Type 0
+IncarnationTakesCall c i j = (x : EndState) → IncarnationRepresents i x → FewMore x (call c x) → IncarnationRepresents j (call c x)

@@ -17,10 +17,11 @@ pub mod TextPlaces
 pub mod Events
 pub mod Histories
 pub mod HistoryPlaces
-pub mod Keeping
+pub mod Keeper
+pub mod Numbered
 pub mod Bounds
 pub mod Incarnations
-pub mod Noted
+pub mod NoteValues
 pub mod Openings
 pub mod Sides
 pub mod Joins

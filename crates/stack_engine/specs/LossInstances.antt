@@ -9,7 +9,7 @@ use Rattle.pdi_session.specs.declared.Phase.TheVariants.{Initialising, Establish
 use Rattle.pdi_session.specs.SessionStep.{Item}
 use Rattle.stack_end.specs.Ends.{EndState}
 use Rattle.stack_engine.specs.Pairs.{World}
-use Rattle.stack_engine.specs.Faithful.{Match, AllThere, NothingLost, IlWaits, FeWaits, CommandsThere, StatusThere, IlUp, FeUp, Steps}
+use Rattle.stack_engine.specs.Faithful.{Match, AllThere, NothingLost, IlWaits, FeWaits, CommandsThere, StatusThere, IlUp, FeUp, StayInStep}
 use Rattle.stack_engine.specs.Instances.{joined_to, one, world_of}
 
 -- an end with this identifier and name, and those of its peer: the two ends of a connection match
@@ -71,8 +71,8 @@ abbrev pub lost_course : Course
 lost_course = record plain { put = one ∷ [] }
 
 -- the connection is not Up
-abbrev pub starting : Course
-starting = record plain { connection = Start }
+abbrev pub not_up : Course
+not_up = record plain { connection = Start }
 
 -- the session is still Initialising
 abbrev pub early : Course
@@ -87,8 +87,8 @@ abbrev pub requesting_end : Made → EndState → EndState
 requesting_end m x = record x { machine = record x.machine { made = record m { pdu = record m.pdu { kind = RetrReq } } ∷ [] } }
 
 -- two ends at which nothing lost is false, while these six clauses of it hold
-abbrev pub OnlyFails : (A B C D E F : EndState → EndState → Type 0) → (il fe : EndState) → Type 0
-OnlyFails A B C D E F il fe = (NothingLost (world_of_two il fe) → ⊥) × A il fe × B il fe × C il fe × D il fe × E il fe × F il fe
+abbrev pub FailsOnlyBy : (A B C D E F : EndState → EndState → Type 0) → (il fe : EndState) → Type 0
+FailsOnlyBy A B C D E F il fe = (NothingLost (world_of_two il fe) → ⊥) × A il fe × B il fe × C il fe × D il fe × E il fe × F il fe
 
 -- one world for each clause
 pub record LossInstances (x : EndState) (m : Made) : Type 0 where
@@ -101,18 +101,18 @@ pub record LossInstances (x : EndState) (m : Made) : Type 0 where
   -- the field element requested a retransmission
   pub fe_asks : NothingLost (world_of [] (joined_to (Some 1) (requesting_end m x) ∷ [])) → ⊥
   -- a message waits at the interlocking while its window is open
-  pub il_waits : OnlyFails FeWaits CommandsThere StatusThere IlUp FeUp Steps (il_with waiting_course x) (fe_with plain x)
+  pub il_waits : FailsOnlyBy FeWaits CommandsThere StatusThere IlUp FeUp StayInStep (il_with waiting_course x) (fe_with plain x)
   -- a message waits at the field element while its window is open
-  pub fe_waits : OnlyFails IlWaits CommandsThere StatusThere IlUp FeUp Steps (il_with plain x) (fe_with waiting_course x)
+  pub fe_waits : FailsOnlyBy IlWaits CommandsThere StatusThere IlUp FeUp StayInStep (il_with plain x) (fe_with waiting_course x)
   -- a command is lost
-  pub commands : OnlyFails IlWaits FeWaits StatusThere IlUp FeUp Steps (il_with lost_course x) (fe_with plain x)
+  pub commands : FailsOnlyBy IlWaits FeWaits StatusThere IlUp FeUp StayInStep (il_with lost_course x) (fe_with plain x)
   -- a status is lost
-  pub status : OnlyFails IlWaits FeWaits CommandsThere IlUp FeUp Steps (il_with plain x) (fe_with lost_course x)
+  pub status : FailsOnlyBy IlWaits FeWaits CommandsThere IlUp FeUp StayInStep (il_with plain x) (fe_with lost_course x)
   -- the interlocking is not Up
-  pub il_starts : OnlyFails IlWaits FeWaits CommandsThere StatusThere FeUp Steps (il_with starting x) (fe_with plain x)
+  pub il_starts : FailsOnlyBy IlWaits FeWaits CommandsThere StatusThere FeUp StayInStep (il_with not_up x) (fe_with plain x)
   -- the field element is not Up
-  pub fe_starts : OnlyFails IlWaits FeWaits CommandsThere StatusThere IlUp Steps (il_with plain x) (fe_with starting x)
+  pub fe_starts : FailsOnlyBy IlWaits FeWaits CommandsThere StatusThere IlUp StayInStep (il_with plain x) (fe_with not_up x)
   -- the interlocking is Initialising, the field element Established
-  pub il_early : OnlyFails IlWaits FeWaits CommandsThere StatusThere IlUp FeUp (il_with early x) (fe_with plain x)
+  pub il_early : FailsOnlyBy IlWaits FeWaits CommandsThere StatusThere IlUp FeUp (il_with early x) (fe_with plain x)
   -- the field element is Initialising, the interlocking Established
-  pub fe_early : OnlyFails IlWaits FeWaits CommandsThere StatusThere IlUp FeUp (il_with plain x) (fe_with early x)
+  pub fe_early : FailsOnlyBy IlWaits FeWaits CommandsThere StatusThere IlUp FeUp (il_with plain x) (fe_with early x)

@@ -6,31 +6,31 @@ use Rattle.stack_end.specs.Ends.{EndState, Call, is_shut}
 use Rattle.stack_end.specs.Steps.{call}
 use Rattle.std.specs.Borrow.{Bor}
 use Rattle.octets.specs.declared.limits.TheConstants.{TIME_MAX}
-use Rattle.stack_end.specs.EndValue.{EndValue, EndStands, channels_of}
-use Rattle.stack_engine.specs.Keeping.{Keeping, told_of}
+use Rattle.stack_end.specs.EndValue.{EndValue, EndRepresents, channels_of}
+use Rattle.stack_engine.specs.Keeper.{KeeperValue, told_of}
 use Rattle.stack_engine.specs.declared.ApplyFault.{ApplyFault}
 use Rattle.stack_engine.specs.declared.ApplyFault.TheVariants as fault
 use Rattle.stack_engine.specs.declared.incarnation.Incarnation.{Incarnation}
 use Rattle.stack_engine.specs.declared.openings.Openings.{Openings}
 use Rattle.stack_engine.specs.declared.past.Past.{Past}
 use Rattle.stack_engine.specs.Bounds.{FewMore}
-use Rattle.stack_engine.specs.Incarnations.{IncStands, PastStands, datagrams_of}
+use Rattle.stack_engine.specs.Incarnations.{IncarnationRepresents, PastRepresents, datagrams_of}
 use Rattle.stack_engine.specs.Pairs.{Refusal, EndNotOpen, BadConfig, Clock, PutRefused, InitRefused, has_made, latest, call_il}
 use Rattle.stack_engine.specs.Premise.{AtOpened, is_asked_of}
 
 -- the present incarnation represents the latest state
-abbrev pub PresentStands : {A : Type 0} → Option (Incarnation A) → List EndState → Type 0
-PresentStands None [] = Unit {0}
-PresentStands None (x ∷ before) = ⊥
-PresentStands (Some i) [] = ⊥
-PresentStands (Some i) (x ∷ before) = IncStands i x
+abbrev pub PresentRepresents : {A : Type 0} → Option (Incarnation A) → List EndState → Type 0
+PresentRepresents None [] = Unit {0}
+PresentRepresents None (x ∷ before) = ⊥
+PresentRepresents (Some i) [] = ⊥
+PresentRepresents (Some i) (x ∷ before) = IncarnationRepresents i x
 
 -- the earlier incarnations represent the earlier states, the latest first
-abbrev pub BeforeStand : {A : Type 0} → List (Past A) → List EndState → Type 0
-BeforeStand [] [] = Unit {0}
-BeforeStand [] (x ∷ xs) = ⊥
-BeforeStand (p ∷ ps) [] = ⊥
-BeforeStand (p ∷ ps) (x ∷ xs) = PastStands p x × BeforeStand ps xs
+abbrev pub EarlierRepresent : {A : Type 0} → List (Past A) → List EndState → Type 0
+EarlierRepresent [] [] = Unit {0}
+EarlierRepresent [] (x ∷ xs) = ⊥
+EarlierRepresent (p ∷ ps) [] = ⊥
+EarlierRepresent (p ∷ ps) (x ∷ xs) = PastRepresents p x × EarlierRepresent ps xs
 
 -- all states but the latest
 abbrev pub rest_of : List EndState → List EndState
@@ -38,13 +38,13 @@ rest_of [] = []
 rest_of (x ∷ before) = before
 
 -- the incarnations represent the states of an end
-pub record SideStands {A : Type 0} (o : Openings A) (xs : List EndState) : Type 0 where
-  pub present : PresentStands o.present xs  -- the present one
-  pub before : BeforeStand (reverse o.before.items) (rest_of xs)  -- the earlier ones
+pub record SideRepresents {A : Type 0} (o : Openings A) (xs : List EndState) : Type 0 where
+  pub present : PresentRepresents o.present xs  -- the present one
+  pub before : EarlierRepresent (reverse o.before.items) (rest_of xs)  -- the earlier ones
 
 -- of all states that they represented they now represent those after the call, if that makes no more than the bounds allow
-abbrev pub SideDoes : {A : Type 0} → Call → Openings A → Openings A → Type 0
-SideDoes c o p = (xs : List EndState) → SideStands o xs → AtOpened (λ x. FewMore x (call c x)) (latest xs) → SideStands p (call_il c xs)
+abbrev pub SideTakesCall : {A : Type 0} → Call → Openings A → Openings A → Type 0
+SideTakesCall c o p = (xs : List EndState) → SideRepresents o xs → AtOpened (λ x. FewMore x (call c x)) (latest xs) → SideRepresents p (call_il c xs)
 
 -- a refusal by the session, or no refusal: memory is allocated before the session decides
 abbrev pub IsOfSession : Option Refusal → Type 0
@@ -82,13 +82,13 @@ breaks_with None peer dead part = false
 breaks_with (Some x) peer dead part = (not (is_shut x) && is_asked_of x part) && not (live_in (code_octets (rule_of x.settings).length) peer dead part)
 
 -- an end that represents the state, if there is one
-abbrev pub IsEnd : {A : Type 0} → Option (Bor (EndValue Keeping A)) → Option EndState → Type 0
+abbrev pub IsEnd : {A : Type 0} → Option (Bor (EndValue KeeperValue A)) → Option EndState → Type 0
 IsEnd None None = Unit {0}
 IsEnd None (Some x) = ⊥
 IsEnd (Some e) None = ⊥
-IsEnd (Some e) (Some x) = EndStands told_of e.now x
+IsEnd (Some e) (Some x) = EndRepresents told_of e.now x
 
 -- its channels keep the datagrams of all PDUs that the end made, in order, the first under number 0
-abbrev pub KeepsMade : {A : Type 0} → Option (Bor (EndValue Keeping A)) → Option EndState → Type 0
+abbrev pub KeepsMade : {A : Type 0} → Option (Bor (EndValue KeeperValue A)) → Option EndState → Type 0
 KeepsMade (Some e) (Some x) = (channels_of e.now).datagrams ≡ datagrams_of x.settings 0 x.machine.made
 KeepsMade _ _ = Unit {0}

@@ -13,7 +13,7 @@ use Rattle.safe_machine.specs.World.Side.{Il, Fe}
 use Rattle.end_settings.specs.EndSettings.{rule_of}
 use Rattle.stack_end.specs.Ends.{EndState, is_shut, Call}
 use Rattle.stack_end.specs.Ends.Call.{Put, Tick, Deliver}
-use Rattle.stack_end.specs.Steps.{guarded, ticked, part, with_input}
+use Rattle.stack_end.specs.Steps.{guard_step, tick_step, part_step, with_input}
 use Rattle.stack_engine.specs.Pairs.{World, Event, present, has_made, refusal, apply_event}
 use Rattle.stack_engine.specs.Pairs.Event.{Calls}
 
@@ -40,7 +40,7 @@ AtArrivals P _ x = Unit {0}
 -- P holds of each part when it goes up, of the state that the earlier ones left
 abbrev pub AtParts : (EndState → List ℕ → Type 0) → ℕ → List Part → EndState → Type 0
 AtParts P now [] x = Unit {0}
-AtParts P now (p ∷ ps) x = P x p.1 × AtParts P now ps (part now p.1 x)
+AtParts P now (p ∷ ps) x = P x p.1 × AtParts P now ps (part_step now p.1 x)
 
 -- P holds of each part that goes up at an input of an open end
 abbrev pub AtInput : (EndState → List ℕ → Type 0) → ℕ → Input → EndState → Type 0
@@ -48,8 +48,8 @@ AtInput P now i x = is_shut x ≡ false → AtParts P now (parts_passed i x.red)
 
 -- P holds of each part that goes up in a call, after the timeout check or the machine's tick
 abbrev pub AtCall : (EndState → List ℕ → Type 0) → Call → EndState → Type 0
-AtCall P (Tick now) x = is_shut x ≡ false → AtInput P now (RedTick now) (ticked now x)
-AtCall P (Deliver channel octets now) x = is_shut x ≡ false → AtInput P now (Datagram octets now) (guarded now x)
+AtCall P (Tick now) x = is_shut x ≡ false → AtInput P now (RedTick now) (tick_step now x)
+AtCall P (Deliver channel octets now) x = is_shut x ≡ false → AtInput P now (Datagram octets now) (guard_step now x)
 AtCall P _ x = Unit {0}
 
 -- each part is genuine when it comes, and when it goes up

@@ -72,8 +72,8 @@ ComesNear q inputs =
     (n k m : ℕ) (i : Input) (p : Part) → slice_get inputs n ≡ Some i → slice_get (arrivals_of i) k ≡ Some p → (Came m (take n inputs) → ⊥) → p.0 ≤ m + q
 
 -- the timeout check of an end changes nothing
-abbrev pub Holds : ℕ → EndState → Type 0
-Holds now y = guard now y.machine ≡ y.machine
+abbrev pub GuardKeeps : ℕ → EndState → Type 0
+GuardKeeps now y = guard now y.machine ≡ y.machine
 
 -- faithful, second form
 pub record FaithfulByPlace (es : List Event) : Type 0 where
@@ -88,9 +88,9 @@ pub record FaithfulByPlace (es : List Event) : Type 0 where
   pub indexed : (n k : ℕ) (side : Side) (c : Call) (p : Part) (x : EndState) → IsCallAt es start n side c x → ComesIn c k p
       → BearsIndex side (run (take n es) start) p
   -- the timeout check of each arrival and tick changes nothing
-  pub holds : (n : ℕ) (side : Side) (c : Call) (x : EndState) (i : Input) → IsCallAt es start n side c x → input_of c ≡ Some i → Holds (time_of c) x
+  pub holds : (n : ℕ) (side : Side) (c : Call) (x : EndState) (i : Input) → IsCallAt es start n side c x → input_of c ≡ Some i → GuardKeeps (time_of c) x
   -- nor does that of each part that goes up
-  pub holds_up : (n k : ℕ) (side : Side) (c : Call) (p : Part) (x y : EndState) → IsCallAt es start n side c x → GoesUp c x k p y → Holds (time_of c) y
+  pub holds_up : (n k : ℕ) (side : Side) (c : Call) (p : Part) (x y : EndState) → IsCallAt es start n side c x → GoesUp c x k p y → GuardKeeps (time_of c) y
   -- no part comes more than q ahead of a missing one
   pub near : (side : Side) (x : EndState) → present side (run es start) ≡ Some x → ComesNear x.settings.q x.inputs
   -- no T_seq deadline passes

@@ -56,9 +56,9 @@ pub record RoughInstance (es : List Event) : Type 0 where
   pub promised : Promises es → Headline (run es start) × AllFresh es start × ConfirmedTaken (run es start) × Settled (run es start) × Certain (run es start)
 
 -- P holds of both present ends, and both were opened
-abbrev pub OfOpened : (EndState → EndState → Type 0) → Option EndState → Option EndState → Type 0
-OfOpened P (Some il) (Some fe) = P il fe
-OfOpened P _ _ = ⊥
+abbrev pub OfBothOpened : (EndState → EndState → Type 0) → Option EndState → Option EndState → Type 0
+OfBothOpened P (Some il) (Some fe) = P il fe
+OfBothOpened P _ _ = ⊥
 
 -- every PDU has arrived, both ends match, and each took something
 pub record Arrived (il fe : EndState) : Type 0 where
@@ -72,7 +72,7 @@ pub record Arrived (il fe : EndState) : Type 0 where
 pub record FaithfulInstance (es : List Event) : Type 0 where
   pub typed : AreTyped es  -- its values are of their types
   pub faithful : Faithful es  -- it is faithful
-  pub arrived : OfOpened Arrived (present Il (run es start)) (present Fe (run es start))  -- every PDU has arrived, and something was taken
+  pub arrived : OfBothOpened Arrived (present Il (run es start)) (present Fe (run es start))  -- every PDU has arrived, and something was taken
   pub nothing_lost : NothingLostLaw → NothingLost (run es start)  -- the law applies
   pub promised : Promises es → NothingLost (run es start)  -- the promises of a history apply
 

@@ -7,15 +7,15 @@ use Rattle.stack_end.specs.Steps.{call}
 use Rattle.stack_engine.specs.declared.sides.Sides.{Sides}
 use Rattle.stack_engine.specs.Bounds.{FewMore}
 use Rattle.stack_engine.specs.Joins.{joins_of, joins_in}
-use Rattle.stack_engine.specs.Openings.{SideStands}
+use Rattle.stack_engine.specs.Openings.{SideRepresents}
 use Rattle.stack_engine.specs.Pairs.{World, Event, change_world, ends_of, present}
 use Rattle.stack_engine.specs.Pairs.Event.{Open, Calls}
 use Rattle.stack_engine.specs.Premise.{AtOpened}
 
 -- what the code keeps represents the world
-pub record SidesStand {A : Type 0} (s : Sides A) (w : World) : Type 0 where
-  pub il : SideStands s.il w.ils  -- the incarnations of the interlocking
-  pub fe : SideStands s.fe (ends_of w.fes)  -- the incarnations of the field element
+pub record SidesRepresent {A : Type 0} (s : Sides A) (w : World) : Type 0 where
+  pub il : SideRepresents s.il w.ils  -- the incarnations of the interlocking
+  pub fe : SideRepresents s.fe (ends_of w.fes)  -- the incarnations of the field element
   pub joins : joins_of s.fe ≡ joins_in w.fes  -- the joins
   pub dead_il : s.dead_il ≡ w.dead_il  -- how many PDUs of the interlocking are dead
   pub dead_fe : s.dead_fe ≡ w.dead_fe  -- how many of the field element are
@@ -31,5 +31,5 @@ FewAt (Open side s first now) w = Unit {0}
 FewAt (Calls side c) w = AtOpened (λ x. FewMore x (call c x)) (present side w)
 
 -- of each world that it represented it now represents the one after the event
-abbrev pub SidesDo : {A : Type 0} → Event → Sides A → Sides A → Type 0
-SidesDo e s t = (w : World) → SidesStand s w → FewAt e w → SidesStand t (change_world e w)
+abbrev pub SidesTakeEvent : {A : Type 0} → Event → Sides A → Sides A → Type 0
+SidesTakeEvent e s t = (w : World) → SidesRepresent s w → FewAt e w → SidesRepresent t (change_world e w)

@@ -7,6 +7,7 @@ ghost use Rattle.stack_engine.specs.Premise.{IsTyped};
 
 use end_settings::{EndConfig, Side};
 use octets::Milliseconds;
+use pdi_session::MessageType;
 
 /// What happens to one of two ends, at a time of that end's clock. It borrows its bytes.
 #[derive(Clone, Copy, Debug)]
@@ -41,7 +42,7 @@ pub enum Call<'a> {
     /// The application puts a telegram.
     Put {
         /// The message type.
-        kind: u16,
+        kind: MessageType,
         /// The payload, 0 to 357 bytes.
         payload: &'a [u8],
     },
@@ -73,7 +74,7 @@ impl<'a> Event<'a> {
 }
 
 /// Shows that a message type has two bytes.
-fn is_kind(kind: u16)
+fn is_kind(kind: MessageType)
     // A message type is below 65,536.
     ensures { kind < 256 ^ 2 }
 {}

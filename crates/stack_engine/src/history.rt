@@ -10,6 +10,7 @@ use crate::event::{Action, Call, Event};
 use crate::texts::Texts;
 use end_settings::{EndConfig, Side};
 use octets::Milliseconds;
+use pdi_session::MessageType;
 use std::alloc::{AllocError, Allocator, Global};
 use std::marker::Model;
 
@@ -32,7 +33,7 @@ enum Deed {
     /// The end was closed.
     Close,
     /// A telegram with this message type was put.
-    Put { kind: u16 },
+    Put { kind: MessageType },
     /// The initial status was complete.
     InitDone,
     /// Time passed.
@@ -52,10 +53,10 @@ pub struct History<A: Allocator = Global> {
 
 impl<A: Allocator> Model for History<A> {
     ghost use Rattle.std.specs.Prelude.{◌-◌, length, vec_len, vec_capacity};
-    ghost use Rattle.stack_engine.specs.Histories.{Events};
+    ghost use Rattle.stack_engine.specs.Histories.{HistoryValue};
     ghost use Rattle.stack_engine.specs.HistoryPlaces.{events_in, AreWithin};
 
-    ghost Value = { Events };
+    ghost Value = { HistoryValue };
 
     ghost view = { λ h. record {
       events = events_in h.configs.items h.entries.texts;

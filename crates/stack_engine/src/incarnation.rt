@@ -3,7 +3,7 @@
 ghost use Rattle.std.specs.Prelude.{◌≡◌, ◌≤◌, ◌^◌, ◌↔◌, ℕ, true, false, length, None, Some, MatchResult, OnOk, OnErr, IfOk, IsErrAnd, drop, not, ◌&&◌, option_map};
 ghost use Rattle.octets.specs.declared.limits.TheConstants.{TIME_MAX};
 ghost use Rattle.end_settings.specs.EndSettings.{are_fit};
-ghost use Rattle.end_settings.specs.Configured.{settings_of, side_of};
+ghost use Rattle.end_settings.specs.ConfigValue.{settings_of, side_of};
 ghost use Rattle.stack_end.specs.Ends.{EndState, opened_end};
 ghost use Rattle.stack_end.specs.Ends.Call.{Close, Deliver, InitDone, Put, Tick};
 ghost use Rattle.stack_end.specs.declared.OpenFault.TheVariants.{BadConfig};
@@ -26,7 +26,7 @@ use crate::report::{Entry, report_on};
 use crate::telegrams::{Telegrams, reserve_telegrams};
 use end_settings::{EndConfig, Side};
 use octets::Milliseconds;
-use pdi_session::{InitFault, PutFault};
+use pdi_session::{InitFault, MessageType, PutFault};
 use safe_machine::ConnectionState;
 use safe_pdu::CodeRule;
 use stack_end::{End, OpenFault, end_law};
@@ -59,8 +59,8 @@ pub(crate) struct Incarnation<A: Allocator = Global> {
 }
 
 impl<A: Allocator + Copy> Incarnation<A> {
-    ghost use Rattle.stack_engine.specs.Incarnations.{HasRoom, HasRoomFor, IncDoes, IncSame, IncStands, IncTurns, inc_refusal};
-    ghost use Rattle.stack_engine.specs.Noted.{AreOf};
+    ghost use Rattle.stack_engine.specs.Incarnations.{HasRoom, HasRoomFor, IncarnationTakesCall, IncarnationStays, IncarnationRepresents, IncarnationTakesTurn, inc_refusal};
+    ghost use Rattle.stack_engine.specs.NoteValues.{AreOf};
     ghost use Rattle.stack_engine.specs.Openings.{NamesRefusal};
     ghost use Rattle.stack_engine.specs.Reports.{joined_entry, past_of, seen_entry};
 
@@ -87,7 +87,7 @@ impl<A: Allocator + Copy> Incarnation<A> {
         ensures joined { IfOk result (λ i. i.joined ≡ None) }
         // A new incarnation represents the opened end: its state, its settings, its first PDU if it sends one, and
         // empty lists of telegrams.
-        ensures stands { IfOk result (λ i. IncStands i (opened_end side config first_sn now)) }
+        ensures stands { IfOk result (λ i. IncarnationRepresents i (opened_end side config first_sn now)) }
     {
         if !config.is_fit(side) {
             return Err(OpenFault::BadConfig);
@@ -116,7 +116,7 @@ impl<A: Allocator + Copy> Incarnation<A> {
         // After a success there is room for the PDUs and the taken telegrams of any call.
         ensures room { OnOk result (HasRoom self.new) }
         // Making room for an event leaves the represented state as it is.
-        ensures stands { (x : EndState) → IncStands self.old x → IncStands self.new x }
+        ensures stands { (x : EndState) → IncarnationRepresents self.old x → IncarnationRepresents self.new x }
         // Making room for an event leaves the time as it is.
         ensures time { self.new.time ≡ self.old.time }
         // Making room for an event changes no join.
@@ -142,7 +142,7 @@ impl<A: Allocator + Copy> Incarnation<A> {
         // puts.
         ensures room { OnOk result (HasRoomFor call.now self.new) }
         // Making room for a call leaves the represented state as it is.
-        ensures stands { (x : EndState) → IncStands self.old x → IncStands self.new x }
+        ensures stands { (x : EndState) → IncarnationRepresents self.old x → IncarnationRepresents self.new x }
         // Making room for a call leaves the time as it is.
         ensures time { self.new.time ≡ self.old.time }
         // Making room for a call changes no join.
@@ -166,14 +166,14 @@ impl<A: Allocator + Copy> Incarnation<A> {
         requires room { HasRoomFor call.now self.old }
         // After an accepted call the incarnation represents the state after the call's step, if that step stays
         // within the bounds (`FewMore`).
-        ensures does { OnOk result (IncDoes (call_of call.now now) self.old self.new) }
+        ensures does { OnOk result (IncarnationTakesCall (call_of call.now now) self.old self.new) }
         // After a refused call the incarnation represents the same states as before.
-        ensures refused { OnErr result ((x : EndState) → IncStands self.old x → IncStands self.new x) }
+        ensures refused { OnErr result ((x : EndState) → IncarnationRepresents self.old x → IncarnationRepresents self.new x) }
         // A call by itself joins nothing.
         ensures joined { self.new.joined ≡ self.old.joined }
         // The call is accepted only if the session of the state has no refusal for it; an error names that refusal
         // (`NamesRefusal`).
-        ensures refusal { (x : EndState) → IncStands self.old x
+        ensures refusal { (x : EndState) → IncarnationRepresents self.old x
             → MatchResult result (λ _. session_refusal (call_of call.now now) x ≡ None)
             (λ fault. NamesRefusal fault (session_refusal (call_of call.now now) x)) }
     {
@@ -191,9 +191,9 @@ impl<A: Allocator + Copy> Incarnation<A> {
         requires room { HasRoomFor call.now self.old }
         // An accepted call takes its turn at the end: what is taken is kept, and a telegram that is put is added to
         // those put.
-        ensures turns { OnOk result (IncTurns (call_of call.now now) self.old self.new) }
+        ensures turns { OnOk result (IncarnationTakesTurn (call_of call.now now) self.old self.new) }
         // A refused call leaves end, telegrams and settings as they were.
-        ensures refused { OnErr result (IncSame self.old self.new) }
+        ensures refused { OnErr result (IncarnationStays self.old self.new) }
         // The step of a call joins nothing.
         ensures joined { self.new.joined ≡ self.old.joined }
         // The call is accepted only if the end's session has no refusal for it; an error names that refusal
@@ -219,7 +219,7 @@ impl<A: Allocator + Copy> Incarnation<A> {
         requires later { self.old.time ≤ now }
         requires room { HasRoom self.old }
         // The end takes the turn of a delivery on this channel; the telegrams taken are kept.
-        ensures turns { IncTurns (Deliver channel octets.now now) self.old self.new }
+        ensures turns { IncarnationTakesTurn (Deliver channel octets.now now) self.old self.new }
         // A delivery by itself joins nothing.
         ensures joined { self.new.joined ≡ self.old.joined }
     {
@@ -233,7 +233,7 @@ impl<A: Allocator + Copy> Incarnation<A> {
         requires later { self.old.time ≤ now }
         requires room { HasRoom self.old }
         // The end takes the turn of a tick; the telegrams taken are kept.
-        ensures turns { IncTurns (Tick now) self.old self.new }
+        ensures turns { IncarnationTakesTurn (Tick now) self.old self.new }
         // A tick joins nothing.
         ensures joined { self.new.joined ≡ self.old.joined }
     {
@@ -242,18 +242,18 @@ impl<A: Allocator + Copy> Incarnation<A> {
     }
 
     /// Puts a telegram. The caller has made room for it.
-    fn put(&mut self, kind: u16, payload: &[u8], now: Milliseconds) -> Result<(), PutFault>
+    fn put(&mut self, kind: MessageType, payload: &[u8], now: Milliseconds) -> Result<(), PutFault>
         requires now { now ≤ TIME_MAX }
         requires later { self.old.time ≤ now }
         requires room { HasRoom self.old }
         requires place { 1 ≤ self.old.put.places }
         requires octets { length payload.now ≤ self.old.put.octets }
         // An accepted put takes its turn at the end, and the telegram is added to those put.
-        ensures turns { OnOk result (IncTurns (Put kind payload.now now) self.old self.new) }
+        ensures turns { OnOk result (IncarnationTakesTurn (Put kind payload.now now) self.old self.new) }
         // A put joins nothing.
         ensures joined { self.new.joined ≡ self.old.joined }
         // A refused put leaves end, telegrams and settings as they were.
-        ensures refused { OnErr result (IncSame self.old self.new) }
+        ensures refused { OnErr result (IncarnationStays self.old self.new) }
         // The put is accepted if and only if the end has no refusal for this telegram; otherwise the error is that
         // refusal.
         ensures answer { MatchResult result
@@ -276,11 +276,11 @@ impl<A: Allocator + Copy> Incarnation<A> {
         requires later { self.old.time ≤ now }
         requires room { HasRoom self.old }
         // An accepted end of the initialisation takes its turn at the end.
-        ensures turns { OnOk result (IncTurns (InitDone now) self.old self.new) }
+        ensures turns { OnOk result (IncarnationTakesTurn (InitDone now) self.old self.new) }
         // The end of the initialisation joins nothing.
         ensures joined { self.new.joined ≡ self.old.joined }
         // A refused end of the initialisation leaves end, telegrams and settings as they were.
-        ensures refused { OnErr result (IncSame self.old self.new) }
+        ensures refused { OnErr result (IncarnationStays self.old self.new) }
         // It is accepted if and only if the end has no refusal for the end of the initialisation; otherwise the error
         // is that refusal.
         ensures answer { MatchResult result (λ _. init_answer (inside self.old.end).upper ≡ None)
@@ -301,7 +301,7 @@ impl<A: Allocator + Copy> Incarnation<A> {
         requires later { self.old.time ≤ now }
         requires room { HasRoom self.old }
         // The end takes the turn of a close.
-        ensures turns { IncTurns (Close now) self.old self.new }
+        ensures turns { IncarnationTakesTurn (Close now) self.old self.new }
         // A close joins nothing.
         ensures joined { self.new.joined ≡ self.old.joined }
     {
@@ -320,7 +320,7 @@ impl<A: Allocator + Copy> Incarnation<A> {
     /// Returns the notes of the last accepted event.
     pub(crate) fn notes(&self) -> Notes<'_, A>
         // The datagrams and telegrams that the notes are about are those of the represented state (`AreOf`).
-        ensures { (x : EndState) → IncStands self.now x → AreOf result x }
+        ensures { (x : EndState) → IncarnationRepresents self.now x → AreOf result x }
     {
         self.end.channels_seen().notes(self.told, &self.taken)
     }
@@ -328,7 +328,7 @@ impl<A: Allocator + Copy> Incarnation<A> {
     /// Returns the bytes of the ConnReq that it accepted.
     pub(crate) fn request(&self) -> Option<&[u8]>
         // The result is the `request` of the represented state.
-        ensures { (x : EndState) → IncStands self.now x → option_map (λ octets. octets.now) result ≡ x.request }
+        ensures { (x : EndState) → IncarnationRepresents self.now x → option_map (λ octets. octets.now) result ≡ x.request }
     {
         self.end.request()
     }
@@ -336,7 +336,7 @@ impl<A: Allocator + Copy> Incarnation<A> {
     /// Returns the number of PDUs that it made.
     pub(crate) fn made(&self) -> usize
         // The result is the number of PDUs in the represented state.
-        ensures { (x : EndState) → IncStands self.now x → result ≡ length x.machine.made }
+        ensures { (x : EndState) → IncarnationRepresents self.now x → result ≡ length x.machine.made }
     {
         self.end.channels_seen().len()
     }
@@ -345,7 +345,7 @@ impl<A: Allocator + Copy> Incarnation<A> {
     pub(crate) fn has_made(&self, dead: usize, part: &[u8]) -> bool
         // True if and only if one of the PDUs after the first `dead` ones, encoded under the settings' rule, has the
         // bytes of `part`.
-        ensures { (x : EndState) → IncStands self.now x
+        ensures { (x : EndState) → IncarnationRepresents self.now x
             → result ≡ has_made (rule_of x.settings) part.now (drop dead x.machine.made) }
     {
         self.end.channels_seen().has_part(dead, part)
@@ -354,7 +354,7 @@ impl<A: Allocator + Copy> Incarnation<A> {
     /// Returns true if it is open and the premise speaks of this part.
     pub(crate) fn is_asked(&self, part: &[u8]) -> bool
         // True if and only if the represented state is not closed, and the part has its identifiers and a valid code.
-        ensures { (x : EndState) → IncStands self.now x → result ≡ not (is_shut x) && is_asked_of x part.now }
+        ensures { (x : EndState) → IncarnationRepresents self.now x → result ≡ not (is_shut x) && is_asked_of x part.now }
     {
         let rule = CodeRule {
             length: self.config.code_length(),
@@ -367,7 +367,7 @@ impl<A: Allocator + Copy> Incarnation<A> {
     /// Returns the length of its safety code in bytes.
     pub(crate) fn code_octets(&self) -> usize
         // The result is the code length, 8 or 16, of the settings' rule.
-        ensures { (x : EndState) → IncStands self.now x → result ≡ code_octets (rule_of x.settings).length }
+        ensures { (x : EndState) → IncarnationRepresents self.now x → result ≡ code_octets (rule_of x.settings).length }
     {
         self.config.code_length().octets()
     }

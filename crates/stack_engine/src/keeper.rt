@@ -1,16 +1,18 @@
 //! Channels in memory that keep each PDU of an end once, and the notes of the end.
 
-ghost use Rattle.std.specs.Prelude.{◌≡◌, ◌≤◌, ◌+◌, ◌*◌, ◌<◌, [], OnOk, slice_index_or, length, map, drop};
+ghost use Rattle.std.specs.Prelude.{◌≡◌, ◌≤◌, ◌+◌, ◌*◌, ◌<◌, [], ◌∷◌, ◌++◌, OnOk, IfSome, slice_index_or, length, map, drop};
 ghost use Rattle.std.specs.List.{list_any};
 ghost use Rattle.std.specs.Str.{bytes_eq};
 ghost use Rattle.octets.specs.declared.limits.TheConstants.{RED_HEADER, RED_PDU_MAX};
-ghost use Rattle.stack_engine.specs.Keeping.{Keeping, has_part};
+ghost use Rattle.stack_engine.specs.Keeper.{KeeperValue, has_part};
+ghost use Rattle.stack_engine.specs.Numbered.{AreNumbered, IsOnlyPlace, number_in};
 
 use crate::notes::{KeptNote, Notes};
 use crate::telegrams::Telegrams;
 use crate::texts::Texts;
 use channels::{ChannelFault, Channels, Note};
-use octets::limits::{RED_HEADER, RED_PDU_MAX};
+use octets::limits::{RED_HEADER, RED_PDU_MAX, SAFE_HEADER};
+use octets::places::u32_at;
 use std::alloc::{AllocError, Allocator, Global};
 use std::collections::VecDeque;
 use std::marker::Model;
@@ -30,6 +32,9 @@ const EVENT_REMARKS: usize = 200;
 pub struct Keeper<A: Allocator = Global> {
     /// Each datagram that was made, kept once for all channels, in order.
     datagrams: Texts<(), A>,
+    /// The sequence number of the first datagram, if those of all datagrams follow one another. Otherwise, and before
+    /// the first datagram, none.
+    first_number: Option<u32>,
     /// How many sends have failed, those on other channels included, modulo 2^64.
     failed_sends: u64,
     /// The notes of the end, in order.
@@ -39,10 +44,11 @@ pub struct Keeper<A: Allocator = Global> {
 }
 
 impl<A: Allocator> Model for Keeper<A> {
-    ghost use Rattle.std.specs.Prelude.{map};
-    ghost use Rattle.stack_engine.specs.Keeping.{Keeping};
+    ghost use Rattle.std.specs.Prelude.{map, IfSome};
+    ghost use Rattle.stack_engine.specs.Keeper.{KeeperValue};
+    ghost use Rattle.stack_engine.specs.Numbered.{AreNumbered};
 
-    ghost Value = { Keeping };
+    ghost Value = { KeeperValue };
 
     ghost view = { λ k. record {
       datagrams = map (λ t. t.1) k.datagrams.texts;
@@ -50,6 +56,8 @@ impl<A: Allocator> Model for Keeper<A> {
       octets = k.datagrams.octets;
       failed_sends = k.failed_sends;
     } };
+
+    ghost invariant = { λ k. IfSome k.first_number (λ first. AreNumbered first (map (λ t. t.1) k.datagrams.texts)) };
 }
 
 impl<A: Allocator + Copy> Keeper<A> {
@@ -60,6 +68,7 @@ impl<A: Allocator + Copy> Keeper<A> {
     {
         Keeper {
             datagrams: Texts::new(alloc),
+            first_number: None,
             failed_sends: 0,
             remarks: VecDeque::new(alloc),
             takes: 0,
@@ -134,9 +143,36 @@ impl<A: Allocator> Keeper<A> {
         self.datagrams.len()
     }
 
-    /// Returns true if a datagram with this part was kept after the first `dead` ones. Tests the newest first.
+    /// Returns true if a datagram with this part was kept after the first `dead` ones. If the sequence numbers of all
+    /// datagrams follow one another, it compares one datagram at most.
     pub fn has_part(&self, dead: usize, part: &[u8]) -> bool
         // `has_part` is true if and only if one of the `datagrams` after the first `dead` ones has this part.
+        ensures { result ≡ has_part part.now (drop dead self.now.datagrams) }
+    {
+        let Some(place) = self.only_place(part) else {
+            return self.finds_part(dead, part);
+        };
+        if place < dead || place >= self.len() {
+            return false;
+        }
+        self.is_part(place, part)
+    }
+
+    /// Returns the only place at which a datagram can have this part, by the sequence number in the part. Returns
+    /// `None` if there may be several.
+    fn only_place(&self, part: &[u8]) -> Option<usize>
+        // No datagram at another place has this part. There may be no datagram at the place.
+        ensures { IfSome result (λ only. IsOnlyPlace part.now self.now.datagrams only) }
+    {
+        let first = self.first_number?;
+        let number = sequence_number(part)?;
+        Some(number.wrapping_sub(first) as usize)
+    }
+
+    /// Returns true if a datagram with this part was kept after the first `dead` ones. Tests each of them, the newest
+    /// first.
+    fn finds_part(&self, dead: usize, part: &[u8]) -> bool
+        // The result is true if and only if one of the `datagrams` after the first `dead` ones has this part.
         ensures { result ≡ has_part part.now (drop dead self.now.datagrams) }
     {
         let mut place = self.len();
@@ -160,6 +196,39 @@ impl<A: Allocator> Keeper<A> {
         };
         part == upper_part(datagram)
     }
+
+    /// Returns the sequence number of the first datagram if this one is kept too. Returns `None` if the sequence
+    /// numbers do not follow one another then.
+    fn first_number_with(&self, datagram: &[u8]) -> Option<u32>
+        // With `datagram` after the others, the sequence numbers of all follow one another from the result on.
+        ensures { IfSome result (λ first. AreNumbered first (self.now.datagrams ++ datagram.now ∷ [])) }
+    {
+        let number = sequence_number(upper_part(datagram))?;
+        let kept = self.len();
+        if kept == 0 {
+            return Some(number);
+        }
+        let first = self.first_number?;
+        let Ok(place) = u32::try_from(kept) else {
+            return None;
+        };
+        if first.wrapping_add(place) == number {
+            Some(first)
+        } else {
+            None
+        }
+    }
+}
+
+/// Returns the sequence number of a part, or `None` if the part is too short for a header.
+fn sequence_number(part: &[u8]) -> Option<u32>
+    // The result is the number in the four bytes from place 12 on, if `part` is long enough for a header.
+    ensures { result ≡ number_in part.now }
+{
+    if part.len() < SAFE_HEADER {
+        return None;
+    }
+    Some(u32_at(part, 12))
 }
 
 /// Returns the part of a datagram: what is after its header.
@@ -174,7 +243,7 @@ fn upper_part(datagram: &[u8]) -> &[u8]
 }
 
 impl<A: Allocator + Copy> Channels for Keeper<A> {
-    ghost use Rattle.stack_engine.specs.Keeping.{told_of};
+    ghost use Rattle.stack_engine.specs.Keeper.{told_of};
 
     ghost told = { told_of };
 
@@ -188,6 +257,7 @@ impl<A: Allocator + Copy> Channels for Keeper<A> {
             return Err(ChannelFault::Room);
         }
         let place = self.datagrams.len();
+        self.first_number = self.first_number_with(datagram);
         self.datagrams.add((), datagram);
         remark(&mut self.remarks, KeptNote::Made(place));
         Ok(())

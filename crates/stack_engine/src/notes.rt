@@ -51,7 +51,7 @@ pub struct Notes<'a, A: Allocator = Global> {
 }
 
 impl<'a, A: Allocator> Notes<'a, A> {
-    ghost use Rattle.stack_engine.specs.Noted.{note_at, notes_in, seen_note};
+    ghost use Rattle.stack_engine.specs.NoteValues.{note_at, notes_in, seen_note};
 
     /// Returns the number of notes.
     pub fn len(&self) -> usize

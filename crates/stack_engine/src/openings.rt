@@ -3,13 +3,13 @@
 ghost use Rattle.std.specs.Prelude.{◌≡◌, ◌≤◌, ◌^◌, true, false, List, [], ◌∷◌, length, reverse, slice_get, option_map, None, MatchResult, OnOk, OnErr, IfErr};
 ghost use Rattle.octets.specs.declared.limits.TheConstants.{TIME_MAX};
 ghost use Rattle.end_settings.specs.EndSettings.{are_fit};
-ghost use Rattle.end_settings.specs.Configured.{settings_of, side_of};
+ghost use Rattle.end_settings.specs.ConfigValue.{settings_of, side_of};
 ghost use Rattle.stack_end.specs.Ends.{Call, EndState, opened_end, time_of};
 ghost use Rattle.stack_engine.specs.Bounds.{FewFirst};
 ghost use Rattle.stack_engine.specs.Premise.{breaks_at};
 ghost use Rattle.stack_engine.specs.Events.{call_of};
 ghost use Rattle.stack_engine.specs.Joins.{joins_of, join_latest, request_in};
-ghost use Rattle.stack_engine.specs.Openings.{BeforeStand, IsOfSession, is_memory};
+ghost use Rattle.stack_engine.specs.Openings.{EarlierRepresent, IsOfSession, is_memory};
 ghost use Rattle.stack_engine.specs.Pairs.{call_refusal, latest, latest_maker, made_of, open_refusal};
 ghost use Rattle.stack_engine.specs.Reports.{entry_of, incarnations_of, joined_entry, past_of, seen_entry};
 
@@ -35,13 +35,13 @@ pub(crate) struct Openings<A: Allocator = Global> {
 }
 
 impl<A: Allocator + Copy> Openings<A> {
-    ghost use Rattle.stack_engine.specs.Openings.{IsOpenAt, NamesRefusal, SideDoes, SideStands, IsEnd, KeepsMade, breaks_with, live_in};
-    ghost use Rattle.stack_engine.specs.Noted.{AreNotes};
+    ghost use Rattle.stack_engine.specs.Openings.{IsOpenAt, NamesRefusal, SideTakesCall, SideRepresents, IsEnd, KeepsMade, breaks_with, live_in};
+    ghost use Rattle.stack_engine.specs.NoteValues.{AreNotes};
 
     /// Creates an end that was never opened.
     pub(crate) fn new(alloc: A) -> Self
         // A new end has no incarnations.
-        ensures stands { SideStands result [] }
+        ensures stands { SideRepresents result [] }
         // So none is joined to any other: the list of joins is empty.
         ensures joins { joins_of result ≡ [] }
     {
@@ -60,7 +60,7 @@ impl<A: Allocator + Copy> Openings<A> {
     pub(crate) fn admits_call(&self, now: Milliseconds) -> Result<(), ApplyFault>
         // A call at this time is admitted only if at most a refusal by the session is left; an error names the
         // refusal (`NamesRefusal`).
-        ensures refusal { (xs : List EndState) (c : Call) → SideStands self.now xs → time_of c ≡ now
+        ensures refusal { (xs : List EndState) (c : Call) → SideRepresents self.now xs → time_of c ≡ now
             → MatchResult result (λ _. IsOfSession (call_refusal c (latest xs)))
             (λ fault. NamesRefusal fault (call_refusal c (latest xs))) }
         // If a call is admitted, the end was opened, and the time is neither before its last nor after 2^62 ms.
@@ -90,13 +90,13 @@ impl<A: Allocator + Copy> Openings<A> {
     ) -> Result<(), ApplyFault>
         // After an accepted call within the bounds (`FewMore`), the present incarnation represents the state after
         // the call's step; the earlier ones are as before.
-        ensures does { OnOk result (SideDoes (call_of call.now now) self.old self.new) }
+        ensures does { OnOk result (SideTakesCall (call_of call.now now) self.old self.new) }
         // After a refused call all incarnations represent the same states as before.
-        ensures unchanged { OnErr result ((xs : List EndState) → SideStands self.old xs → SideStands self.new xs) }
+        ensures unchanged { OnErr result ((xs : List EndState) → SideRepresents self.old xs → SideRepresents self.new xs) }
         // A call changes no join.
         ensures joins { joins_of self.new ≡ joins_of self.old }
         // A call is accepted only if the present state has no refusal for it; an error is that refusal, or `Memory`.
-        ensures refusal { (xs : List EndState) → SideStands self.old xs
+        ensures refusal { (xs : List EndState) → SideRepresents self.old xs
             → MatchResult result (λ _. call_refusal (call_of call.now now) (latest xs) ≡ None)
             (λ fault. NamesRefusal fault (call_refusal (call_of call.now now) (latest xs))) }
     {
@@ -123,7 +123,7 @@ impl<A: Allocator + Copy> Openings<A> {
         now: Milliseconds,
     ) -> Result<(), ApplyFault>
         // An opening is admitted only if there is no refusal for it; an error names that refusal (`NamesRefusal`).
-        ensures refusal { (xs : List EndState) → SideStands self.now xs
+        ensures refusal { (xs : List EndState) → SideRepresents self.now xs
             → MatchResult result (λ _. open_refusal (side_of side) (settings_of config.now) now (latest xs) ≡ None)
             (λ fault. NamesRefusal fault (open_refusal (side_of side) (settings_of config.now) now (latest xs))) }
         // If an opening is admitted, its settings fit the side.
@@ -165,17 +165,17 @@ impl<A: Allocator + Copy> Openings<A> {
             → FewFirst (opened_end side config first_sn now) }
         // An accepted opening adds an incarnation that represents the opened end; what was present becomes the latest
         // of the earlier ones.
-        ensures does { OnOk result ((xs : List EndState) → SideStands self.old xs
-            → SideStands self.new (opened_end side config first_sn now ∷ xs)) }
+        ensures does { OnOk result ((xs : List EndState) → SideRepresents self.old xs
+            → SideRepresents self.new (opened_end side config first_sn now ∷ xs)) }
         // After a refused opening all incarnations represent the same states as before.
-        ensures unchanged { OnErr result ((xs : List EndState) → SideStands self.old xs → SideStands self.new xs) }
+        ensures unchanged { OnErr result ((xs : List EndState) → SideRepresents self.old xs → SideRepresents self.new xs) }
         // The new incarnation is joined to no other; the earlier ones are joined as before.
-        ensures joins { OnOk result ((xs : List EndState) → SideStands self.old xs
+        ensures joins { OnOk result ((xs : List EndState) → SideRepresents self.old xs
             → joins_of self.new ≡ None ∷ joins_of self.old) }
         // A refused opening changes no join.
         ensures same_joins { OnErr result (joins_of self.new ≡ joins_of self.old) }
         // An opening is accepted only if there is no refusal for it; an error is that refusal, or `Memory`.
-        ensures refusal { (xs : List EndState) → SideStands self.old xs
+        ensures refusal { (xs : List EndState) → SideRepresents self.old xs
             → MatchResult result (λ _. open_refusal (side_of side) (settings_of config) now (latest xs) ≡ None)
             (λ fault. NamesRefusal fault (open_refusal (side_of side) (settings_of config) now (latest xs))) }
     {
@@ -195,7 +195,7 @@ impl<A: Allocator + Copy> Openings<A> {
     /// Returns the bytes of the ConnReq that the present incarnation accepted.
     pub(crate) fn request(&self) -> Option<&[u8]>
         // The result is the `request` of the present state, and `None` if the end was never opened.
-        ensures { (xs : List EndState) → SideStands self.now xs
+        ensures { (xs : List EndState) → SideRepresents self.now xs
             → option_map (λ octets. octets.now) result ≡ request_in (latest xs) }
     {
         match &self.present {
@@ -207,7 +207,7 @@ impl<A: Allocator + Copy> Openings<A> {
     /// Joins the present incarnation to that of the peer with this number.
     pub(crate) fn join(&mut self, number: Option<usize>)
         // Joining changes no state.
-        ensures stands { (xs : List EndState) → SideStands self.old xs → SideStands self.new xs }
+        ensures stands { (xs : List EndState) → SideRepresents self.old xs → SideRepresents self.new xs }
         // The present incarnation is now joined to `number`; the earlier ones are joined as before.
         ensures joins { joins_of self.new ≡ join_latest number (joins_of self.old) }
     {
@@ -219,7 +219,7 @@ impl<A: Allocator + Copy> Openings<A> {
     /// Returns the number, from 1, of the latest incarnation that made a PDU of these bytes.
     pub(crate) fn latest_maker(&self, octets: &[u8]) -> Option<usize>
         // The result is the greatest number of an incarnation that made these bytes, or `None` if no incarnation did.
-        ensures { (xs : List EndState) → SideStands self.now xs → result ≡ latest_maker octets.now xs }
+        ensures { (xs : List EndState) → SideRepresents self.now xs → result ≡ latest_maker octets.now xs }
     {
         match &self.present {
             Some(present) if present.has_made(0, octets) => Some(self.before.len() + 1),
@@ -307,7 +307,7 @@ impl<A: Allocator + Copy> Openings<A> {
     /// Returns the notes of the last accepted event of the present incarnation.
     pub(crate) fn notes(&self) -> Option<Notes<'_, A>>
         // The notes are of the present state; `None` is returned only if the end was never opened.
-        ensures { (xs : List EndState) → SideStands self.now xs → AreNotes result (latest xs) }
+        ensures { (xs : List EndState) → SideRepresents self.now xs → AreNotes result (latest xs) }
     {
         match &self.present {
             Some(present) => Some(present.notes()),
@@ -318,7 +318,7 @@ impl<A: Allocator + Copy> Openings<A> {
     /// Returns the number of PDUs that the present incarnation made.
     pub(crate) fn made(&self) -> usize
         // The result is the number of PDUs of the present state, and 0 if the end was never opened.
-        ensures { (xs : List EndState) → SideStands self.now xs → result ≡ length (made_of (latest xs)) }
+        ensures { (xs : List EndState) → SideRepresents self.now xs → result ≡ length (made_of (latest xs)) }
     {
         match &self.present {
             Some(present) => present.made(),
@@ -331,7 +331,7 @@ impl<A: Allocator + Copy> Openings<A> {
     fn has_live(&self, code: usize, dead: usize, part: &[u8]) -> bool
         // True if and only if the present state has a code of this length and made these bytes as a PDU after the
         // first `dead` ones.
-        ensures { (xs : List EndState) → SideStands self.now xs → result ≡ live_in code (latest xs) dead part.now }
+        ensures { (xs : List EndState) → SideRepresents self.now xs → result ≡ live_in code (latest xs) dead part.now }
     {
         match &self.present {
             Some(present) => present.code_octets() == code && present.has_made(dead, part),
@@ -344,7 +344,7 @@ impl<A: Allocator + Copy> Openings<A> {
     fn breaks_by(&self, peer: &Openings<A>, dead: usize, part: &[u8]) -> bool
         // True if and only if the present state is open, the part has its identifiers and a valid code, and the peer
         // has made no such live PDU under a code of the same length.
-        ensures { (xs ys : List EndState) → SideStands self.now xs → SideStands peer.now ys
+        ensures { (xs ys : List EndState) → SideRepresents self.now xs → SideRepresents peer.now ys
             → result ≡ breaks_with (latest xs) (latest ys) dead part.now }
     {
         match &self.present {
@@ -358,7 +358,7 @@ impl<A: Allocator + Copy> Openings<A> {
     /// Returns true if delivering a datagram would break the premise at once. The peer's first `dead` PDUs are dead.
     pub(crate) fn breaks(&self, peer: &Openings<A>, dead: usize, datagram: &[u8]) -> bool
         // A redundancy PDU breaks the premise if its part does; bytes that do not decode as one never break it.
-        ensures { (xs ys : List EndState) → SideStands self.now xs → SideStands peer.now ys
+        ensures { (xs ys : List EndState) → SideRepresents self.now xs → SideRepresents peer.now ys
             → result ≡ breaks_at (latest xs) (latest ys) dead datagram.now }
     {
         match red_layer::pdu::decode(datagram) {
@@ -370,9 +370,9 @@ impl<A: Allocator + Copy> Openings<A> {
     /// Returns the end of the present incarnation, or `None` if there is none.
     pub(crate) fn end(&self) -> Option<&End<Keeper<A>, A>>
         // The end is in the present state; `None` is returned only if the end was never opened.
-        ensures stands { (xs : List EndState) → SideStands self.now xs → IsEnd result (latest xs) }
+        ensures stands { (xs : List EndState) → SideRepresents self.now xs → IsEnd result (latest xs) }
         // Its channels keep the datagrams of all PDUs of the present state, in order.
-        ensures made { (xs : List EndState) → SideStands self.now xs → KeepsMade result (latest xs) }
+        ensures made { (xs : List EndState) → SideRepresents self.now xs → KeepsMade result (latest xs) }
     {
         match &self.present {
             Some(present) => Some(&present.end),
@@ -385,7 +385,7 @@ impl<A: Allocator + Copy> Openings<A> {
 /// one comes first.
 fn latest_maker_of<A: Allocator + Copy>(incarnations: &[Past<A>], octets: &[u8]) -> Option<usize>
     // The result is the greatest number among these incarnations of one that made the bytes, or `None` if no one did.
-    ensures { (xs : List EndState) → BeforeStand (reverse incarnations.now) xs → result ≡ latest_maker octets.now xs }
+    ensures { (xs : List EndState) → EarlierRepresent (reverse incarnations.now) xs → result ≡ latest_maker octets.now xs }
 {
     let mut number = incarnations.len();
     while number > 0 {

@@ -3,7 +3,7 @@
 ghost use Rattle.std.specs.Prelude.{◌≡◌, ◌+◌, [], ◌∷◌, ◌++◌, length, None, MatchResult, OnOk, OnErr, IfOk, option_map, slice_get};
 ghost use Rattle.stack_engine.specs.Openings.{IsEnd, KeepsMade, NamesRefusal};
 ghost use Rattle.stack_engine.specs.Pairs.{present, refusal, run, start};
-ghost use Rattle.end_settings.specs.Configured.{side_of};
+ghost use Rattle.end_settings.specs.ConfigValue.{side_of};
 ghost use Rattle.stack_engine.specs.Premise.{breaks_premise};
 ghost use Rattle.stack_engine.specs.Promises.{Promises};
 ghost use Rattle.stack_engine.specs.Reports.{report_of, seen_entry};
@@ -55,7 +55,7 @@ impl<A: Allocator> Model for Pair<A> {
 
 impl<A: Allocator + Copy> Pair<A> {
     ghost use Rattle.stack_engine.specs.Events.{event_of};
-    ghost use Rattle.stack_engine.specs.PairValue.{events_of, last_side, NotesOfLast, Ran, RanBefore};
+    ghost use Rattle.stack_engine.specs.PairValue.{events_of, last_side, NotesOfLast, RunsTo, RunsToFault};
 
     /// Creates a pair in which neither end has been opened. It does not allocate.
     pub fn new(alloc: A) -> Self
@@ -136,13 +136,13 @@ impl<A: Allocator + Copy> Pair<A> {
     ///   it has.
     pub fn run(&mut self, events: &[Event<'_>]) -> Result<usize, Memory>
         // If every allocation succeeds, the history grows by exactly the events that the definition of a pair
-        // accepts, in order (`Ran`).
-        ensures ok { OnOk result (Ran self.old (events_of events.now) self.new) }
+        // accepts, in order (`RunsTo`).
+        ensures ok { OnOk result (RunsTo self.old (events_of events.now) self.new) }
         // The returned count is the number of events by which the history grew.
         ensures count { IfOk result (λ count. length self.new ≡ length self.old + count) }
         // If an allocation fails, the history has grown by the accepted events before the one that failed. That
-        // event was not refused for anything that is checked before memory (`RanBefore`).
-        ensures memory { OnErr result (RanBefore self.old (events_of events.now) self.new) }
+        // event was not refused for anything that is checked before memory (`RunsToFault`).
+        ensures memory { OnErr result (RunsToFault self.old (events_of events.now) self.new) }
         // After `run`, even if it failed, a genuine history has the promises headline, fresh, confirmed, settled
         // and certain; a faithful history also has nothing_lost (`Promises`).
         ensures promises { Promises self.new }

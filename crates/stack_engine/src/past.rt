@@ -3,7 +3,7 @@
 ghost use Rattle.std.specs.Prelude.{◌≡◌};
 ghost use Rattle.end_settings.specs.EndSettings.{rule_of};
 ghost use Rattle.stack_end.specs.Ends.{EndState};
-ghost use Rattle.stack_engine.specs.Incarnations.{IncStands, PastStands};
+ghost use Rattle.stack_engine.specs.Incarnations.{IncarnationRepresents, PastRepresents};
 ghost use Rattle.stack_engine.specs.Pairs.{has_made};
 ghost use Rattle.stack_engine.specs.Reports.{joined_entry, seen_entry};
 
@@ -31,7 +31,7 @@ impl<A: Allocator + Copy> Past<A> {
     /// Drops the end of an incarnation, and all room for more.
     pub(crate) fn of(incarnation: Incarnation<A>, alloc: A) -> Self
         // All that the incarnation made, put and took is kept.
-        ensures stands { (x : EndState) → IncStands incarnation x → PastStands result x }
+        ensures stands { (x : EndState) → IncarnationRepresents incarnation x → PastRepresents result x }
         // It is joined as the incarnation was.
         ensures joined { result.joined ≡ incarnation.joined }
     {
@@ -54,7 +54,7 @@ impl<A: Allocator + Copy> Past<A> {
     /// Returns true if it made a PDU of these bytes.
     pub(crate) fn has_made(&self, part: &[u8]) -> bool
         // True if and only if one of its PDUs, encoded under the settings' rule, has the bytes of `part`.
-        ensures { (x : EndState) → PastStands self.now x → result ≡ has_made (rule_of x.settings) part.now x.machine.made }
+        ensures { (x : EndState) → PastRepresents self.now x → result ≡ has_made (rule_of x.settings) part.now x.machine.made }
     {
         self.keeper.has_part(0, part)
     }

@@ -5,11 +5,16 @@ ghost use Rattle.safe_pdu.specs.Places.{is_asked};
 
 use octets::limits::SAFE_HEADER;
 use octets::places::u32_at;
-use safe_pdu::CodeRule;
+use safe_pdu::{CodeRule, Identifier};
 
 /// Returns true if the premise speaks of a part at an end with these identifiers: the part is long enough, has both
 /// identifiers at their places, and ends in a valid safety code.
-pub(crate) fn is_asked_about(rule: &CodeRule, own: u32, peer: u32, part: &[u8]) -> bool
+pub(crate) fn is_asked_about(
+    rule: &CodeRule,
+    own: Identifier,
+    peer: Identifier,
+    part: &[u8],
+) -> bool
     // True if and only if the part has a header and a code, `own` as its receiver and `peer` as its sender, and a
     // safety code that is valid under `rule`.
     ensures { result ≡ is_asked rule.now own peer part.now }

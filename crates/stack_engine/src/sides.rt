@@ -1,11 +1,11 @@
 //! Both ends with all their incarnations.
 
 ghost use Rattle.std.specs.Prelude.{◌≡◌, None, List, length, slice_get, option_map, MatchResult, OnOk, OnErr, IfErr, false};
-ghost use Rattle.end_settings.specs.Configured.{settings_of, side_of};
+ghost use Rattle.end_settings.specs.ConfigValue.{settings_of, side_of};
 ghost use Rattle.stack_end.specs.Ends.{Call};
 ghost use Rattle.stack_engine.specs.Bounds.{FewFirstLaw};
 ghost use Rattle.stack_engine.specs.Events.{call_of, event_of};
-ghost use Rattle.stack_engine.specs.Noted.{AreNotes};
+ghost use Rattle.stack_engine.specs.NoteValues.{AreNotes};
 ghost use Rattle.stack_engine.specs.Openings.{IsEnd, IsOfSession, KeepsMade, NamesRefusal, is_memory};
 ghost use Rattle.stack_engine.specs.Pairs.{World, present, refusal, start};
 ghost use Rattle.stack_engine.specs.Premise.{breaks_premise};
@@ -38,13 +38,13 @@ pub(crate) struct Sides<A: Allocator = Global> {
 }
 
 impl<A: Allocator + Copy> Sides<A> {
-    ghost use Rattle.stack_engine.specs.Openings.{SideStands};
-    ghost use Rattle.stack_engine.specs.Sides.{SidesDo, SidesStand, ends_at};
+    ghost use Rattle.stack_engine.specs.Openings.{SideRepresents};
+    ghost use Rattle.stack_engine.specs.Sides.{SidesTakeEvent, SidesRepresent, ends_at};
 
     /// Creates both ends, neither of which has been opened.
     pub(crate) fn new(alloc: A) -> Self
         // Both ends are as in the start world: without incarnations and without dead PDUs.
-        ensures { SidesStand result start }
+        ensures { SidesRepresent result start }
     {
         Sides {
             il: Openings::new(alloc),
@@ -64,7 +64,7 @@ impl<A: Allocator + Copy> Sides<A> {
     pub(crate) fn admits(&self, event: &Event<'_>) -> Result<(), ApplyFault>
         // An event is admitted only if at most a refusal by the session is left; an error names the refusal
         // (`NamesRefusal`).
-        ensures refusal { (w : World) → SidesStand self.now w
+        ensures refusal { (w : World) → SidesRepresent self.now w
             → MatchResult result (λ _. IsOfSession (refusal (event_of event.now) w))
             (λ fault. NamesRefusal fault (refusal (event_of event.now) w)) }
         // The error is never `Memory`.
@@ -80,7 +80,7 @@ impl<A: Allocator + Copy> Sides<A> {
     /// Returns an end with all its incarnations.
     fn openings(&self, side: Side) -> &Openings<A>
         // The result is the incarnations of this `side`.
-        ensures { (w : World) → SidesStand self.now w → SideStands result.now (ends_at (side_of side) w) }
+        ensures { (w : World) → SidesRepresent self.now w → SideRepresents result.now (ends_at (side_of side) w) }
     {
         match side {
             Side::Interlocking => &self.il,
@@ -103,11 +103,11 @@ impl<A: Allocator + Copy> Sides<A> {
         requires first { FewFirstLaw }
         // An accepted event that stays within the bounds (`FewAt`) changes both ends as the world changes by it: the
         // incarnations, the joins, and the dead PDUs.
-        ensures does { OnOk result (SidesDo (event_of event.now) self.old self.new) }
+        ensures does { OnOk result (SidesTakeEvent (event_of event.now) self.old self.new) }
         // After a refused event both ends still represent every world that they did before.
-        ensures unchanged { OnErr result ((w : World) → SidesStand self.old w → SidesStand self.new w) }
+        ensures unchanged { OnErr result ((w : World) → SidesRepresent self.old w → SidesRepresent self.new w) }
         // An event is accepted only if the definition has no `refusal` for it; an error is that refusal, or `Memory`.
-        ensures refusal { (w : World) → SidesStand self.old w
+        ensures refusal { (w : World) → SidesRepresent self.old w
             → MatchResult result (λ _. refusal (event_of event.now) w ≡ None)
             (λ fault. NamesRefusal fault (refusal (event_of event.now) w)) }
     {
@@ -128,11 +128,11 @@ impl<A: Allocator + Copy> Sides<A> {
         now: Milliseconds,
     ) -> Result<(), ApplyFault>
         // An accepted call that stays within the bounds (`FewAt`) changes both ends as the world changes by it.
-        ensures does { OnOk result (SidesDo (Calls (side_of side) (call_of call.now now)) self.old self.new) }
+        ensures does { OnOk result (SidesTakeEvent (Calls (side_of side) (call_of call.now now)) self.old self.new) }
         // A refused call leaves both ends as they were, in every world.
-        ensures unchanged { OnErr result ((w : World) → SidesStand self.old w → SidesStand self.new w) }
+        ensures unchanged { OnErr result ((w : World) → SidesRepresent self.old w → SidesRepresent self.new w) }
         // A call of a side is accepted only if there is no `refusal` for it; an error is that refusal, or `Memory`.
-        ensures refusal { (w : World) → SidesStand self.old w
+        ensures refusal { (w : World) → SidesRepresent self.old w
             → MatchResult result (λ _. refusal (Calls (side_of side) (call_of call.now now)) w ≡ None)
             (λ fault. NamesRefusal fault (refusal (Calls (side_of side) (call_of call.now now)) w)) }
     {
@@ -147,12 +147,12 @@ impl<A: Allocator + Copy> Sides<A> {
     fn call_fe(&mut self, call: &event::Call<'_>, now: Milliseconds) -> Result<(), ApplyFault>
         // An accepted call of the field element, within the bounds (`FewAt`), changes both ends as the world changes
         // by it, with the join at its first accepted ConnReq.
-        ensures does { OnOk result (SidesDo (Calls Fe (call_of call.now now)) self.old self.new) }
+        ensures does { OnOk result (SidesTakeEvent (Calls Fe (call_of call.now now)) self.old self.new) }
         // A refused call of the field element changes nothing, in every world.
-        ensures unchanged { OnErr result ((w : World) → SidesStand self.old w → SidesStand self.new w) }
+        ensures unchanged { OnErr result ((w : World) → SidesRepresent self.old w → SidesRepresent self.new w) }
         // A call of the field element is accepted only if there is no `refusal` for it; an error is that refusal, or
         // `Memory`.
-        ensures refusal { (w : World) → SidesStand self.old w
+        ensures refusal { (w : World) → SidesRepresent self.old w
             → MatchResult result (λ _. refusal (Calls Fe (call_of call.now now)) w ≡ None)
             (λ fault. NamesRefusal fault (refusal (Calls Fe (call_of call.now now)) w)) }
     {
@@ -181,11 +181,11 @@ impl<A: Allocator + Copy> Sides<A> {
         requires first { FewFirstLaw }
         // An accepted opening adds a new incarnation, joined to no other, and marks all PDUs of the present peer as
         // dead.
-        ensures does { OnOk result (SidesDo (Open (side_of side) (settings_of config) first_sn now) self.old self.new) }
+        ensures does { OnOk result (SidesTakeEvent (Open (side_of side) (settings_of config) first_sn now) self.old self.new) }
         // A refused opening leaves both ends as they were, in every world.
-        ensures unchanged { OnErr result ((w : World) → SidesStand self.old w → SidesStand self.new w) }
+        ensures unchanged { OnErr result ((w : World) → SidesRepresent self.old w → SidesRepresent self.new w) }
         // An opening is accepted only if there is no `refusal` for it; an error is that refusal, or `Memory`.
-        ensures refusal { (w : World) → SidesStand self.old w
+        ensures refusal { (w : World) → SidesRepresent self.old w
             → MatchResult result (λ _. refusal (Open (side_of side) (settings_of config) first_sn now) w ≡ None)
             (λ fault. NamesRefusal fault (refusal (Open (side_of side) (settings_of config) first_sn now) w)) }
     {
@@ -207,7 +207,7 @@ impl<A: Allocator + Copy> Sides<A> {
     /// Returns true if delivering a datagram to an end would break the premise at once.
     pub(crate) fn breaks_premise(&self, side: Side, datagram: &[u8]) -> bool
         // The result is that of the definition for this side, datagram and world.
-        ensures { (w : World) → SidesStand self.now w → result ≡ breaks_premise (side_of side) datagram.now w }
+        ensures { (w : World) → SidesRepresent self.now w → result ≡ breaks_premise (side_of side) datagram.now w }
     {
         match side {
             Side::Interlocking => self.il.breaks(&self.fe, self.dead_fe, datagram),
@@ -219,9 +219,9 @@ impl<A: Allocator + Copy> Sides<A> {
     pub(crate) fn end_of(&self, side: Side) -> Option<&End<Keeper<A>, A>>
         // The end is in the state of this side's present incarnation; `None` is returned only if the side was never
         // opened.
-        ensures stands { (w : World) → SidesStand self.now w → IsEnd result (present (side_of side) w) }
+        ensures stands { (w : World) → SidesRepresent self.now w → IsEnd result (present (side_of side) w) }
         // Its channels keep the datagrams of all PDUs of that incarnation, in order.
-        ensures made { (w : World) → SidesStand self.now w → KeepsMade result (present (side_of side) w) }
+        ensures made { (w : World) → SidesRepresent self.now w → KeepsMade result (present (side_of side) w) }
     {
         match side {
             Side::Interlocking => self.il.end(),
@@ -232,7 +232,7 @@ impl<A: Allocator + Copy> Sides<A> {
     /// Returns the number of incarnations of an end.
     pub(crate) fn incarnations(&self, side: Side) -> usize
         // The result is the number of entries in the report of this side.
-        ensures { (w : World) → SidesStand self.now w → result ≡ length (report_of (side_of side) w) }
+        ensures { (w : World) → SidesRepresent self.now w → result ≡ length (report_of (side_of side) w) }
     {
         match side {
             Side::Interlocking => self.il.len(),
@@ -243,7 +243,7 @@ impl<A: Allocator + Copy> Sides<A> {
     /// Returns the entry at a place, from 0, in the report of an end.
     pub(crate) fn entry(&self, side: Side, place: usize) -> Option<Entry<'_, A>>
         // The entry is the one at this `place` of the side's report, or `None` after the last.
-        ensures { (w : World) → SidesStand self.now w
+        ensures { (w : World) → SidesRepresent self.now w
             → option_map seen_entry result ≡ slice_get (report_of (side_of side) w) place }
     {
         match side {
@@ -255,7 +255,7 @@ impl<A: Allocator + Copy> Sides<A> {
     /// Returns the notes of the last accepted event of an end's present incarnation.
     pub(crate) fn notes(&self, side: Side) -> Option<Notes<'_, A>>
         // The notes are of this side's present incarnation; `None` is returned only if the side was never opened.
-        ensures { (w : World) → SidesStand self.now w → AreNotes result (present (side_of side) w) }
+        ensures { (w : World) → SidesRepresent self.now w → AreNotes result (present (side_of side) w) }
     {
         match side {
             Side::Interlocking => self.il.notes(),

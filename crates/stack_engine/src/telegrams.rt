@@ -5,7 +5,7 @@ ghost use Rattle.octets.specs.declared.limits.TheConstants.{PAYLOAD_MAX};
 
 use crate::texts::Texts;
 use octets::limits::PAYLOAD_MAX;
-use pdi_session::Taker;
+use pdi_session::{MessageType, Taker};
 use std::alloc::{AllocError, Allocator};
 
 /// Telegrams: the message type of each, and its payload.
@@ -17,7 +17,7 @@ impl<A: Allocator + Copy> Taker for Texts<u16, A> {
 
     ghost takes = { TakesItem };
 
-    fn take(&mut self, kind: u16, payload: &[u8]) {
+    fn take(&mut self, kind: MessageType, payload: &[u8]) {
         if self.places() > 0 && payload.len() <= self.room() {
             self.add(kind, payload);
         }

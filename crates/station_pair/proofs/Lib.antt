@@ -1,6 +1,6 @@
-pub mod Standing
-pub mod Promising
-pub mod Carrying
+pub mod StepsKeep
+pub mod Promises
+pub mod Genuine
 pub mod Sessions
-pub mod Agreeing
-pub mod Refusing
+pub mod OneSession
+pub mod Refusals

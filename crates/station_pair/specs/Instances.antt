@@ -20,22 +20,22 @@ abbrev pub second : Item
 second = (2, [])
 
 -- the promise is false of two programs with this station and these lists, those of the interlocking first
-abbrev pub Refused : StationValue → (put given other_put other_given : List Item) → Type 0
-Refused s put given other_put other_given = BothAgree (with_lists s put given ∷ []) (with_lists s other_put other_given ∷ []) → ⊥
+abbrev pub IsRefused : StationValue → (put given other_put other_given : List Item) → Type 0
+IsRefused s put given other_put other_given = BothAgree (with_lists s put given ∷ []) (with_lists s other_put other_given ∷ []) → ⊥
 
 -- lists of which the promise is false
 pub record Instances (s : StationValue) : Type 0 where
   -- a command is given that was not put
-  pub made_up : Refused s [] [] [] (first ∷ [])
+  pub made_up : IsRefused s [] [] [] (first ∷ [])
   -- a command is skipped
-  pub passed_over : Refused s (first ∷ second ∷ []) [] [] (second ∷ [])
+  pub passed_over : IsRefused s (first ∷ second ∷ []) [] [] (second ∷ [])
   -- a command is given twice
-  pub twice : Refused s (first ∷ second ∷ []) [] [] (first ∷ first ∷ [])
+  pub twice : IsRefused s (first ∷ second ∷ []) [] [] (first ∷ first ∷ [])
   -- a status is given that was not put
-  pub status_made_up : Refused s [] (first ∷ []) [] []
+  pub status_made_up : IsRefused s [] (first ∷ []) [] []
   -- a status is skipped
-  pub status_passed_over : Refused s [] (second ∷ []) (first ∷ second ∷ []) []
+  pub status_passed_over : IsRefused s [] (second ∷ []) (first ∷ second ∷ []) []
   -- settled, and a command that was put was neither given nor waits
-  pub not_there : is_settled (inside s.end) ≡ true → s.inbox.lost ≡ false → s.inbox.queue.waiting ≡ [] → Refused s (first ∷ []) [] [] []
+  pub not_there : is_settled (inside s.end) ≡ true → s.inbox.lost ≡ false → s.inbox.queue.waiting ≡ [] → IsRefused s (first ∷ []) [] [] []
   -- settled, and a status that was put was neither given nor waits
-  pub status_not_there : is_settled (inside s.end) ≡ true → s.inbox.lost ≡ false → s.inbox.queue.waiting ≡ [] → Refused s [] [] (first ∷ []) []
+  pub status_not_there : is_settled (inside s.end) ≡ true → s.inbox.lost ≡ false → s.inbox.queue.waiting ≡ [] → IsRefused s [] [] (first ∷ []) []

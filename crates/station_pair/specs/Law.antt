@@ -9,18 +9,18 @@ use Rattle.stack_engine.specs.Joins.{joins_in}
 use Rattle.stack_engine.specs.Pairs.{accepted_events, run, start}
 use Rattle.stack_engine.specs.Premise.{AreTyped, Genuine}
 use Rattle.stack_engine.specs.Settled.{is_number}
-use Rattle.station_pair.specs.Network.{AllCarried, Opening, SameCode, both_open, session}
+use Rattle.station_pair.specs.Network.{AllCarried, StationOpening, SameCode, both_open, session}
 use Rattle.station_pair.specs.Stands.{ProgramsStand, seen_by}
-use Rattle.station_pair.specs.Steps.{AllLater, AreSteps, Held, Programs, Step, events_of, nothing, programs}
+use Rattle.station_pair.specs.Steps.{AllLater, AreSteps, Held, Programs, Step, events_of, no_programs, programs_after}
 
 -- the stations represent the ends of a pair to which the calls happened as events
 pub record Follows (steps : List Step) : Type 0 where
   pub accepted : accepted_events (events_of steps) start ≡ events_of steps  -- no event is refused
-  pub stands : ProgramsStand (programs steps nothing) (run (events_of steps) start)  -- the stations represent that pair's ends
+  pub stands : ProgramsStand (programs_after steps no_programs) (run (events_of steps) start)  -- the stations represent that pair's ends
 
 -- this holds for every list of calls of two programs that open a side again no earlier than its last call
 abbrev pub FollowsLaw : Type 0
-FollowsLaw = (steps : List Step) → AreSteps steps nothing → AllLater steps nothing → Follows steps
+FollowsLaw = (steps : List Step) → AreSteps steps no_programs → AllLater steps no_programs → Follows steps
 
 -- the station with this number, from 1
 abbrev pub station : List Held → ℕ → Option Held
@@ -44,14 +44,14 @@ Fall bound [] = Unit {0}
 Fall bound (j ∷ js) = JoinedBelow bound j × Fall (next_bound bound j) js
 
 -- some field element is joined to the interlocking with this number
-abbrev pub Names : ℕ → List (Option ℕ) → Type 0
-Names number [] = ⊥
-Names number (j ∷ js) = (j ≡ Some number) ⊎ Names number js
+abbrev pub NamesInterlocking : ℕ → List (Option ℕ) → Type 0
+NamesInterlocking number [] = ⊥
+NamesInterlocking number (j ∷ js) = (j ≡ Some number) ⊎ NamesInterlocking number js
 
 -- a station of the interlocking to which no field element is joined gave nothing
 abbrev pub OnlyJoinedGive : List (Option ℕ) → List Held → Type 0
 OnlyJoinedGive joins [] = Unit {0}
-OnlyJoinedGive joins (g ∷ before) = ((seen_by g ≡ []) ⊎ Names (length before + 1) joins) × OnlyJoinedGive joins before
+OnlyJoinedGive joins (g ∷ before) = ((seen_by g ≡ []) ⊎ NamesInterlocking (length before + 1) joins) × OnlyJoinedGive joins before
 
 -- the headline of two programs; the joins are those of the pair
 pub record Headline (p : Programs) (joins : List (Option ℕ)) : Type 0 where
@@ -87,17 +87,17 @@ FeThere ils _ _ = Unit {0}
 -- what two programs are promised
 pub record Promises (steps : List Step) : Type 0 where
   -- each is given a prefix of what the other put
-  pub headline : Headline (programs steps nothing) (joins_in (run (events_of steps) start).fes)
+  pub headline : Headline (programs_after steps no_programs) (joins_in (run (events_of steps) start).fes)
   -- at a settled interlocking, all of it
-  pub il_there : IlThere (programs steps nothing).ils (programs steps nothing).fes (joins_in (run (events_of steps) start).fes)
+  pub il_there : IlThere (programs_after steps no_programs).ils (programs_after steps no_programs).fes (joins_in (run (events_of steps) start).fes)
   -- at a settled field element, all of it
-  pub fe_there : FeThere (programs steps nothing).ils (programs steps nothing).fes (joins_in (run (events_of steps) start).fes)
+  pub fe_there : FeThere (programs_after steps no_programs).ils (programs_after steps no_programs).fes (joins_in (run (events_of steps) start).fes)
   -- what is taken is fresh
   pub fresh : AllFresh (events_of steps) start
 
 -- the promises hold for every list of calls whose datagrams are genuine
 abbrev pub PromisesLaw : Type 0
-PromisesLaw = (steps : List Step) → AreSteps steps nothing → AllLater steps nothing → AreTyped (events_of steps) → Genuine (events_of steps) start → Promises steps
+PromisesLaw = (steps : List Step) → AreSteps steps no_programs → AllLater steps no_programs → AreTyped (events_of steps) → Genuine (events_of steps) start → Promises steps
 
 -- one session: the telegrams that each side was given, then those that wait for it, are a prefix of those put at the other; if that one is settled,
 -- they are all
@@ -120,5 +120,5 @@ BothAgree _ _ = ⊥
 -- their types, and that both have the same code length
 abbrev pub SessionLaw : Type 0
 SessionLaw =
-    (fe il : Opening) (steps : List Step) → AreSteps (session fe il steps) nothing → SameCode fe il → AllCarried steps (both_open fe il)
-    → AreTyped (events_of (session fe il steps)) → BothAgree (programs (session fe il steps) nothing).ils (programs (session fe il steps) nothing).fes
+    (fe il : StationOpening) (steps : List Step) → AreSteps (session fe il steps) no_programs → SameCode fe il → AllCarried steps (both_open fe il)
+    → AreTyped (events_of (session fe il steps)) → BothAgree (programs_after (session fe il steps) no_programs).ils (programs_after (session fe il steps) no_programs).fes

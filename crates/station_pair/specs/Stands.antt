@@ -4,8 +4,8 @@ use Rattle.octets.specs.Lists.{IsBeginning}
 use Rattle.pdi_session.specs.SessionStep.{Item}
 use Rattle.stack_end.specs.Datagrams.{sendings}
 use Rattle.stack_end.specs.Ends.{EndState}
-use Rattle.stack_end.specs.EndValue.{EndStands}
-use Rattle.end_for_callers.specs.Boxes.{Outgoing, Posted, new_outgoing, told_of}
+use Rattle.stack_end.specs.EndValue.{EndRepresents}
+use Rattle.end_for_callers.specs.Boxes.{DatagramQueue, Posted, new_outgoing, told_of}
 use Rattle.end_for_callers.specs.Calls.{outbox_of}
 use Rattle.stack_engine.specs.Headline.{put_at, taken_at}
 use Rattle.stack_engine.specs.Pairs.{World, ends_of}
@@ -16,11 +16,11 @@ abbrev pub seen_by : Held → List Item
 seen_by h = h.given ++ h.station.inbox.queue.waiting
 
 -- nothing was sent
-abbrev pub nothing_sent : Outgoing
+abbrev pub nothing_sent : DatagramQueue
 nothing_sent = new_outgoing 0
 
 -- everything sent, as if `next_datagram` had not removed it
-abbrev pub all_sent : Held → Outgoing
+abbrev pub all_sent : Held → DatagramQueue
 all_sent h =
     let o = outbox_of h.station in
     record o { queue = record { waiting = h.pulled ++ o.queue.waiting; places = o.queue.places; room = o.queue.room } }
@@ -28,7 +28,7 @@ all_sent h =
 -- a station represents an end of a pair
 pub record HeldStands (h : Held) (x : EndState) : Type 0 where
   -- its end represents that end
-  pub end : EndStands told_of h.station.end x
+  pub end : EndRepresents told_of h.station.end x
   -- it has the time of that end
   pub time : h.station.time ≡ x.time
   -- its program put what was put there

@@ -1,13 +1,13 @@
 -- Two programs, each with stations: their calls with results, and the events of a pair that these represent.
 use Rattle.std.specs.Prelude.{ℕ, ◌≤◌, Some, Result, Ok, Err, List, [], ◌∷◌, ◌++◌, take}
 use Rattle.pdi_session.specs.SessionStep.{Item}
-use Rattle.channels.specs.Told.{Sending}
-use Rattle.end_settings.specs.Configured.{settings_of, side_of}
+use Rattle.channels.specs.ChannelHistory.{SentDatagram}
+use Rattle.end_settings.specs.ConfigValue.{settings_of, side_of}
 use Rattle.end_settings.specs.declared.EndConfig.{EndConfig}
 use Rattle.end_settings.specs.declared.Side.{Side}
 use Rattle.end_settings.specs.declared.Side.TheVariants.{Interlocking, FieldElement}
 use Rattle.stack_end.specs.Ends.{Call}
-use Rattle.end_for_callers.specs.Answered.{IsAnswered, IsOpened, IsPulled, IsTaken, Pop}
+use Rattle.end_for_callers.specs.CallResults.{IsAnswered, IsOpened, IsPulled, IsTaken, Pop}
 use Rattle.end_for_callers.specs.Calls.{StationValue}
 use Rattle.end_for_callers.specs.declared.CallFault.{CallFault}
 use Rattle.end_for_callers.specs.declared.Outcome.{Outcome}
@@ -29,7 +29,7 @@ pub record Held : Type 0 where
   pub station : StationValue  -- as the last call left it
   pub put : List Item  -- the telegrams put, in order
   pub given : List Item  -- the telegrams that `take` returned, in order
-  pub pulled : List Sending  -- the datagrams that `next_datagram` returned, with their channels, in order
+  pub pulled : List SentDatagram  -- the datagrams that `next_datagram` returned, with their channels, in order
 
 -- the stations of both sides, the latest first; a program calls the latest of its side
 pub record Programs : Type 0 where
@@ -37,8 +37,8 @@ pub record Programs : Type 0 where
   pub fes : List Held  -- those of the field element
 
 -- no station has been opened
-abbrev pub nothing : Programs
-nothing = record { ils = []; fes = [] }
+abbrev pub no_programs : Programs
+no_programs = record { ils = []; fes = [] }
 
 -- the stations of a side
 abbrev pub stations_of : Side → Programs → List Held
@@ -83,13 +83,13 @@ add_opened (Ok s) hs = new_held s ∷ hs
 add_opened (Err f) hs = hs
 
 -- a station after a call, with what was put, given and pulled
-abbrev pub called : StationValue → (put given : List Item) → (pulled : List Sending) → Held → Held
-called t put given pulled h = record { station = t; put = h.put ++ put; given = h.given ++ given; pulled = h.pulled ++ pulled }
+abbrev pub after_call : StationValue → (put given : List Item) → (pulled : List SentDatagram) → Held → Held
+after_call t put given pulled h = record { station = t; put = h.put ++ put; given = h.given ++ given; pulled = h.pulled ++ pulled }
 
 -- the latest station after a call
-abbrev pub goes_on : StationValue → (put given : List Item) → (pulled : List Sending) → List Held → List Held
+abbrev pub goes_on : StationValue → (put given : List Item) → (pulled : List SentDatagram) → List Held → List Held
 goes_on t put given pulled [] = []
-goes_on t put given pulled (h ∷ before) = called t put given pulled h ∷ before
+goes_on t put given pulled (h ∷ before) = after_call t put given pulled h ∷ before
 
 -- both programs after a step
 abbrev pub held_after : Step → Programs → Programs
@@ -104,9 +104,9 @@ AreSteps [] p = Unit {0}
 AreSteps (x ∷ xs) p = IsStep x p × AreSteps xs (held_after x p)
 
 -- both programs after a list of steps
-abbrev pub programs : List Step → Programs → Programs
-programs [] p = p
-programs (x ∷ xs) p = programs xs (held_after x p)
+abbrev pub programs_after : List Step → Programs → Programs
+programs_after [] p = p
+programs_after (x ∷ xs) p = programs_after xs (held_after x p)
 
 -- the time is not before that of the side's last call
 abbrev pub IsLater : ℕ → List Held → Type 0

@@ -2,11 +2,12 @@
 
 ghost use Rattle.std.specs.Prelude.{IfOk, MatchResult};
 ghost use Rattle.stack_engine.specs.Events.{call_of};
-ghost use Rattle.end_for_callers.specs.Answered.{IsAnswered, IsOpened, IsPulled, IsTaken};
+ghost use Rattle.end_for_callers.specs.CallResults.{IsAnswered, IsOpened, IsPulled, IsTaken};
 
 use end_for_callers::{CallFault, Outcome, Rooms, Station, StationFault, TooSmall};
 use end_settings::{EndConfig, Side};
 use octets::Milliseconds;
+use pdi_session::MessageType;
 use stack_engine::Call;
 use std::alloc::Global;
 
@@ -54,7 +55,10 @@ pub fn call(station: &mut Station, call: &Call<'_>, now: Milliseconds) -> Result
 /// # Errors
 ///
 /// - `TooSmall` if the buffer is shorter than the telegram's payload.
-pub fn take(station: &mut Station, buffer: &mut [u8]) -> Result<Option<(u16, usize)>, TooSmall>
+pub fn take(
+    station: &mut Station,
+    buffer: &mut [u8],
+) -> Result<Option<(MessageType, usize)>, TooSmall>
     // `take` is a step that the laws allow: it removes at most the oldest telegram, and changes nothing else of the
     // station.
     ensures { IsTaken buffer.old result buffer.new station.old station.new }

@@ -1,2 +1,2 @@
-mod Asking
-mod Binding
+mod SocketLemmas
+mod BindLemmas

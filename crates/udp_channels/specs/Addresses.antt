@@ -8,13 +8,13 @@ use Rattle.udp_channels.specs.declared.udp.UdpFault.{UdpFault}
 use Rattle.udp_channels.specs.declared.udp.UdpFault.TheVariants.{Lists, Memory, Address, Bind, Wait}
 
 -- the texts of a channel's own address and of its peer's spell these addresses
-abbrev pub Spells : (own peer : List ℕ) → Addresses → Type 0
-Spells own peer a = IsSocketText own a.own × IsSocketText peer a.peer
+abbrev pub SpellsAddresses : (own peer : List ℕ) → Addresses → Type 0
+SpellsAddresses own peer a = IsSocketText own a.own × IsSocketText peer a.peer
 
 -- the texts of each channel spell its addresses, in order
 abbrev pub AreSpelled : (own peer : List (List ℕ)) → List Addresses → Type 0
 AreSpelled [] [] all = all ≡ []
-AreSpelled (x ∷ own) (y ∷ peer) all = (a : Addresses) × (rest : List Addresses) × (all ≡ a ∷ rest) × Spells x y a × AreSpelled own peer rest
+AreSpelled (x ∷ own) (y ∷ peer) all = (a : Addresses) × (rest : List Addresses) × (all ≡ a ∷ rest) × SpellsAddresses x y a × AreSpelled own peer rest
 AreSpelled [] (y ∷ peer) all = ⊥
 AreSpelled (x ∷ own) [] all = ⊥
 
@@ -28,7 +28,7 @@ IsUnreadAt channel own peer why =
 -- address
 abbrev pub IsUnread : ℕ → (own peer : List (List ℕ)) → UdpFault → Type 0
 IsUnread channel (x ∷ own) (y ∷ peer) why =
-    (why ≡ Memory) ⊎ (IsUnreadAt channel x y why ⊎ (((a : Addresses) × Spells x y a) × IsUnread (channel + 1) own peer why))
+    (why ≡ Memory) ⊎ (IsUnreadAt channel x y why ⊎ (((a : Addresses) × SpellsAddresses x y a) × IsUnread (channel + 1) own peer why))
 IsUnread channel [] peer why = ⊥
 IsUnread channel (x ∷ own) [] why = ⊥
 

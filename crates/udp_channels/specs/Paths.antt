@@ -20,9 +20,9 @@ abbrev pub fault_of : Error → CallFault
 fault_of error = record { error = raw_os_error error }
 
 -- a send of a datagram of this size succeeds if the system took all of it
-abbrev pub sent_whole : Result ℕ Error → ℕ → Result (Unit {0}) CallFault
-sent_whole (Ok size) whole = if size == whole then Ok tt else Err (record { error = None })
-sent_whole (Err why) whole = Err (fault_of why)
+abbrev pub whole_send_result : Result ℕ Error → ℕ → Result (Unit {0}) CallFault
+whole_send_result (Ok size) whole = if size == whole then Ok tt else Err (record { error = None })
+whole_send_result (Err why) whole = Err (fault_of why)
 
 -- a send on a path
 pub record SendsToPeer {T : Type 0} (sends_to : T → List ℕ → SocketAddr → Result ℕ Error → T → Type 0) (path : Path T) (datagram : List ℕ) (sent : Result (Unit {0}) CallFault) (left : Path T) : Type 0 where
@@ -31,7 +31,7 @@ pub record SendsToPeer {T : Type 0} (sends_to : T → List ℕ → SocketAddr �
   -- its socket makes one call, with the datagram and the peer's address
   pub call : sends_to path.socket datagram path.addresses.peer given left.socket
   -- it succeeds if and only if the system takes the whole datagram, and its fault is that of the system's error
-  pub whole : sent ≡ sent_whole given (length datagram)
+  pub whole : sent ≡ whole_send_result given (length datagram)
   -- the addresses stay
   pub addresses : left.addresses ≡ path.addresses
 

@@ -1,7 +1,7 @@
 -- Channels over sockets: what a send and a reception do to the channels, and what contracts know of them.
 use Rattle.std.specs.Prelude.{◌≡◌, ℕ, ◌+◌, ◌-◌, ◌%◌, ◌^◌, ◌≤◌, ◌==◌, ◌&&◌, ◌⊎◌, Bool, true, false, nat_le, if◌then◌else◌, Option, None, Some, option_map, Result, Ok, Err, is_ok, List, [], ◌∷◌, length, take, drop, slice_get, slice_set}
 use Rattle.octets.specs.declared.limits.TheConstants.{CHANNELS_MAX}
-use Rattle.channels.specs.Told.{Answer, ChannelHistory}
+use Rattle.channels.specs.ChannelHistory.{Answer, ChannelHistory}
 use Rattle.channels.specs.declared.ChannelFault.{ChannelFault}
 use Rattle.channels.specs.declared.ChannelFault.TheVariants as fault
 use Rattle.udp_channels.specs.declared.sockets.CallFault.{CallFault}
@@ -16,7 +16,7 @@ pub record ChannelState (S : Type 0) : Type 0 where
   pub failures : Failures
 
 -- the channels, that of number 1 first, the number of the one that gave the last datagram (0 before the first), and the counts, modulo 2^64
-pub record Kept (S : Type 0) : Type 0 where
+pub record SocketsState (S : Type 0) : Type 0 where
   pub channels : List (ChannelState S)
   pub last : ℕ
   pub failed_sends : ℕ
@@ -24,33 +24,33 @@ pub record Kept (S : Type 0) : Type 0 where
   pub received : ℕ
 
 -- no call of a kind has failed
-abbrev pub none_failed : FailedCalls
-none_failed = record { count = 0; last = None }
+abbrev pub no_failed_calls : FailedCalls
+no_failed_calls = record { count = 0; last = None }
 
 -- the failures of a channel on which nothing has failed
 abbrev pub no_failures : Failures
-no_failures = record { sends = none_failed; receives = none_failed }
+no_failures = record { sends = no_failed_calls; receives = no_failed_calls }
 
 -- one more call has failed: it is counted, and its cause is the last one
 abbrev pub one_more : CallFault → FailedCalls → FailedCalls
 one_more why calls = record { count = (calls.count + 1) % 2 ^ 64; last = Some why }
 
 -- the calls that failed after one more call, which failed for this cause, if it did
-abbrev pub failed_after : Option CallFault → FailedCalls → FailedCalls
-failed_after None calls = calls
-failed_after (Some why) calls = one_more why calls
+abbrev pub count_call : Option CallFault → FailedCalls → FailedCalls
+count_call None calls = calls
+count_call (Some why) calls = one_more why calls
 
 -- a channel on which nothing has failed
 abbrev pub new_channel : {S : Type 0} → S → ChannelState S
 new_channel socket = record { socket = socket; failures = no_failures }
 
 -- channels that were not used yet
-abbrev pub new_kept : {S : Type 0} → List (ChannelState S) → Kept S
-new_kept channels = record { channels = channels; last = 0; failed_sends = 0; failed_receives = 0; received = 0 }
+abbrev pub new_sockets_state : {S : Type 0} → List (ChannelState S) → SocketsState S
+new_sockets_state channels = record { channels = channels; last = 0; failed_sends = 0; failed_receives = 0; received = 0 }
 
 -- the state as contracts of `Channels` see it: only the failures are known, not what a socket sends or delivers
-abbrev pub told_of : {S : Type 0} → Kept S → ChannelHistory
-told_of c =
+abbrev pub history_of : {S : Type 0} → SocketsState S → ChannelHistory
+history_of c =
     record {
       sent = None;
       answers = None;
@@ -67,10 +67,10 @@ octets_of Nothing buffer = []
 octets_of (Refused why) buffer = []
 
 -- a datagram received is not longer than the buffer
-abbrev pub Fits : Reception → ℕ → Type 0
-Fits (Came size) room = size ≤ room
-Fits Nothing room = Unit {0}
-Fits (Refused why) room = Unit {0}
+abbrev pub FitsBuffer : Reception → ℕ → Type 0
+FitsBuffer (Came size) room = size ≤ room
+FitsBuffer Nothing room = Unit {0}
+FitsBuffer (Refused why) room = Unit {0}
 
 -- why a socket did not accept a datagram, if it did not
 abbrev pub send_fault : Result (Unit {0}) CallFault → Option CallFault
@@ -96,7 +96,7 @@ pub record IsSent {S : Type 0} (sends : S → List ℕ → Result (Unit {0}) Cal
   -- the socket makes one send of the datagram, and accepts it or not
   pub sent : sends before.socket datagram given after.socket
   -- a datagram that it does not accept adds 1 to this channel's failed sends, with its cause
-  pub failures : after.failures ≡ record { sends = failed_after (send_fault given) before.failures.sends; receives = before.failures.receives }
+  pub failures : after.failures ≡ record { sends = count_call (send_fault given) before.failures.sends; receives = before.failures.receives }
 
 -- a send on a channel: only this channel changes, and it makes the send
 pub record SendsOn {S : Type 0} (sends : S → List ℕ → Result (Unit {0}) CallFault → S → Type 0) (channel : ℕ) (datagram : List ℕ) (went : Bool) (before after : List (ChannelState S)) : Type 0 where
@@ -114,7 +114,7 @@ pub record IsAsked {S : Type 0} (receives : S → ℕ → Reception → List ℕ
   -- the socket makes one reception with this result and these bytes
   pub received : receives before.socket room reception octets after.socket
   -- a refusal adds 1 to this channel's failed receptions, with its cause
-  pub failures : after.failures ≡ record { sends = before.failures.sends; receives = failed_after (receive_fault reception) before.failures.receives }
+  pub failures : after.failures ≡ record { sends = before.failures.sends; receives = count_call (receive_fault reception) before.failures.receives }
 
 -- the result of several channels if one more of them has nothing
 abbrev pub unless_failed : Result (Option (ℕ × ℕ)) ChannelFault → Result (Option (ℕ × ℕ)) ChannelFault
@@ -128,25 +128,25 @@ or_none (x ∷ xs) = x ∷ xs
 
 -- channels are asked in order, the first as the one of this number, until one gives a datagram; later ones are not asked. The answer is that
 -- datagram; None if no channel gives one and at least one has nothing; and no answer if all refuse
-abbrev pub Asks : {S : Type 0} → (S → ℕ → Reception → List ℕ → S → Type 0) → (room channel : ℕ) → List Answer → (before after : List (ChannelState S)) → Type 0
-Asks receives room channel answers [] after = (answers ≡ []) × (after ≡ [])
-Asks {S} receives room channel answers (asked ∷ others) after =
+abbrev pub AsksChannels : {S : Type 0} → (S → ℕ → Reception → List ℕ → S → Type 0) → (room channel : ℕ) → List Answer → (before after : List (ChannelState S)) → Type 0
+AsksChannels receives room channel answers [] after = (answers ≡ []) × (after ≡ [])
+AsksChannels {S} receives room channel answers (asked ∷ others) after =
     (left : ChannelState S) × (rest : List (ChannelState S)) × (after ≡ left ∷ rest)
     × (((size : ℕ) × (octets : List ℕ) × IsAsked receives room (Came size) octets asked left × (answers ≡ Some (channel, octets) ∷ []) × (rest ≡ others))
-    ⊎ (((later : List Answer) × IsAsked receives room Nothing [] asked left × Asks receives room (channel + 1) later others rest × (answers ≡ or_none later))
-    ⊎ ((why : CallFault) × IsAsked receives room (Refused why) [] asked left × Asks receives room (channel + 1) answers others rest)))
+    ⊎ (((later : List Answer) × IsAsked receives room Nothing [] asked left × AsksChannels receives room (channel + 1) later others rest × (answers ≡ or_none later))
+    ⊎ ((why : CallFault) × IsAsked receives room (Refused why) [] asked left × AsksChannels receives room (channel + 1) answers others rest)))
 
 -- after these answers of the later channels, those from channel 1 on are asked, unless a datagram was given
-abbrev pub AsksThen : {S : Type 0} → (S → ℕ → Reception → List ℕ → S → Type 0) → ℕ → (later answers : List Answer) → (before after : List (ChannelState S)) → Type 0
-AsksThen receives room [] answers before after = Asks receives room 1 answers before after
-AsksThen receives room (None ∷ xs) answers before after = (earlier : List Answer) × Asks receives room 1 earlier before after × (answers ≡ or_none earlier)
-AsksThen receives room (Some x ∷ xs) answers before after = (answers ≡ Some x ∷ []) × (after ≡ before)
+abbrev pub AsksLaterChannels : {S : Type 0} → (S → ℕ → Reception → List ℕ → S → Type 0) → ℕ → (later answers : List Answer) → (before after : List (ChannelState S)) → Type 0
+AsksLaterChannels receives room [] answers before after = AsksChannels receives room 1 answers before after
+AsksLaterChannels receives room (None ∷ xs) answers before after = (earlier : List Answer) × AsksChannels receives room 1 earlier before after × (answers ≡ or_none earlier)
+AsksLaterChannels receives room (Some x ∷ xs) answers before after = (answers ≡ Some x ∷ []) × (after ≡ before)
 
 -- the channels are asked in a circle: first those after the one that gave the last datagram, then the others
 abbrev pub AsksAround : {S : Type 0} → (S → ℕ → Reception → List ℕ → S → Type 0) → (room last : ℕ) → List Answer → (before after : List (ChannelState S)) → Type 0
 AsksAround receives room last answers before after =
-    (later : List Answer) × Asks receives room (last + 1) later (drop last before) (drop last after)
-    × AsksThen receives room later answers (take last before) (take last after)
+    (later : List Answer) × AsksChannels receives room (last + 1) later (drop last before) (drop last after)
+    × AsksLaterChannels receives room later answers (take last before) (take last after)
 
 -- the number of the channel that gave the last datagram, after a reception
 abbrev pub last_after : Result (Option (ℕ × ℕ)) ChannelFault → ℕ → ℕ
@@ -155,10 +155,10 @@ last_after (Ok None) last = last
 last_after (Err why) last = last
 
 -- the count of datagrams after a reception, modulo 2^64
-abbrev pub received_after : Result (Option (ℕ × ℕ)) ChannelFault → ℕ → ℕ
-received_after (Ok (Some _)) n = (n + 1) % 2 ^ 64
-received_after (Ok None) n = n
-received_after (Err _) n = n
+abbrev pub received_count_after : Result (Option (ℕ × ℕ)) ChannelFault → ℕ → ℕ
+received_count_after (Ok (Some _)) n = (n + 1) % 2 ^ 64
+received_count_after (Ok None) n = n
+received_count_after (Err _) n = n
 
 -- a remote address for each local one, of 1 to 4
 abbrev pub are_paired : {T : Type 0} → List T → List T → Bool

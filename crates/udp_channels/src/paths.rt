@@ -3,7 +3,7 @@
 ghost use Rattle.std.specs.Prelude.{◌≡◌, ◌≤◌, ℕ, List, Result, length, IfOk};
 ghost use Rattle.std.specs.declared.io.Error.{Error};
 ghost use Rattle.std.specs.declared.net.socket_addr.SocketAddr.{SocketAddr};
-ghost use Rattle.udp_channels.specs.Paths.{IsReception, ReceivesFromAny, SendsToPeer, fault_of, given_octets, sent_whole};
+ghost use Rattle.udp_channels.specs.Paths.{IsReception, ReceivesFromAny, SendsToPeer, fault_of, given_octets, whole_send_result};
 
 use crate::sockets::{CallFault, Reception, Socket};
 use mio::net::UdpSocket;
@@ -126,7 +126,7 @@ impl<T: UdpCalls> Socket for UdpPath<T> {
     /// Sends it to the peer's address. A datagram that the system accepts only in part is lost.
     fn send(&mut self, datagram: &[u8]) -> Result<(), CallFault> {
         let taken = self.socket.send_to(datagram, self.addresses.peer);
-        sent(taken, datagram.len())
+        result_of_send(taken, datagram.len())
     }
 
     fn receive(&mut self, buffer: &mut [u8]) -> Reception {
@@ -135,9 +135,9 @@ impl<T: UdpCalls> Socket for UdpPath<T> {
 }
 
 /// Returns whether the system took a whole datagram of this size, by what it gave.
-fn sent(given: io::Result<usize>, whole: usize) -> Result<(), CallFault>
-    // `sent` succeeds if and only if the system took so many bytes; the fault has the number of the system's error.
-    ensures { result ≡ sent_whole given whole }
+fn result_of_send(given: io::Result<usize>, whole: usize) -> Result<(), CallFault>
+    // `result_of_send` succeeds if and only if the system took so many bytes; the fault has the number of the system's error.
+    ensures { result ≡ whole_send_result given whole }
 {
     match given {
         Ok(size) if size == whole => Ok(()),

@@ -2,8 +2,8 @@
 //! test can replace it. The calls themselves are trusted.
 
 ghost use Rattle.std.specs.Prelude.{◌≡◌, ◌+◌, ◌^◌, ◌<◌, ◌≤◌, ℕ, Result, false, List, Err, length, is_ok, IfErr, IfOk, IfSome};
-ghost use Rattle.channels.specs.Told.{Sends, after_receive, answers_of};
-ghost use Rattle.udp_channels.specs.Sockets.{Asks, AsksAround, Fits, IsAsked, IsSent, SendsOn, failures_of, fault_on, last_after, new_channel, new_kept, no_failures, octets_of, one_more, received_after, told_of, unless_failed};
+ghost use Rattle.channels.specs.ChannelHistory.{Sends, after_receive, answers_of};
+ghost use Rattle.udp_channels.specs.Sockets.{AsksChannels, AsksAround, FitsBuffer, IsAsked, IsSent, SendsOn, failures_of, fault_on, last_after, new_channel, new_sockets_state, no_failures, octets_of, one_more, received_count_after, history_of, unless_failed};
 ghost use Rattle.channels.specs.declared.ChannelFault.TheVariants as channel_fault;
 ghost use Rattle.udp_channels.specs.declared.sockets.CallFault.{CallFault};
 ghost use Rattle.udp_channels.specs.declared.sockets.Reception.{Reception};
@@ -56,7 +56,7 @@ pub trait Socket {
         // and the bytes received.
         ensures gives { receives self.old (length buffer.old) result (octets_of result buffer.new) self.new }
         // A datagram received has at most the length of the buffer.
-        ensures fits { Fits result (length buffer.old) };
+        ensures fits { FitsBuffer result (length buffer.old) };
 }
 
 /// The calls of one kind that failed on one channel.
@@ -155,7 +155,7 @@ impl<S: Socket> SocketChannel<S> {
         // The socket makes one reception, and this channel counts a refusal with its cause.
         ensures asked { IsAsked S.receives (length buffer.old) result (octets_of result buffer.new) self.old self.new }
         // What the socket gives has at most the length of the buffer.
-        ensures fits { Fits result (length buffer.old) }
+        ensures fits { FitsBuffer result (length buffer.old) }
     {
         let reception = self.socket.receive(buffer);
         if let Reception::Refused(why) = reception {
@@ -183,9 +183,9 @@ pub struct SocketChannels<S, A: Allocator = Global> {
 
 impl<S, A: Allocator> Model for SocketChannels<S, A> {
     ghost use Rattle.std.specs.Prelude.{◌≤◌, length};
-    ghost use Rattle.udp_channels.specs.Sockets.{Kept};
+    ghost use Rattle.udp_channels.specs.Sockets.{SocketsState};
 
-    ghost Value = { Kept S };
+    ghost Value = { SocketsState S };
 
     ghost view = { λ c. record {
       channels = c.list.items;
@@ -202,7 +202,7 @@ impl<S, A: Allocator> SocketChannels<S, A> {
     /// Combines channels, that of number 1 first, with all counts 0.
     pub fn over(channels: Vec<SocketChannel<S>, A>) -> Self
         // The channels are the ones given, in order; none has given a datagram, and all counts are 0.
-        ensures { result ≡ new_kept channels.items }
+        ensures { result ≡ new_sockets_state channels.items }
     {
         SocketChannels {
             list: channels,
@@ -238,7 +238,7 @@ impl<S, A: Allocator> SocketChannels<S, A> {
 }
 
 impl<S: Socket, A: Allocator> Channels for SocketChannels<S, A> {
-    ghost told = { told_of };
+    ghost told = { history_of };
 
     /// Sends the datagram once on the channel's own socket.
     ///
@@ -248,7 +248,7 @@ impl<S: Socket, A: Allocator> Channels for SocketChannels<S, A> {
     /// - `System` if the socket does not accept the datagram.
     fn send(&mut self, channel: usize, datagram: &[u8]) -> Result<(), ChannelFault>
         // As seen by the contract of `Channels`, `send` counts a failure and changes nothing else.
-        ensures told { Sends (is_ok result) (told_of self.old) (channel, datagram.now) (told_of self.new) }
+        ensures told { Sends (is_ok result) (history_of self.old) (channel, datagram.now) (history_of self.new) }
         // The channel's own socket gets the datagram once, and this channel counts a failure with its cause. No
         // other channel changes. `send` succeeds if and only if the socket accepts it; without such a channel
         // nothing is sent.
@@ -279,7 +279,7 @@ impl<S: Socket, A: Allocator> Channels for SocketChannels<S, A> {
         // The size of a datagram that a socket gave is at most the length of the buffer.
         ensures fits { IfOk result (λ came. IfSome came (λ p. p.1 ≤ length buffer.new)) }
         // As seen by the contract of `Channels`, `receive` counts a failure and changes nothing else.
-        ensures told { told_of self.new ≡ after_receive result buffer.new (told_of self.old) }
+        ensures told { history_of self.new ≡ after_receive result buffer.new (history_of self.old) }
         // The channels are asked in a circle, from the one after the channel that gave the last datagram on, until
         // one gives a datagram, which is returned with its number. One that refuses counts it and stops nothing.
         // `receive` fails if and only if all refuse.
@@ -287,7 +287,7 @@ impl<S: Socket, A: Allocator> Channels for SocketChannels<S, A> {
         // A channel that gave a datagram is the last one that did; otherwise that does not change.
         ensures last { self.new.last ≡ last_after result self.old.last }
         // The count of datagrams received grows by 1, modulo 2^64, if and only if a datagram is returned.
-        ensures received { self.new.received ≡ received_after result self.old.received }
+        ensures received { self.new.received ≡ received_count_after result self.old.received }
         // The only fault of `receive` is `System`.
         ensures fault { IfErr result (λ why. why ≡ channel_fault.System) }
     {
@@ -366,7 +366,7 @@ fn ask<S: Socket>(
     requires { first + length list.old < 2 ^ 64 }
     // `ask` asks the channels in order until one gives a datagram, which is returned with its number. One that
     // refuses counts it and stops nothing. `ask` fails if and only if all refuse.
-    ensures asked { Asks S.receives (length buffer.old) first (answers_of result buffer.new) list.old list.new }
+    ensures asked { AsksChannels S.receives (length buffer.old) first (answers_of result buffer.new) list.old list.new }
     // The size that `ask` returns is at most the length of the buffer.
     ensures fits { IfOk result (λ came. IfSome came (λ p. p.1 ≤ length buffer.new)) }
     // The channel that `ask` returns is one of the list.

@@ -2,10 +2,10 @@
 
 ghost use Rattle.std.specs.Prelude.{◌≡◌, ◌≢◌, ◌+◌, ◌^◌, ◌<◌, ◌++◌, false, true, List, Err, length, map, IfErr, IfOk, MatchOption};
 ghost use Rattle.std.specs.Net.Grammar.{IsSocketText};
-ghost use Rattle.udp_channels.specs.Sockets.{ChannelState, are_paired, new_kept};
+ghost use Rattle.udp_channels.specs.Sockets.{ChannelState, are_paired, new_sockets_state};
 ghost use Rattle.udp_channels.specs.Paths.{AreBound, Path};
 ghost use Rattle.udp_channels.specs.declared.paths.Addresses.{Addresses};
-ghost use Rattle.udp_channels.specs.Addresses.{AreSpelled, IsRefusal, IsRefusedAt, IsUnbound, IsUnread, IsUnreadAt, Spells};
+ghost use Rattle.udp_channels.specs.Addresses.{AreSpelled, IsRefusal, IsRefusedAt, IsUnbound, IsUnread, IsUnreadAt, SpellsAddresses};
 
 use crate::paths::{Addresses, UdpCalls, UdpPath};
 use crate::sockets::{SocketChannel, SocketChannels};
@@ -80,7 +80,7 @@ pub fn open_udp<N: Net, S: AsStr, A: Allocator + Copy>(
     ensures opened { IfOk result (λ c. (all : List Addresses) × AreSpelled (map S.text local.now) (map S.text remote.now) all
         × AreBound ⟦<UdpSocket as UdpCalls>⟧.is_bound all c.channels) }
     // No opened channel has given a datagram, and all counts are 0.
-    ensures counts { IfOk result (λ c. c ≡ new_kept c.channels) }
+    ensures counts { IfOk result (λ c. c ≡ new_sockets_state c.channels) }
     // If the lists do not have the same length from 1 to 4, the fault is `Lists`.
     ensures lists { are_paired local.now remote.now ≡ false → result ≡ Err UdpFault.Lists }
     // With paired lists, the fault is `Memory`, `Address` with a bad text of the first channel that has
@@ -210,7 +210,7 @@ fn list_addresses<S: AsStr, A: Allocator>(
 /// Returns the addresses of one channel.
 fn addresses_of<S: AsStr>(own: &S, peer: &S, channel: usize) -> Result<Addresses, UdpFault>
     // If `addresses_of` succeeds, both texts spell the returned addresses.
-    ensures ok { IfOk result (Spells (S.text own.now) (S.text peer.now)) }
+    ensures ok { IfOk result (SpellsAddresses (S.text own.now) (S.text peer.now)) }
     // The fault of `addresses_of` is `Address` with the channel and the side of a text that is not an
     // address.
     ensures refused { IfErr result (IsUnreadAt channel (S.text own.now) (S.text peer.now)) }

@@ -1,6 +1,6 @@
 use Rattle.std.proofs.Common.{◌≡◌, ℕ, ◌+◌, ◌-◌, ◌*◌, ◌/◌, length, drop, arith, sym, ap, ◌∙◌}
 use Rattle.std.proofs.lemmas.List.{take_rest}
-use Rattle.md4.proofs.Feeding.{words_after, words_after-next}
+use Rattle.md4.proofs.Pieces.{words_after, words_after-next}
 use Rattle.md4.proofs.Whole.{digest_by_one, digest_by_two}
 use Rattle.md4.proofs.digest_words.Goals as goal
 

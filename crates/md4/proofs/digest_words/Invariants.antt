@@ -1,5 +1,5 @@
 use Rattle.std.proofs.Common.{◌≡◌}
-use Rattle.md4.proofs.Feeding.{words_after}
+use Rattle.md4.proofs.Pieces.{words_after}
 use Rattle.md4.proofs.digest_words.Given as goal
 
 -- the words have taken in the blocks so far

@@ -12,7 +12,7 @@ use Rattle.pdi_session.specs.Tables.{at_up, field_up, table}
 use Rattle.pdi_session.specs.SessionStep.{Event, Up, Arrives, Puts, InitDone, Closes, SessionState, added_by, at_init_done, init_refusal, phase_after, phase_by, sent_by}
 use Rattle.pdi_session.specs.Histories.{History, add_event, is_ended}
 use Rattle.pdi_session.specs.Laws.{completions, is_established, was_established}
-use Rattle.pdi_session.specs.JoinedSessions.{AtFe, AtIl, InStepLaw, Joined, JoinedEvent, apply_events, apply_event, new_sessions}
+use Rattle.pdi_session.specs.JoinedSessions.{AtFe, AtIl, InStepLaw, SessionPair, PairEvent, apply_events, apply_event, new_sessions}
 use Rattle.pdi_session.proofs.one.TableLemmas.{by_cond}
 use Rattle.pdi_session.proofs.one.Rows.{FieldRow, FeOver, FeEqual, FeDiffers, FeAsked, FeCommand, field_row}
 use Rattle.pdi_session.proofs.one.Shapes.{FeAt, IlAt, base, completions-append}
@@ -73,7 +73,7 @@ said_grows versions checksum e y role h =
           (was-split y.phases (phase_after e y.state) was);
     }
 
-said_along : (versions checksum : List ℕ) (es : List JoinedEvent) (j : Joined) → j.fe.state.role ≡ Field versions checksum → Said j.fe → Said (apply_events es j).fe
+said_along : (versions checksum : List ℕ) (es : List PairEvent) (j : SessionPair) → j.fe.state.role ≡ Field versions checksum → Said j.fe → Said (apply_events es j).fe
 said_along versions checksum [] j role h = h
 said_along versions checksum (AtIl e ∷ es) j role h = said_along versions checksum es (apply_event (AtIl e) j) role h
 said_along versions checksum (AtFe e ∷ es) j role h = said_along versions checksum es (apply_event (AtFe e) j) role (said_grows versions checksum e j.fe role h)
@@ -150,7 +150,7 @@ module _ (version : ℕ) (x y : History) (said : Said y) (il-all : x.judged ≡ 
 
 pub in_step_law : InStepLaw
 in_step_law il fe version versions checksum short es turn run_il run_fe il_all fe_all =
-    let end : Joined = apply_events es (new_sessions il version fe versions checksum) in
+    let end : SessionPair = apply_events es (new_sessions il version fe versions checksum) in
     let b : Both version versions checksum end.il end.fe = both_after il fe version versions checksum short es turn in
     let said : Said end.fe = said_along versions checksum es (new_sessions il version fe versions checksum) refl (record { now = λ is. absurd (false≢true is); some = λ was. absurd (false≢true was) }) in
     by_phase version end.il end.fe said il_all fe_all end.il.state.phase end.fe.state.phase b.joint.il_at b.joint.fe_at refl run_il.begun run_il.unended run_fe.begun run_fe.unended

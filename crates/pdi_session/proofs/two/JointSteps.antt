@@ -18,7 +18,7 @@ use Rattle.pdi_session.specs.Tables.{at_up, is_early, is_initialising, may_put, 
 use Rattle.pdi_session.specs.SessionStep.{Event, Up, Arrives, Puts, InitDone, Closes, SessionState, added_by, end_of, judge_telegram, phase_after, phase_by, sent_by}
 use Rattle.pdi_session.specs.Histories.{History, ends_by, add_event, add_events, handed_by, is_ended}
 use Rattle.pdi_session.specs.Laws.{items_of}
-use Rattle.pdi_session.specs.JoinedSessions.{AtFe, AtIl, EndsEarly, InTurn, IsNext, IsNextAt, Joined, JoinedEvent, OneMoreLaw, PhaseLaw, TakesFrontLaw, apply_events, apply_event, new_sessions}
+use Rattle.pdi_session.specs.JoinedSessions.{AtFe, AtIl, EndsEarly, InTurn, IsNext, IsNextAt, SessionPair, PairEvent, OneMoreLaw, PhaseLaw, TakesFrontLaw, apply_events, apply_event, new_sessions}
 use Rattle.pdi_session.proofs.one.TableLemmas.{by_cond}
 use Rattle.pdi_session.proofs.one.ItemLists.{PutIsQueue, Taken, begins_through, items_begin, phase_over, put_grows, taken_begun, taken_grows}
 use Rattle.pdi_session.proofs.one.Shapes.{FeAt, base, differs_from, equal_from, fe_past, il_past}
@@ -182,7 +182,7 @@ fe_event version versions checksum e x y next b =
           (λ phase is. phase_over e y.state (b.fe_over phase is));
     }
 
-both_along : (version : ℕ) (versions checksum : List ℕ) (es : List JoinedEvent) (j : Joined) → InTurn es j → Both version versions checksum j.il j.fe
+both_along : (version : ℕ) (versions checksum : List ℕ) (es : List PairEvent) (j : SessionPair) → InTurn es j → Both version versions checksum j.il j.fe
     → Both version versions checksum (apply_events es j).il (apply_events es j).fe
 both_along version versions checksum [] j turn b = b
 both_along version versions checksum (AtIl e ∷ es) j turn b =
@@ -225,7 +225,7 @@ both_joined il fe version versions checksum short =
     }
 
 -- and after all events
-pub both_after : (il fe : Addressing) (version : ℕ) (versions checksum : List ℕ) → length checksum ≤ CHECKSUM_MAX → (es : List JoinedEvent) → InTurn es (new_sessions il version fe versions checksum)
+pub both_after : (il fe : Addressing) (version : ℕ) (versions checksum : List ℕ) → length checksum ≤ CHECKSUM_MAX → (es : List PairEvent) → InTurn es (new_sessions il version fe versions checksum)
     → Both version versions checksum (apply_events es (new_sessions il version fe versions checksum)).il (apply_events es (new_sessions il version fe versions checksum)).fe
 both_after il fe version versions checksum short es turn =
     both_along version versions checksum es (new_sessions il version fe versions checksum) turn (both_joined il fe version versions checksum short)
@@ -240,7 +240,7 @@ takes_front h peer taken hears items =
 
 pub fronts_law : TakesFrontLaw
 fronts_law il fe version versions checksum short es turn =
-    let end : Joined = apply_events es (new_sessions il version fe versions checksum) in
+    let end : SessionPair = apply_events es (new_sessions il version fe versions checksum) in
     let b : Both version versions checksum end.il end.fe = both_after il fe version versions checksum short es turn in
     (takes_front end.il end.fe b.il_taken b.joint.il_hears b.fe_items, takes_front end.fe end.il b.fe_taken b.joint.fe_hears b.il_items)
 
@@ -249,11 +249,11 @@ grown_more : (es : List Event) (e : Event) (h : History) → add_events (es ++ e
 grown_more [] e h = refl
 grown_more (x ∷ es) e h = grown_more es e (add_event x h)
 
-happen_more : (es : List JoinedEvent) (e : JoinedEvent) (j : Joined) → apply_events (es ++ e ∷ []) j ≡ apply_event e (apply_events es j)
+happen_more : (es : List PairEvent) (e : PairEvent) (j : SessionPair) → apply_events (es ++ e ∷ []) j ≡ apply_event e (apply_events es j)
 happen_more [] e j = refl
 happen_more (x ∷ es) e j = happen_more es e (apply_event x j)
 
-turn_more : (es : List JoinedEvent) (e : JoinedEvent) (j : Joined) → InTurn es j → IsNextAt e (apply_events es j) → InTurn (es ++ e ∷ []) j
+turn_more : (es : List PairEvent) (e : PairEvent) (j : SessionPair) → InTurn es j → IsNextAt e (apply_events es j) → InTurn (es ++ e ∷ []) j
 turn_more [] e j turn next = (next, tt)
 turn_more (x ∷ es) e j turn next = (turn.0, turn_more es e (apply_event x j) turn.1 next)
 

@@ -3,13 +3,13 @@
 ghost use Rattle.std.specs.Prelude.{◌≡◌, ◌==◌, ◌<◌, ◌≤◌, ◌+◌, ◌↔◌, [], ◌∷◌, ◌++◌, not, length, take, drop, IsOk, IsNone, IsTrue, OnOk, OnErr, IfOk, IfSome, IsOkAnd};
 ghost use Rattle.arrayvec.specs.ArrayVec.{array_vec_len};
 ghost use Rattle.octets.specs.declared.limits.TheConstants.{UNIT_MAX, UNIT_MIN};
-ghost use Rattle.pdi_session.specs.Counted.{items_in};
+ghost use Rattle.pdi_session.specs.TelegramCounts.{items_in};
 ghost use Rattle.pdi_session.specs.packing.Ring.{IsMoved, IsRing, messages_from};
 ghost use Rattle.pdi_session.specs.packing.UnitText.{AreMessages, IsMessage, UnitText, messages_of};
 
 use super::unit::{put_message, unpack};
 use super::{Full, Messages, PackFault, Unit, WAITING_MAX};
-use crate::counting::is_item;
+use crate::counts::is_item;
 use arrayvec::ArrayVec;
 use octets::limits::{MESSAGE_LENGTH, MESSAGE_MAX, UNIT_MAX, UNIT_MESSAGES};
 use octets::rings::{next_place, place_at};

@@ -6,7 +6,7 @@ use Rattle.safe_machine.proofs.Words.{map-append, take_more, All-filter, slice_g
 use Rattle.safe_machine.proofs.Words.{Heartbeat, RetrData, RetrResp, Settings, Out, count_pdu, reply_turn, resend_turn, sending_turn, text_of, texts, AllUnits, take, ◌≢◌}
 use Rattle.safe_machine.proofs.Words.{Result, Ok, Err, if◌then◌else◌, SafeFault, Up, is_carrier_kind, State, new_state, cts_step, make_moves, IsReached, both_confirmed}
 use Rattle.safe_machine.proofs.Words.{decision_turn, move_past, take_unit_turn, kept_of, move_of, octets_units, units_of_move, safe_seen, HandsIf, IsNextData, IsRecent, rules}
-use Rattle.safe_machine.proofs.one.Deciding.{Fits, Tested}
+use Rattle.safe_machine.proofs.one.DecisionCounts.{Fits, Tested}
 use Rattle.safe_machine.specs.Turns.{next_made}
 use Rattle.safe_machine.proofs.one.Runs.{octets_of-append}
 

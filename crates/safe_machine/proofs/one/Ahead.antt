@@ -10,10 +10,10 @@ use Rattle.safe_machine.proofs.Words.{MaySend}
 use Rattle.safe_machine.proofs.Words.{turn}
 use Rattle.safe_machine.proofs.Words.{View, StandsFor, kept_of, false≢true}
 use Rattle.safe_machine.proofs.Words.{HasMade}
-use Rattle.safe_machine.proofs.one.Deciding.{Fits, decide-fits, confirmed-made, length-make, replied}
+use Rattle.safe_machine.proofs.one.DecisionCounts.{Fits, decide-fits, confirmed-made, length-make, replied}
 use Rattle.safe_machine.proofs.one.Runs.{quiet-cases, arrive-cases, when}
 use Rattle.safe_machine.proofs.one.Kept.{Anything, Kept, kept-decided}
-use Rattle.safe_machine.proofs.one.Turning.{turns_law_holds}
+use Rattle.safe_machine.proofs.one.TurnSteps.{turns_law_holds}
 
 -- More PDUs are made than confirmed.
 abbrev IsAhead : State → Type 0

@@ -10,8 +10,8 @@ use Rattle.safe_machine.proofs.Words.{ConnReq, respond, RequestsLaw, ◌⊎◌, 
 use Rattle.safe_machine.proofs.Words.{zero, suc, arith, drop, le-leb, leb-true, and_parts, UNIT_MIN, UNIT_MAX, Eight, HasNumbers, length-text, after_pdu}
 use Rattle.safe_machine.proofs.Words.{run_after, blank, is_legal, HasText, HaveTexts, IsUnitSized, AreSoundMoves, IsSoundMove, TextsLaw, HearsOwn, first_sent}
 use Rattle.safe_machine.proofs.Words.{handed_by, units_of_move, IsTakenBy}
-use Rattle.safe_machine.proofs.one.Deciding.{Fits, decide-fits}
-use Rattle.safe_machine.proofs.one.Turning.{arrive-is, opened-cases, send-is, tick-is}
+use Rattle.safe_machine.proofs.one.DecisionCounts.{Fits, decide-fits}
+use Rattle.safe_machine.proofs.one.TurnSteps.{arrive-is, opened-cases, send-is, tick-is}
 use Rattle.safe_machine.proofs.one.Runs.{heartbeat-cases, leave-cases}
 use Rattle.safe_machine.proofs.one.Runs.{guard-cases, unit-cases, send-cases, early-cases, units-append, legal, made-again, reply-connection, taken-move}
 use Rattle.safe_machine.proofs.one.Runs.{by_guard-cases, closed-move}

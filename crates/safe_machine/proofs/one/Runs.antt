@@ -21,7 +21,7 @@ pub use Rattle.safe_machine.proofs.one.Lists.{numbered-push, octets_of-append, o
 pub use Rattle.safe_machine.proofs.one.Lists.{reply-taken, requests, resend-confirmed, resend-connection, resend-expected, resend-settings}
 pub use Rattle.safe_machine.proofs.one.Lists.{resend-taken, resend-window, ring-confirm, ring-resend, ring-step, ring_of-units, room, run_after-append}
 pub use Rattle.safe_machine.proofs.one.Lists.{run_after-front, run_of-resume, split_at, turn-connected, turn-live, unit-cases, units-append}
-use Rattle.safe_machine.proofs.one.Turning.{leave-is, guard-is, arrive-is, tick-is, send-is}
+use Rattle.safe_machine.proofs.one.TurnSteps.{leave-is, guard-is, arrive-is, tick-is, send-is}
 
 -- The moves with a case split: what holds for each case holds for the move.
 

@@ -8,7 +8,7 @@ use Rattle.safe_machine.proofs.Words.{◌≢◌, drop-drop, Closed, next_made, m
 use Rattle.safe_machine.proofs.Words.{set_window, carry_out, respond, is_live}
 use Rattle.safe_machine.proofs.one.Runs.{units-append, Every, every-drop, every-from, at-length, ahead-up, ahead-next, every-at, numbered-at, every-drop_push}
 use Rattle.safe_machine.proofs.one.Runs.{unit-cases, opening_window}
-use Rattle.safe_machine.proofs.two.Timing.{at-append, Timed, Coming, basis, Rises, behind_of, arrival-coming}
+use Rattle.safe_machine.proofs.two.Times.{at-append, Timed, Coming, basis, Rises, behind_of, arrival-coming}
 use Rattle.safe_machine.specs.Numbers.{sn_of, ahead}
 use Rattle.safe_machine.proofs.two.Invariant.{Told, Solo, Half, Few, needs_peer, Pair, started-is}
 use Rattle.safe_machine.proofs.two.Lone.{Arrival, arrival-index}

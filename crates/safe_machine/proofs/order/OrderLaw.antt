@@ -8,10 +8,10 @@ use Rattle.safe_machine.proofs.Words.{Timely, as_role, open_il, open_fe, Open, S
 use Rattle.safe_machine.proofs.Words.{heard_by_il, heard_by_fe, all_heard_by_il, all_heard_by_fe, OrderLaw, if◌then◌else◌, Kind, is_goodbye, decide, carry_out}
 use Rattle.safe_machine.proofs.Words.{kept_of, is_close, has_close, StaysLaw, Hears, Move, Sends, HearsNothing, LeavesNow, move, Guards, Ticks, Decision}
 use Rattle.safe_machine.proofs.two.Invariant.{Started, Solo, Pair, started-parts, is_opening, NotOpening, needs_peer}
-use Rattle.safe_machine.proofs.one.Deciding.{Bounded}
+use Rattle.safe_machine.proofs.one.DecisionCounts.{Bounded}
 use Rattle.safe_machine.proofs.two.Lone.{pair-arrive, Lone, among-dropped, pair-move, lone-move}
-use Rattle.safe_machine.proofs.two.Timing.{Makes, makes-none, makes-move}
-use Rattle.safe_machine.proofs.one.Turning.{arrive-is}
+use Rattle.safe_machine.proofs.two.Times.{Makes, makes-none, makes-move}
+use Rattle.safe_machine.proofs.one.TurnSteps.{arrive-is}
 use Rattle.safe_machine.proofs.one.Runs.{closed-move, leave-cases, heartbeat-cases, send-cases, closed_or, Every, every-at, every-from, every-drop_all, down_or}
 use Rattle.safe_machine.proofs.one.Runs.{down≢closed, every-push, unit-cases, quiet-cases, when}
 use Rattle.safe_machine.proofs.two.Freshness.{Both, both-makes, met-arrive, no_index, TInv, t-event, t-start, fe-past, opened-times}

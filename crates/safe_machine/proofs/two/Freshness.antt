@@ -11,13 +11,13 @@ use Rattle.safe_machine.proofs.Words.{all_heard_by_fe, is_close, has_close, OneM
 use Rattle.safe_machine.specs.Numbers.{sn_of}
 use Rattle.safe_machine.proofs.one.Runs.{legal as lawful, Every, every-at, every-weaken, at-length, numbered-at, when, arrive-cases, decided-taken}
 use Rattle.safe_machine.proofs.two.Invariant.{Solo, Half, Pair, Told}
-use Rattle.safe_machine.proofs.one.Deciding.{Fits, listens-live, decide-fits, Bounded}
+use Rattle.safe_machine.proofs.one.DecisionCounts.{Fits, listens-live, decide-fits, Bounded}
 use Rattle.safe_machine.proofs.two.Lone.{Incoming, lone-leave, among-dropped, incoming-at}
 use Rattle.safe_machine.proofs.two.Status.{Untouched, mute-arrive, deaf-arrive, still-arrive, incarnation, TakesBeginnings, AllTakeBeginnings, OnlyJoinedTake}
 use Rattle.safe_machine.proofs.two.Status.{taken_from_fe}
 use Rattle.safe_machine.proofs.two.Status.Status.{met, il_later, fe_later}
-use Rattle.safe_machine.proofs.two.Timing.{Timed, Steps, Stamped, timed-receiver, timed-sender, Makes, makes-leave, steps-none, steps-then, steps-carry}
-use Rattle.safe_machine.proofs.two.Timing.{fresh-take, makes-move, makes-none}
+use Rattle.safe_machine.proofs.two.Times.{Timed, Steps, Stamped, timed-receiver, timed-sender, Makes, makes-leave, steps-none, steps-then, steps-carry}
+use Rattle.safe_machine.proofs.two.Times.{fresh-take, makes-move, makes-none}
 use Rattle.safe_machine.proofs.two.Worlds.{Inv, inv-open_il, inv-open_fe, inv-start, inv-run, il-quiet, fe-quiet, unheard-arrive, Lawful, MetIn, inv-same}
 use Rattle.safe_machine.proofs.two.Worlds.{il-arrive, fe-arrive}
 use Rattle.safe_machine.proofs.one.Kept.{joins-down, moves_law_holds, settings_law_holds}

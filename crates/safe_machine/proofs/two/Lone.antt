@@ -13,8 +13,8 @@ use Rattle.safe_machine.proofs.one.Runs.{reply-connection, quiet-cases, arrive-c
 use Rattle.safe_machine.proofs.two.Invariant.{room, needs_peer, Told, Sound, Started, SoloOf, Solo, Half, Pair, Few, room-le, pair-beat, pair-ask, pair-reply}
 use Rattle.safe_machine.proofs.two.Invariant.{started-from, half-take, half-resume, half-confirm, confirm-index, is_opening, NotOpening, make-sends}
 use Rattle.safe_machine.proofs.two.Invariant.{make-receives, pair-closed, pair-plain, pair-leave, reach, pair-sent}
-use Rattle.safe_machine.proofs.one.Deciding.{carries-unit, carries-none, in_turn-room, ByTable, Fits, listens, decide-fits, Bounded, bounded-respond}
-use Rattle.safe_machine.proofs.one.Deciding.{unconfirmed-make, bounded-leave}
+use Rattle.safe_machine.proofs.one.DecisionCounts.{carries-unit, carries-none, in_turn-room, ByTable, Fits, listens, decide-fits, Bounded, bounded-respond}
+use Rattle.safe_machine.proofs.one.DecisionCounts.{unconfirmed-make, bounded-leave}
 use Rattle.safe_machine.specs.Numbers.{sn_of}
 
 -- An arrival of a PDU that the peer made keeps the invariant.

@@ -7,7 +7,7 @@ use Rattle.safe_machine.proofs.Words.{is_connected, kept_of, ◌++◌, length-ap
 use Rattle.safe_machine.proofs.two.Lone.{Lone, beginning_trans, lone-refl, lone-leave, lone-closed, among-dropped}
 use Rattle.safe_machine.proofs.one.Runs.{Every, every-at, every-push, leave-cases, closed≢down, quiet-cases, arrive-cases, when, every-drop}
 use Rattle.safe_machine.proofs.two.Invariant.{is_opening, needs_peer, NotOpening, Solo, Half}
-use Rattle.safe_machine.proofs.one.Deciding.{Fits, listens, decide-fits, Bounded, bounded-leave, bounded-closed, run_of-shrinks}
+use Rattle.safe_machine.proofs.one.DecisionCounts.{Fits, listens, decide-fits, Bounded, bounded-leave, bounded-closed, run_of-shrinks}
 
 -- The law over all ends, with the end before its first opening as number 0 and last of its list.
 

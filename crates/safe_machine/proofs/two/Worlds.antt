@@ -9,12 +9,12 @@ use Rattle.safe_machine.proofs.two.Status.{AllTakeBeginnings, OnlyJoinedTake, La
 use Rattle.safe_machine.proofs.two.Status.{takes-fe_lone, fall-more, all-takes, only-weaken, Settled, JoinedTo, Met, Mute, IlLater, FeLater, Status, Untouched}
 use Rattle.safe_machine.proofs.two.Status.{mute-arrive, deaf-arrive, still-arrive, met-loses_nothing, mute-loses_nothing, taken-other, taken-pushed, lone-owes}
 use Rattle.safe_machine.proofs.two.Status.{mute-move}
-use Rattle.safe_machine.proofs.one.Turning.{arrive-is}
+use Rattle.safe_machine.proofs.one.TurnSteps.{arrive-is}
 use Rattle.safe_machine.proofs.one.Runs.{legal, requests, answers, count-drop_nil, Every, every-drop_all, no_requests, closed-move, guard-idle, down_or}
 use Rattle.safe_machine.proofs.one.Runs.{closed≢down, arrive-cases}
 use Rattle.safe_machine.proofs.two.Invariant.{NotOpening, Told, Solo, Half, Pair}
 use Rattle.safe_machine.proofs.two.Lone.{Lone, lone-leave, pair-arrive, pair-move, lone-move, lone-refl}
-use Rattle.safe_machine.proofs.one.Deciding.{Fits, decide-fits, Bounded, bounded-leave, bounded-move, bounded-opened, bounded-low}
+use Rattle.safe_machine.proofs.one.DecisionCounts.{Fits, decide-fits, Bounded, bounded-leave, bounded-move, bounded-opened, bounded-low}
 use Rattle.safe_machine.proofs.two.Status.Status.{met, il_later, fe_later}
 use Rattle.safe_machine.proofs.one.Kept.{moves_law_holds}
 

@@ -1,12 +1,12 @@
 -- Both tellings of Faithful are one.
-use Rattle.stack_engine.proofs.Words.{[], AllByRecursion, AllFaithful, ap, Call, Calls, Carries, CarriesAll, CodeRule, Datagram, drop}
+use Rattle.stack_engine.proofs.Words.{[], AllByRecursion, AllFaithful, ap, Call, Calls, CarriesPdu, CarriesAll, CodeRule, Datagram, drop}
 use Rattle.stack_engine.proofs.Words.{EndState, Event, Faithful, FaithfulCall, FaithfulEvent, Fe, GuardHolds, GuardsHold, apply_event, Il, Input, IsNear, IsNoClose, JoinedEnd, latest, List}
 use Rattle.stack_engine.proofs.Words.{None, OfBoth, Open, Option, Part, present, RedTick, refl, refusal, rule_of, run, SameRule, Side}
 use Rattle.stack_engine.proofs.Words.{slice_get, Some, start, subst, suc, sym, take, time_of, World, zero, ends_of, EndSettings, ℕ, ◌↔◌, ◌∙◌, ◌∷◌, ◌≡◌, ◌≢◌}
 use Rattle.stack_engine.proofs.Words.{Close, Deliver, InitDone, Put, Tick}
 use Rattle.std.proofs.lemmas.Option.{none-some, same_Some}
 use Rattle.stack_engine.specs.CallsByPlace.{GoesUp, input_of, IsCallAt, other}
-use Rattle.stack_engine.specs.PremiseByPlace.{BearsIndex, ComesIn, FaithfulByPlace, Holds}
+use Rattle.stack_engine.specs.PremiseByPlace.{BearsIndex, ComesIn, FaithfulByPlace, GuardKeeps}
 use Rattle.stack_engine.proofs.alike.Calls.{call-each, each-call}
 use Rattle.stack_engine.proofs.alike.Genuines.{at-opened, brought, comes-each, each-comes, genuine-twice, opened-at}
 use Rattle.stack_engine.specs.Faithful.{NothingLostLaw}
@@ -17,7 +17,7 @@ use Rattle.stack_engine.proofs.alike.Nears.{comes-near, near-comes}
 use Rattle.stack_engine.proofs.alike.Places.{drop-get, get-drop}
 
 -- a part bears the index of a PDU that the peer made
-bears : (side : Side) (w : World) (p : Part) (peer : Option EndState) → present (other side) w ≡ peer → Carries peer p → BearsIndex side w p
+bears : (side : Side) (w : World) (p : Part) (peer : Option EndState) → present (other side) w ≡ peer → CarriesPdu peer p → BearsIndex side w p
 bears side w p None e h = absurd h
 bears side w p (Some peer) e h =
     record {
@@ -33,16 +33,16 @@ bears side w p (Some peer) e h =
       index = refl;
     }
 
-is-borne : (side : Side) (w : World) (p : Part) → BearsIndex side w p → Carries (present (other side) w) p
+is-borne : (side : Side) (w : World) (p : Part) → BearsIndex side w p → CarriesPdu (present (other side) w) p
 is-borne side w p b =
-    subst (λ peer. Carries peer p) (sym b.by.present) (
+    subst (λ peer. CarriesPdu peer p) (sym b.by.present) (
       b.by.made,
       drop (suc p.0) b.by.maker.machine.made,
       get-drop p.0 b.by.maker.machine.made b.by.made (ap (slice_get b.by.maker.machine.made) (sym b.index) ∙ b.by.there),
       b.by.text,
     )
 
-carries-brought : (peer : Option EndState) (c : Call) → CarriesAll peer c ↔ AllByRecursion (Carries peer) (brought c)
+carries-brought : (peer : Option EndState) (c : Call) → CarriesAll peer c ↔ AllByRecursion (CarriesPdu peer) (brought c)
 carries-brought peer (Deliver channel octets now) = ((λ h. h), (λ h. h))
 carries-brought peer (Tick now) = ((λ h. h), (λ h. h))
 carries-brought peer (Close now) = ((λ h. h), (λ h. h))
@@ -63,7 +63,7 @@ abbrev HoldsAt : ℕ → EndState → List ℕ → Type 0
 HoldsAt now y octets = GuardHolds y.machine now
 
 abbrev Guarded : Call → EndState → Type 0
-Guarded c x = ((i : Input) → input_of c ≡ Some i → Holds (time_of c) x) × ((k : ℕ) (p : Part) (y : EndState) → GoesUp c x k p y → Holds (time_of c) y)
+Guarded c x = ((i : Input) → input_of c ≡ Some i → GuardKeeps (time_of c) x) × ((k : ℕ) (p : Part) (y : EndState) → GoesUp c x k p y → GuardKeeps (time_of c) y)
 
 guards : (c : Call) (x : EndState) → GuardsHold c x → Guarded c x
 guards (Tick now) x h = ((λ i e. h.0), call-each (HoldsAt now) (Tick now) x h.1)
@@ -89,14 +89,14 @@ call-at : (side : Side) (c : Call) (w : World) (x : EndState) → FaithfulCall (
 call-at side c w x h =
     record {
       not_closed = not-close c h.0;
-      indexed = λ k p u. bears side w p (present (other side) w) refl (comes-each (Carries (present (other side) w)) c ((carries-brought (present (other side) w) c).0 h.1) k p u);
+      indexed = λ k p u. bears side w p (present (other side) w) refl (comes-each (CarriesPdu (present (other side) w)) c ((carries-brought (present (other side) w) c).0 h.1) k p u);
       guarded = guards c x h.2;
     }
 
 at-call : (side : Side) (c : Call) (w : World) (x : EndState) → FaithfulAt side c w x → FaithfulCall (present (other side) w) c x
 at-call side c w x h = (
   is-no-close c h.not_closed,
-  (carries-brought (present (other side) w) c).1 (each-comes (Carries (present (other side) w)) c (λ k p u. is-borne side w p (h.indexed k p u))),
+  (carries-brought (present (other side) w) c).1 (each-comes (CarriesPdu (present (other side) w)) c (λ k p u. is-borne side w p (h.indexed k p u))),
   guarded-holds c x h.guarded,
 )
 

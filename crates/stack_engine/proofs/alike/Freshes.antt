@@ -1,6 +1,6 @@
 -- Both tellings of freshness are one.
 use Rattle.stack_engine.proofs.Words.{◌↔◌, [], AllFresh, ap, arith, AtOpened, Call, Calls, drop, EndState, Event, Fe, Fresh, FreshCall, FreshEvent, Freshness, apply_event, Il, List}
-use Rattle.stack_engine.proofs.Words.{Made, made_of, None, Ok, Open, Option, part, Part, Pdu, present, refl, refusal, rule_of, safe_seen, Side, Some, start}
+use Rattle.stack_engine.proofs.Words.{Made, made_of, None, Ok, Open, Option, part_step, Part, Pdu, present, refl, refusal, rule_of, safe_seen, Side, Some, start}
 use Rattle.stack_engine.proofs.Words.{subst, suc, sym, taken_at, TakesFresh, time_of, World, zero, ℕ, ◌-◌, ◌∙◌, ◌∷◌, ◌≡◌, ◌≢◌}
 use Rattle.std.proofs.lemmas.Option.{none-some, same_Some}
 use Rattle.stack_engine.specs.CallsByPlace.{GoesUp, other}
@@ -54,7 +54,7 @@ at-fresh now peer octets y h =
 -- of one call
 abbrev FreshParts : List Made → Call → EndState → Type 0
 FreshParts peer c x =
-    (k : ℕ) (p : Part) (y : EndState) → GoesUp c x k p y → taken_at (part (time_of c) p.1 y) ≢ taken_at y → IsFreshAt (time_of c) peer p.1 y
+    (k : ℕ) (p : Part) (y : EndState) → GoesUp c x k p y → taken_at (part_step (time_of c) p.1 y) ≢ taken_at y → IsFreshAt (time_of c) peer p.1 y
 
 parts-fresh : (peer : List Made) (c : Call) (x : EndState) → FreshCall peer c x → FreshParts peer c x
 parts-fresh peer c x h k p y u takes = fresh-at (time_of c) peer p.1 y (call-each (TakesFresh (time_of c) peer) c x h k p y u takes)

@@ -9,7 +9,7 @@ use Rattle.stack_engine.specs.CallsByPlace.{GoesUp, IsCallAt, other}
 use Rattle.stack_engine.specs.PremiseByPlace.{GenuineByPlace, ComesIn, dead_of, IsAlive, IsAnswered}
 use Rattle.stack_engine.proofs.alike.Calls.{call-each, each-call}
 use Rattle.stack_engine.proofs.alike.Places.{get-dropped}
-use Rattle.stack_engine.proofs.alike.Closing.{closed-shut, shut-closed}
+use Rattle.stack_engine.proofs.alike.Closed.{closed-shut, shut-closed}
 
 -- a PDU of these bytes among those made
 record IsAmongMade (rule : CodeRule) (octets : List ℕ) (ms : List Made) : Type 0 where

@@ -16,7 +16,7 @@ use Rattle.stack_engine.specs.NothingLostByPlace.{NothingLostByPlace, AreInOnePh
 use Rattle.stack_engine.specs.NothingLostByPlace.{WaitsForRoom, WasTakenOrWaits}
 use Rattle.stack_engine.proofs.alike.Places.{as-long, front-parted, get-some, parted-begins}
 use Rattle.stack_engine.proofs.alike.Held.{items-alike, open-unconfirmed}
-use Rattle.stack_engine.proofs.alike.Closing.{closed-of, closed-shut, shut-closed}
+use Rattle.stack_engine.proofs.alike.Closed.{closed-of, closed-shut, shut-closed}
 
 false-true : false ≡ true → ⊥
 false-true e = cc

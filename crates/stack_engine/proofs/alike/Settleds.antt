@@ -13,7 +13,7 @@ use Rattle.stack_engine.specs.HeadlineByPlace.{HeadlineByPlace, HeadlineByPlaceL
 use Rattle.stack_engine.specs.OpenUnits.{held_items}
 use Rattle.stack_engine.specs.SettledByPlace.{SettledByPlace, ConfirmedByPlace, AreJoined, ConfirmedByPlaceLaw, IsAccountedFor, IsDone, PartnerTook}
 use Rattle.stack_engine.specs.SettledByPlace.{CertainByPlace, CertainByPlaceLaw, SettledByPlaceLaw, WasTakenAt}
-use Rattle.stack_engine.proofs.alike.Closing.{closed-shut, shut-closed}
+use Rattle.stack_engine.proofs.alike.Closed.{closed-shut, shut-closed}
 use Rattle.stack_engine.proofs.alike.Places.{agree-begins, begins-agree, front-parted, get-taken, opened-before, opened-cases, opened-first, opened-none, parted-begins, within, latest-opened, one-number}
 use Rattle.stack_engine.proofs.alike.Genuines.{genuine-twice}
 use Rattle.stack_engine.proofs.alike.Headlines.{opened-found}

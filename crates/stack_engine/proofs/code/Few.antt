@@ -1,26 +1,26 @@
 -- How few PDUs and telegrams one event makes, over every list of events.
-use Rattle.safe_machine.proofs.one.Turning.{send-is}
+use Rattle.safe_machine.proofs.one.TurnSteps.{send-is}
 use Rattle.stack_engine.proofs.Words.{[], after, after_read, after_release, after_run, AllByRecursion, answered, ap, append-nil, are_fit, AreOctets, AreTyped}
 use Rattle.stack_engine.proofs.Words.{arith, arrival, arrive_octets, Arrives, AtOpened, Bool, by_cond, Call, call, call_fe, call_il, Calls, change_world, Close}
 use Rattle.stack_engine.proofs.Words.{ClosedByUser, code_octets, CodeLength, CodeRule, comes_up, Completes, cond, connection_of, Data, Datagram, defer}
 use Rattle.stack_engine.proofs.Words.{Deliver, Detail, Dialogue, did, drop, drop-append_seam, Eight, ends_of, EndSettings, EndState, Err, Event, false, Fe}
 use Rattle.stack_engine.proofs.Words.{FewFirstLaw, FewLaw, FewMade, FewMore, FewMoreLaw, follow, goes_on, GoesUp, Guards, handed_up, apply_event, HaveTexts}
 use Rattle.stack_engine.proofs.Words.{heard, heard_as, Hears, Il, InitDone, inl, Input, inr, is_due, is_shut, IsRead, IsSmallItem, IsSmallPdu}
-use Rattle.stack_engine.proofs.Words.{IsTakenBy, IsTyped, Item, JoinedEnd, judge_messages, judge_read, judge_units, judge_unpacked, Judged, judge_telegram, latest}
+use Rattle.stack_engine.proofs.Words.{IsTakenBy, IsTyped, Item, JoinedEnd, judge_messages, judge_read, judge_units, judge_unpacked, Judgement, judge_telegram, latest}
 use Rattle.stack_engine.proofs.Words.{least_waiting, leave, Leaves, leaves, Leaving, length, length-append, length-drop, List, Made, make, may_send, process_event}
 use Rattle.stack_engine.proofs.Words.{MESSAGE_MAX, MESSAGE_MIN, most_pdus, Move, move, moved, MovesLaw, nat_tests, new_end, next_made, None, Ok, Open, Option}
-use Rattle.stack_engine.proofs.Words.{packed, packed_up_to, PackFault, Part, part, parts, parts_passed, PAYLOAD_MAX, pieces_seen, present, Put, put_in, put_into, Puts}
-use Rattle.stack_engine.proofs.Words.{QueueLaw, read_named, Reason, Receiver, receives, RedFault, RedTick, refl, refusal, parts_due, Result, rises, rule_of, run}
+use Rattle.stack_engine.proofs.Words.{packed, packed_up_to, PackFault, Part, part_step, parts_step, parts_passed, PAYLOAD_MAX, pieces_seen, present, Put, put_in, put_into, Puts}
+use Rattle.stack_engine.proofs.Words.{QueueLaw, read_named, Reason, Receiver, input_step, RedFault, RedTick, refl, refusal, parts_due, Result, bring_up, rule_of, run}
 use Rattle.stack_engine.proofs.Words.{run_from, seen_by, Sends, sends, SessionEvent, settle, Side, Sixteen, Some, start, State, ReceiverStep, subst, suc, sym, take}
 use Rattle.stack_engine.proofs.Words.{taken_as, taken_by, Takes, Tele, tele_seen, TeleFault, Tick, Ticks, time_of, true, unconfirmed, unit_seen}
 use Rattle.stack_engine.proofs.Words.{unit_text, unless_leaving, Unspecified, Verdict, with_input, with_machine, with_session, World, Zero, zero, ℕ, ◌*◌, ◌++◌}
 use Rattle.stack_engine.proofs.Words.{◌+◌, ◌∙◌, ◌∷◌, ◌≡◌, ◌≤◌}
-use Rattle.stack_engine.proofs.Words.{can_pack, closed-step-is, fields_kept, finished-is, guarded, guarded-is, may-pack, packed-is, packs, part-is, put_done, queued-is, step, ticked, ticked-is}
+use Rattle.stack_engine.proofs.Words.{can_pack, closed-step-is, fields_kept, finished-is, guard_step, guarded-is, may-pack, packed-is, pack_turn, part-is, put_done, queued-is, step, tick_step, ticked-is}
 use Rattle.red_layer.specs.Redundancy.{step_decoded as red_heard}
-use Rattle.stack_engine.proofs.one.Heeding.{legal-role, machined-texts, OctetPart, OctetsUp, read-heard, red-keeps, Whole, whole-keeps}
-use Rattle.stack_engine.proofs.one.Speaking.{all-append, call-keeps, goes-of, IsTypedCall, IsTypedInput, keep-part, Keeps, Laws, leaves-same, keep-guarded, keep-ticked}
-use Rattle.stack_engine.proofs.one.Speaking.{legal-of, limits-of}
-use Rattle.stack_engine.proofs.two.Mapping.{octets-call}
+use Rattle.stack_engine.proofs.one.Received.{legal-role, machined-texts, OctetPart, OctetsUp, read-heard, red-keeps, Whole, whole-keeps}
+use Rattle.stack_engine.proofs.one.Sent.{all-append, call-keeps, goes-of, IsTypedCall, IsTypedInput, keep-part, Keeps, Laws, leaves-same, keep-guarded, keep-ticked}
+use Rattle.stack_engine.proofs.one.Sent.{legal-of, limits-of}
+use Rattle.stack_engine.proofs.two.Machines.{octets-call}
 use Rattle.stack_engine.proofs.two.Worlds.{new-whole, opens, typed-call, unless}
 
 -- a list's run and the rest of it
@@ -102,7 +102,7 @@ takes-read m d (Ok t) e = takes-as t d (process_event (Arrives t) d) (judge_tele
 takes-read m d (Err fault) e = takes-more 0 1 d d (omega arith) (takes-same d d refl)
 
 -- the others of a unit
-takes-unless : (n : ℕ) (d : Dialogue) (why : Option Leaving) (first rest : Judged) → Takes_ 1 d first.left → Takes_ n first.left rest.left
+takes-unless : (n : ℕ) (d : Dialogue) (why : Option Leaving) (first rest : Judgement) → Takes_ 1 d first.left → Takes_ n first.left rest.left
     → Takes_ (1 + n) d (unless_leaving why first rest).left
 takes-unless n d None first rest a b = takes-then 1 n d first.left rest.left a b
 takes-unless n d (Some why) first rest a b = takes-more 1 (1 + n) d first.left (omega arith) a
@@ -140,7 +140,7 @@ takes-units (u ∷ []) d h =
     let rest = judge_units [] first.left in
     takes-one first.leaving first rest (takes-unpacked u d (unit_seen u) refl) (takes-same first.left first.left refl)
   where
-    takes-one : (why : Option Leaving) (first rest : Judged) → Takes_ 3 d first.left → Takes_ 0 first.left rest.left
+    takes-one : (why : Option Leaving) (first rest : Judgement) → Takes_ 3 d first.left → Takes_ 0 first.left rest.left
         → Takes_ 3 d (unless_leaving why first rest).left
     takes-one None first rest a b = takes-more (3 + 0) 3 d rest.left (omega arith) (takes-then 3 0 d first.left rest.left a b)
     takes-one (Some why) first rest a b = a
@@ -162,7 +162,7 @@ handed-few moves m x =
     by-kind (Sends unit now) more h = omega (arith, ap (λ (us : List (List ℕ)). length us) h)
     by-kind (Leaves reason detail now) more h = omega (arith, ap (λ (us : List (List ℕ)). length us) h)
 
-takes-rises : (b : Bool) (d : Dialogue) → Takes_ 0 d (rises b d)
+takes-rises : (b : Bool) (d : Dialogue) → Takes_ 0 d (bring_up b d)
 takes-rises true d = takes-same d (process_event GoesUp d) (append-nil d.history.taken)
 takes-rises false d = takes-same d d refl
 
@@ -276,7 +276,7 @@ module _ (laws : Laws) (side : Side) (now : ℕ) where
   k : Keeps now OctetsUp (Sized side)
   k = sized-keeps laws side now
 
-  grows-part : (octets : List ℕ) (x : EndState) → AreOctets octets → Sized side x → Grows 37 3 x (part now octets x)
+  grows-part : (octets : List ℕ) (x : EndState) → AreOctets octets → Sized side x → Grows 37 3 x (part_step now octets x)
   grows-part octets x octs h =
       let y = settle (heard now octets x) in
       subst (Grows 37 3 x) (sym (part-is now octets x))
@@ -284,13 +284,13 @@ module _ (laws : Laws) (side : Side) (now : ℕ) where
       (grows-then 37 0 3 0 x (heard now octets x) y (grows-heard laws side now octets x octs h) (grows-settle (heard now octets x))))
 
   grows-parts : (ps : List Part) (x : EndState) → AllByRecursion OctetPart ps → Sized side x
-      → Grows (37 * length ps) (3 * length ps) x (parts now ps x) × Sized side (parts now ps x)
+      → Grows (37 * length ps) (3 * length ps) x (parts_step now ps x) × Sized side (parts_step now ps x)
   grows-parts [] x octs h = (grows-same x, h)
   grows-parts (p ∷ ps) x octs h =
-      let y = part now p.1 x in
+      let y = part_step now p.1 x in
       let rest = grows-parts ps y octs.1 (keep-part now OctetsUp (Sized side) (goes-of now OctetsUp (Sized side) k) p.1 x octs.0 h) in (
-        grows-more (37 + 37 * length ps) (37 * length (p ∷ ps)) (3 + 3 * length ps) (3 * length (p ∷ ps)) x (parts now ps y) (omega arith) (omega arith)
-            (grows-then 37 (37 * length ps) 3 (3 * length ps) x y (parts now ps y) (grows-part p.1 x octs.0 h) rest.0),
+        grows-more (37 + 37 * length ps) (37 * length (p ∷ ps)) (3 + 3 * length ps) (3 * length (p ∷ ps)) x (parts_step now ps y) (omega arith) (omega arith)
+            (grows-then 37 (37 * length ps) 3 (3 * length ps) x y (parts_step now ps y) (grows-part p.1 x octs.0 h) rest.0),
         rest.1,
       )
 
@@ -304,7 +304,7 @@ module _ (laws : Laws) (side : Side) (now : ℕ) where
       let few = few-made laws.few side (Guards now) x tt h in
       let P : EndState → Type 0 = λ y. (length y.machine.made + length (unconfirmed x.machine) ≤ length x.machine.made + 32) × Takes_ 0 x.session y.session in
       let same : P x = (omega (arith, few.few), takes-same x.session x.session refl) in
-      by_cond P (can_pack (fields_kept x)) (packed_up_to n now (step (packs now) x)) x (λ can.
+      by_cond P (can_pack (fields_kept x)) (packed_up_to n now (step (pack_turn now) x)) x (λ can.
       let is = may-pack x can in
       let may = is.0 in
       let y = packed now x in
@@ -324,7 +324,7 @@ module _ (laws : Laws) (side : Side) (now : ℕ) where
 
   grows-goes_on : (i : Input) (x : EndState) → IsTypedInput i → Sized side x → Grows 365 27 x (goes_on now i x)
   grows-goes_on i x t h =
-      by_cond (Grows 365 27 x) (is_shut x) x (sends now (receives now i x)) (λ _. grows-more 0 365 0 27 x x (omega arith) (omega arith) (grows-same x)) (λ _.
+      by_cond (Grows 365 27 x) (is_shut x) x (sends now (input_step now i x)) (λ _. grows-more 0 365 0 27 x x (omega arith) (omega arith) (grows-same x)) (λ _.
       let y = with_input i x in
       let ps = parts_passed i x.red in
       let p = passing i x.red in
@@ -332,7 +332,7 @@ module _ (laws : Laws) (side : Side) (now : ℕ) where
       let nine : length ps ≤ 9 = omega (arith, p.count, h.few, h.q) in
       let begun : Sized side y = k.inputs i x t h in
       let through = grows-parts ps y (red-keeps laws i x.red t h.whole.machined.waits).0 begun in
-      let z = receives now i x in
+      let z = input_step now i x in
       let zero : Grows 0 0 x y = record { made = omega arith; takes = takes-same x.session y.session refl } in
       grows-more (0 + (37 * length ps + 32)) 365 (0 + (3 * length ps + 0)) 27 x (sends now z) (omega arith) (omega arith)
       (grows-then 0 (37 * length ps + 32) 0 (3 * length ps + 0) x y (sends now z) zero
@@ -383,16 +383,16 @@ grows-call laws side (InitDone now) x t h =
 grows-call laws side (Tick now) x t h =
     let k = sized-keeps laws side now in
     grows-time 401 27 now x (did (Tick now) x)
-    (by_cond (Grows 401 27 x) (is_shut x) x (goes_on now (RedTick now) (ticked now x))
+    (by_cond (Grows 401 27 x) (is_shut x) x (goes_on now (RedTick now) (tick_step now x))
     (λ _. grows-more 0 401 0 27 x x (omega arith) (omega arith) (grows-same x)) (λ _.
-    grows-on laws side now (Ticks now) (RedTick now) x (ticked now x) (ticked-is now x) tt tt h
+    grows-on laws side now (Ticks now) (RedTick now) x (tick_step now x) (ticked-is now x) tt tt h
     (keep-ticked now OctetsUp (Sized side) (goes-of now OctetsUp (Sized side) k) x (k.ticks x h))))
 grows-call laws side (Deliver channel octets now) x t h =
     let k = sized-keeps laws side now in
     grows-time 401 27 now x (did (Deliver channel octets now) x)
-    (by_cond (Grows 401 27 x) (is_shut x) x (goes_on now (Datagram octets now) (guarded now x))
+    (by_cond (Grows 401 27 x) (is_shut x) x (goes_on now (Datagram octets now) (guard_step now x))
     (λ _. grows-more 0 401 0 27 x x (omega arith) (omega arith) (grows-same x)) (λ _.
-    grows-on laws side now (Guards now) (Datagram octets now) x (guarded now x) (guarded-is now x) tt t h
+    grows-on laws side now (Guards now) (Datagram octets now) x (guard_step now x) (guarded-is now x) tt t h
     (keep-guarded now OctetsUp (Sized side) (goes-of now OctetsUp (Sized side) k) x (k.guards x h))))
 
 pub sized-call : Laws → (side : Side) (c : Call) (x : EndState) → IsTypedCall c → Sized side x → Sized side (call c x)

@@ -1,29 +1,29 @@
 -- What the functions of the crate rely on: what is kept of a pair represents it, event by event.
 use Rattle.stack_engine.proofs.Words.{[], part_received, add-one, AllByRecursion, ap, append-nil, append_assoc, ApplyFault, AreTyped, AreWithin, arith, AtArrivals}
-use Rattle.stack_engine.proofs.Words.{AtOpened, BeforeStand, Bool, BothStand, breaks_at, breaks_by, breaks_with, BreaksLaw, Call, call, call_of, call_refusal}
+use Rattle.stack_engine.proofs.Words.{AtOpened, EarlierRepresent, Bool, LayersRepresent, breaks_at, breaks_by, breaks_with, BreaksLaw, Call, call, call_of, call_refusal}
 use Rattle.stack_engine.proofs.Words.{Calls, channels_of, code_octets, CodeCall, CodeEvent, datagrams_of, Deed, deed_event, Deliver, drop, drop-append-le}
-use Rattle.stack_engine.proofs.Words.{drop-append_seam, EndConfig, ends_at, ends_of, EndSettings, EndStands, EndState, EndTurns, EndTurnsAlone, EndValue, Entry}
+use Rattle.stack_engine.proofs.Words.{drop-append_seam, EndConfig, ends_at, ends_of, EndSettings, EndRepresents, EndState, EndTakesTurn, EndTakesTurnAlone, EndValue, Entry}
 use Rattle.stack_engine.proofs.Words.{entry_of, Err, Event, event_of, events_in, events_of, false, false≢true, Fe, fe_entry, FewAt, FewFirst, FewMore}
-use Rattle.stack_engine.proofs.Words.{FewMoreLaw, FoldsTo, get_or, Grew, apply_event, has_made, has_part, HasRoom, if◌then◌else◌, Il, il_entry, inc_refusal}
-use Rattle.stack_engine.proofs.Words.{Incarnation, incarnations_of, IncStands, IncTurns, Inside, inside, is_live, is_memory, is_none, is_shut, IsGenuine}
+use Rattle.stack_engine.proofs.Words.{FewMoreLaw, FoldsTo, get_or, GrowsBy, apply_event, has_made, has_part, HasRoom, if◌then◌else◌, Il, il_entry, inc_refusal}
+use Rattle.stack_engine.proofs.Words.{Incarnation, incarnations_of, IncarnationRepresents, IncarnationTakesTurn, Inside, inside, is_live, is_memory, is_none, is_shut, IsGenuine}
 use Rattle.stack_engine.proofs.Words.{IsOfSession, IsPlaced, IsSmallItem, IsSmallPdu, IsTyped, Item, joined_entry, joined_of, JoinedEnd, joins_in, joins_of}
-use Rattle.stack_engine.proofs.Words.{joins_with, Keeping, Kept, latest, latest_maker, length, length-append, length-drop, length-map, length-reverse}
+use Rattle.stack_engine.proofs.Words.{joins_with, KeeperValue, Kept, latest, latest_maker, length, length-append, length-drop, length-map, length-reverse}
 use Rattle.stack_engine.proofs.Words.{length-take, List, list_any, live_in, Made, map, map-append, MatchResult, most_pdus, most_taken, NamesRefusal, nat_tests}
 use Rattle.stack_engine.proofs.Words.{new_end, None, not, Ok, on_channels, on_first, Open, open_refusal, Openings, Option, option_map, Part, present}
-use Rattle.stack_engine.proofs.Words.{present_list, PresentStands, puts_in, Ran, RanBefore, RED_PDU_MAX, red_seen, RedFault, refl, Refusal, refusal, rest_of}
-use Rattle.stack_engine.proofs.Words.{Result, reverse, reverse-append, reverse-reverse, rule_of, run, Sending, sendings, SendsOne, sent_at_opening}
-use Rattle.stack_engine.proofs.Words.{session_refusal, settings_of, Shelf, Side, side_of, Sides, SidesDo, SidesStand, SideStands, slice_get, slice_get-map}
+use Rattle.stack_engine.proofs.Words.{present_list, PresentRepresents, puts_in, RunsTo, RunsToFault, RED_PDU_MAX, red_seen, RedFault, refl, Refusal, refusal, rest_of}
+use Rattle.stack_engine.proofs.Words.{Result, reverse, reverse-append, reverse-reverse, rule_of, run, SentDatagram, sendings, SendsOne, sent_at_opening}
+use Rattle.stack_engine.proofs.Words.{session_refusal, settings_of, Shelf, Side, side_of, Sides, SidesTakeEvent, SidesRepresent, SideRepresents, slice_get, slice_get-map}
 use Rattle.stack_engine.proofs.Words.{slice_range, Some, start, subst, suc, sure_items, sure_room, sym, take, take-append-le, take-length, take-suc, TakesItem}
-use Rattle.stack_engine.proofs.Words.{texts_in, time_of, ChannelHistory, told_of, true, Turn, turn, Turned, World, zero, zero-add, ℕ, ◌&&◌, ◌++◌, ◌+◌, ◌-◌, ◌<◌, ◌==◌}
+use Rattle.stack_engine.proofs.Words.{texts_in, time_of, ChannelHistory, told_of, true, Turn, turn, LeadsByTurn, World, zero, zero-add, ℕ, ◌&&◌, ◌++◌, ◌+◌, ◌-◌, ◌<◌, ◌==◌}
 use Rattle.stack_engine.proofs.Words.{◌||◌, ◌↔◌, ◌∙◌, ◌∷◌, ◌≡◌, ◌≢◌, ◌≤◌}
-use Rattle.channels.specs.Told.{Sends}
+use Rattle.channels.specs.ChannelHistory.{Sends}
 use Rattle.red_layer.specs.Redundancy.{decoded}
 use Rattle.stack_engine.specs.Pairs.{accepted_events as accepted_of}
 use Rattle.stack_engine.specs.Reports.{Entry as ReportEntry, seen_entry}
 use Rattle.stack_engine.specs.declared.report.Entry.{Entry as CodeEntry}
-use Rattle.stack_engine.proofs.Words.{Past, past_of, PastStands}
+use Rattle.stack_engine.proofs.Words.{Past, past_of, PastRepresents}
 use Rattle.stack_engine.specs.TextPlaces.{AreWithin as AreInside}
-use Rattle.stack_engine.proofs.one.Speaking.{all-append, all-parts, call-put, put_in_by}
+use Rattle.stack_engine.proofs.one.Sent.{all-append, all-parts, call-put, put_in_by}
 use Rattle.stack_engine.specs.declared.ApplyFault.TheVariants as code
 use Rattle.stack_engine.specs.declared.event.Call.TheVariants as call
 use Rattle.stack_engine.specs.declared.event.Action.TheVariants as doing
@@ -85,17 +85,17 @@ takes-all [] s t h small room = ap (λ (u : Shelf ℕ). u.texts) (sym h) ∙ sym
 takes-all (i ∷ is) s t (u, one, rest) small room = grind (arith, one small.0 (omega arith), takes-all is u t rest small.1, append_assoc)
 
 -- a sending on channel 1
-abbrev IsFirst : Sending → Type 0
+abbrev IsFirst : SentDatagram → Type 0
 IsFirst x = x.0 ≡ 1
 
-abbrev firsts : List Sending → List Sending
+abbrev firsts : List SentDatagram → List SentDatagram
 firsts [] = []
 firsts (x ∷ xs) = if x.0 == 1 then x ∷ firsts xs else firsts xs
 
-abbrev IsShort : Sending → Type 0
+abbrev IsShort : SentDatagram → Type 0
 IsShort x = length x.1 ≤ RED_PDU_MAX
 
-among : (xs : List Sending) (x : Sending) (ys : List Sending) → AllByRecursion IsFirst ((xs ++ x ∷ []) ++ ys) → IsFirst x
+among : (xs : List SentDatagram) (x : SentDatagram) (ys : List SentDatagram) → AllByRecursion IsFirst ((xs ++ x ∷ []) ++ ys) → IsFirst x
 among [] x ys h = h.0
 among (y ∷ xs) x ys h = among xs x ys h.1
 
@@ -108,9 +108,9 @@ no-step b h = grind (arith, nat_tests)
 other-channel : (n : ℕ) → (n == 1) ≡ false → (1 == n) ≡ false
 other-channel n h = grind (arith, nat_tests)
 
-gains-one : (x : Sending) (xs : List Sending) (t j : ChannelHistory) (a b : List Sending) (went : Bool) (c : Bool) → (x.0 == 1) ≡ c → Sends went t x j → t.sent ≡ Some a
+gains-one : (x : SentDatagram) (xs : List SentDatagram) (t j : ChannelHistory) (a b : List SentDatagram) (went : Bool) (c : Bool) → (x.0 == 1) ≡ c → Sends went t x j → t.sent ≡ Some a
     → AllByRecursion IsFirst b → IsShort x → length (if c then x ∷ firsts xs else firsts xs) ≤ t.room 1
-    → ((before : List Sending) → j.sent ≡ Some before → length (firsts xs) ≤ j.room 1 → b ≡ before ++ firsts xs)
+    → ((before : List SentDatagram) → j.sent ≡ Some before → length (firsts xs) ≤ j.room 1 → b ≡ before ++ firsts xs)
     → b ≡ a ++ (if c then x ∷ firsts xs else firsts xs)
 gains-one x xs t j a b true true is s before first short room ih =
     let left : t.room 1 ≤ j.room 1 + (if 1 == x.0 then 1 else 0) = s.left 1 in
@@ -125,14 +125,14 @@ gains-one x xs t j a b true false is s before first short room ih =
 gains-one x xs t j a b false false is s before first short room ih = grind (arith, nat_tests, s.left 1, s.sent, ih, append-nil)
 
 -- If the list afterwards holds only sends on channel 1, and there is room for these, it gained exactly them.
-gains : (xs : List Sending) (t u : ChannelHistory) (a b : List Sending) → FoldsTo SendsOne t xs u → t.sent ≡ Some a → u.sent ≡ Some b → AllByRecursion IsFirst b
+gains : (xs : List SentDatagram) (t u : ChannelHistory) (a b : List SentDatagram) → FoldsTo SendsOne t xs u → t.sent ≡ Some a → u.sent ≡ Some b → AllByRecursion IsFirst b
     → AllByRecursion IsShort xs → length (firsts xs) ≤ t.room 1 → b ≡ a ++ firsts xs
 gains [] t u a b h before after first short room = grind (arith, append-nil)
 gains (x ∷ xs) t u a b (j, one, rest) before after first short room =
     gains-one x xs t j a b one.0 (x.0 == 1) refl one.1 before first short.0 room (λ c sent left. gains xs j u c b rest sent after first short.1 left)
 
 -- of the copies of a datagram the one on channel 1
-firsts-append : (xs ys : List Sending) → firsts (xs ++ ys) ≡ firsts xs ++ firsts ys
+firsts-append : (xs ys : List SentDatagram) → firsts (xs ++ ys) ≡ firsts xs ++ firsts ys
 firsts-append [] ys = refl
 firsts-append (x ∷ xs) ys = grind (arith, firsts-append xs ys)
 
@@ -158,7 +158,7 @@ firsts-only : (ds : List (List ℕ)) → AllByRecursion IsFirst (map on_first ds
 firsts-only [] = tt
 firsts-only (d ∷ ds) = (refl, firsts-only ds)
 
-octets-of : (ds : List (List ℕ)) → map (λ (x : Sending). x.1) (map on_first ds) ≡ ds
+octets-of : (ds : List (List ℕ)) → map (λ (x : SentDatagram). x.1) (map on_first ds) ≡ ds
 octets-of [] = refl
 octets-of (d ∷ ds) = ap (λ es. d ∷ es) (octets-of ds)
 
@@ -167,12 +167,12 @@ datagrams-length s index [] = refl
 datagrams-length s index (m ∷ ms) = ap suc (datagrams-length s (index + 1) ms)
 
 -- A keeper with room for all of them keeps each PDU sent.
-pub keeps-all : (s : EndSettings) (index : ℕ) (ms : List Made) (k l : Keeping) → FoldsTo SendsOne (told_of k) (sendings s index ms) (told_of l)
+pub keeps-all : (s : EndSettings) (index : ℕ) (ms : List Made) (k l : KeeperValue) → FoldsTo SendsOne (told_of k) (sendings s index ms) (told_of l)
     → 1 ≤ s.channels → AllByRecursion (IsSmallPdu s) ms → length ms ≤ sure_room k → l.datagrams ≡ k.datagrams ++ datagrams_of s index ms
 keeps-all s index ms k l h channels small room =
     let few : length (firsts (sendings s index ms)) ≤ sure_room k = omega (
       arith,
-      ap (λ (zs : List Sending). length zs) (firsts-sendings s index ms channels),
+      ap (λ (zs : List SentDatagram). length zs) (firsts-sendings s index ms channels),
       length-map (datagrams_of s index ms) on_first,
       datagrams-length s index ms,
     ) in
@@ -181,7 +181,7 @@ keeps-all s index ms k l h channels small room =
     (short-sendings s index ms small) few in
     let f : map on_first l.datagrams ≡ map on_first (k.datagrams ++ datagrams_of s index ms) =
     e ∙ ap (λ zs. map on_first k.datagrams ++ zs) (firsts-sendings s index ms channels) ∙ sym (map-append on_first k.datagrams (datagrams_of s index ms)) in
-    sym (octets-of l.datagrams) ∙ ap (map (λ (x : Sending). x.1)) f ∙ octets-of (k.datagrams ++ datagrams_of s index ms)
+    sym (octets-of l.datagrams) ∙ ap (map (λ (x : SentDatagram). x.1)) f ∙ octets-of (k.datagrams ++ datagrams_of s index ms)
 
 pub datagrams-append : (s : EndSettings) (index : ℕ) (ms ns : List Made) → datagrams_of s index (ms ++ ns) ≡ datagrams_of s index ms ++ datagrams_of s
     (index + length ms) ns
@@ -197,8 +197,8 @@ has-part-made s index octets (suc dead) [] = refl
 has-part-made s index octets (suc dead) (m ∷ ms) = has-part-made s (index + 1) octets dead ms
 
 -- the PDUs of a call were kept
-kept-more : {A : Type 0} (i j : Incarnation A) (x y : EndState) (t : Turn Inside) → most_pdus ≤ sure_room (channels_of i.end) → IncStands i x → FewMore x y
-    → Grew t x y → FoldsTo SendsOne (told_of (channels_of i.end)) t.sent (told_of (channels_of j.end))
+kept-more : {A : Type 0} (i j : Incarnation A) (x y : EndState) (t : Turn Inside) → most_pdus ≤ sure_room (channels_of i.end) → IncarnationRepresents i x → FewMore x y
+    → GrowsBy t x y → FoldsTo SendsOne (told_of (channels_of i.end)) t.sent (told_of (channels_of j.end))
     → (channels_of j.end).datagrams ≡ datagrams_of y.settings 0 y.machine.made
 kept-more i j x y t room h few grew sent =
     let s = x.settings in
@@ -216,12 +216,12 @@ kept-more i j x y t room h few grew sent =
     ∙ (ap (datagrams_of s 0) (sym grew.made) ∙ ap (λ (q : EndSettings). datagrams_of q 0 y.machine.made) (sym grew.settings)))))
 
 -- a call in which nothing is delivered
-pub alone-turns : {A : Type 0} (c : Call) (v w : EndValue Keeping A) (taken : Shelf ℕ) → EndTurnsAlone told_of (turn c) v w
-    → EndTurns told_of TakesItem (turn c) v taken w taken
+pub alone-turns : {A : Type 0} (c : Call) (v w : EndValue KeeperValue A) (taken : Shelf ℕ) → EndTakesTurnAlone told_of (turn c) v w
+    → EndTakesTurn told_of TakesItem (turn c) v taken w taken
 alone-turns c v w taken h = grind (arith, nat_tests, h.left, h.none, h.sent)
 
 -- the end refuses what its state does
-pub refusal-is : {A : Type 0} (c : Call) (i : Incarnation A) (x : EndState) → IncStands i x → inc_refusal c i ≡ session_refusal c x
+pub refusal-is : {A : Type 0} (c : Call) (i : Incarnation A) (x : EndState) → IncarnationRepresents i x → inc_refusal c i ≡ session_refusal c x
 refusal-is c i x h = grind (arith, nat_tests)
 
 map-none : {X Y : Type 0} (f : X → Y) (o : Option X) → option_map f o ≡ None → o ≡ None
@@ -231,8 +231,8 @@ map-none f o h = grind (arith, nat_tests)
 put-in : (c : Call) (x : EndState) → session_refusal c x ≡ None → puts_in c ≡ put_in_by c x
 put-in c x h = grind (arith, nat_tests, map-none)
 
-pub turned-stands : {A : Type 0} (c : Call) (i j : Incarnation A) (x : EndState) → HasRoom i → IncTurns c i j → inc_refusal c i ≡ None
-    → Turned (turn c (inside i.end)) x (call c x) → IncStands i x → FewMore x (call c x) → IncStands j (call c x)
+pub turned-stands : {A : Type 0} (c : Call) (i j : Incarnation A) (x : EndState) → HasRoom i → IncarnationTakesTurn c i j → inc_refusal c i ≡ None
+    → LeadsByTurn (turn c (inside i.end)) x (call c x) → IncarnationRepresents i x → FewMore x (call c x) → IncarnationRepresents j (call c x)
 turned-stands c i j x room t part_received turned h few =
     let y = call c x in
     let grew = turned.grew in
@@ -242,7 +242,7 @@ turned-stands c i j x room t part_received turned h few =
     let count : length more ≤ most_taken = omega (arith, few.takes, ap (λ (is : List Item). length is) grew.taken, length-append x.session.history.taken more)
     in
     record {
-      end = record { both = subst (λ (v : Inside). BothStand v y) (sym t.end.left) turned.stands; time = t.time };
+      end = record { both = subst (λ (v : Inside). LayersRepresent v y) (sym t.end.left) turned.stands; time = t.time };
       config = ap settings_of t.config ∙ (h.config ∙ sym grew.settings);
       kept = kept-more i j x y (turn c (inside i.end)) room.0 h few grew t.end.sent;
       put =
@@ -253,15 +253,15 @@ turned-stands c i j x room t part_received turned h few =
     }
 
 -- when it is opened
-pub opened-stands : {A : Type 0} (side : Side) (s : EndSettings) (first now : ℕ) (k : Keeping) (i : Incarnation A) → k.datagrams ≡ [] → most_pdus ≤ sure_room k
+pub opened-stands : {A : Type 0} (side : Side) (s : EndSettings) (first now : ℕ) (k : KeeperValue) (i : Incarnation A) → k.datagrams ≡ [] → most_pdus ≤ sure_room k
     → FewFirst (new_end side s first now)
-    → EndStands told_of i.end (new_end side s first now) → FoldsTo SendsOne (told_of k) (sent_at_opening (new_end side s first now))
+    → EndRepresents told_of i.end (new_end side s first now) → FoldsTo SendsOne (told_of k) (sent_at_opening (new_end side s first now))
     (told_of (channels_of i.end))
-    → i.put.texts ≡ [] → i.taken.texts ≡ [] → settings_of i.config ≡ s → IncStands i (new_end side s first now)
+    → i.put.texts ≡ [] → i.taken.texts ≡ [] → settings_of i.config ≡ s → IncarnationRepresents i (new_end side s first now)
 opened-stands side s first now k i none room few stands sent put taken config =
     grind (arith, nat_tests, keeps-all, few.channels, few.pdus, few.small_pdus, few.takes)
 
-pub joins-opened : {A : Type 0} (o p : Openings A) (opened : Incarnation A) (xs : List EndState) → SideStands o xs → o.present ≡ None → p.present ≡ Some opened
+pub joins-opened : {A : Type 0} (o p : Openings A) (opened : Incarnation A) (xs : List EndState) → SideRepresents o xs → o.present ≡ None → p.present ≡ Some opened
     → p.before.items ≡ o.before.items → opened.joined ≡ None
     → joins_of p ≡ None ∷ joins_of o
 joins-opened {A} o p opened xs h old new before none =
@@ -272,11 +272,11 @@ joins-opened {A} o p opened xs h old new before none =
     ∙ (ap (map joined_of) (no-before o.present (reverse o.before.items) xs old h.present h.before)
     ∙ sym (ap (λ (q : Option (Incarnation A)). joins_with q (map joined_of (reverse o.before.items))) old))))
   where
-    none-stands : (is : List (Past A)) → BeforeStand is [] → is ≡ []
+    none-stands : (is : List (Past A)) → EarlierRepresent is [] → is ≡ []
     none-stands [] h = refl
     none-stands (i ∷ is) h = absurd h
 
-    no-before : (q : Option (Incarnation A)) (is : List (Past A)) (xs : List EndState) → q ≡ None → PresentStands q xs → BeforeStand is (rest_of xs)
+    no-before : (q : Option (Incarnation A)) (is : List (Past A)) (xs : List EndState) → q ≡ None → PresentRepresents q xs → EarlierRepresent is (rest_of xs)
         → is ≡ []
     no-before None is [] e h k = none-stands is k
     no-before None is (x ∷ xs) e h k = absurd h
@@ -338,8 +338,8 @@ few-at law es typed (Open side s first now) t = tt
 few-at law es typed (Calls side c) t = law es typed side c t
 
 pub grown-stands : {A : Type 0} (s t : Sides A) (es : List Event) (e : Event) → FewMoreLaw → AreTyped es → IsTyped e → refusal e (run es start) ≡ None
-    → SidesDo e s t
-    → SidesStand s (run es start) → SidesStand t (run (es ++ e ∷ []) start)
+    → SidesTakeEvent e s t
+    → SidesRepresent s (run es start) → SidesRepresent t (run (es ++ e ∷ []) start)
 grown-stands s t es e few typed is none does h = grind (arith, nat_tests, few-at, run-push)
 
 pub typed-push : (es : List Event) (e : Event) → AreTyped es → IsTyped e → AreTyped (es ++ e ∷ [])
@@ -359,12 +359,12 @@ accepted-append [] fs w = refl
 accepted-append (e ∷ es) fs w = grind (arith, accepted-append es fs (apply_event w e))
 
 -- if a history has come by events
-ran-world : (old es mid : List Event) → Ran old es mid → run mid start ≡ run es (run old start)
+ran-world : (old es mid : List Event) → RunsTo old es mid → run mid start ≡ run es (run old start)
 ran-world old es mid h = grind (arith, nat_tests, run-accepted, run-append)
 
 -- one event more
-ran-more : (old es mid : List Event) (e : Event) → Ran old es mid → (b : Bool) → is_none (refusal e (run mid start)) ≡ b
-    → Ran old (es ++ e ∷ []) (mid ++ (if b then e ∷ [] else []))
+ran-more : (old es mid : List Event) (e : Event) → RunsTo old es mid → (b : Bool) → is_none (refusal e (run mid start)) ≡ b
+    → RunsTo old (es ++ e ∷ []) (mid ++ (if b then e ∷ [] else []))
 ran-more old es mid e h b is =
     let w : World = run old start in
     let at : is_none (refusal e (run es w)) ≡ b = ap (λ (v : World). is_none (refusal e v)) (sym (ran-world old es mid h)) ∙ is in
@@ -381,15 +381,15 @@ events-more (y ∷ items) zero x lt is = ap (λ z. event_of z ∷ []) (sym is)
 events-more (y ∷ items) (suc i) x lt is = ap (λ (es : List Event). event_of y ∷ es) (events-more items i x (omega arith) is)
 
 pub ran-accepted : (old mid new : List Event) (items : List CodeEvent) (i : ℕ) (x : CodeEvent) → i < length items → x ≡ get_or items i x
-    → Ran old (take i (events_of items)) mid
-    → refusal (event_of x) (run mid start) ≡ None → new ≡ mid ++ event_of x ∷ [] → Ran old (take (i + 1) (events_of items)) new
+    → RunsTo old (take i (events_of items)) mid
+    → refusal (event_of x) (run mid start) ≡ None → new ≡ mid ++ event_of x ∷ [] → RunsTo old (take (i + 1) (events_of items)) new
 ran-accepted old mid new items i x lt is h none e =
     rw (add-one, events-more items i x lt is)
     (e ∙ ran-more old (take i (events_of items)) mid (event_of x) h true (ap (λ (r : Option Refusal). is_none r) none))
 
 pub ran-refused : (old mid new : List Event) (items : List CodeEvent) (i : ℕ) (x : CodeEvent) (fault : ApplyFault) → i < length items → x ≡ get_or items i x
-    → Ran old (take i (events_of items)) mid
-    → is_memory fault ≡ false → NamesRefusal fault (refusal (event_of x) (run mid start)) → new ≡ mid → Ran old (take (i + 1) (events_of items)) new
+    → RunsTo old (take i (events_of items)) mid
+    → is_memory fault ≡ false → NamesRefusal fault (refusal (event_of x) (run mid start)) → new ≡ mid → RunsTo old (take (i + 1) (events_of items)) new
 ran-refused old mid new items i x fault lt is h other why e =
     rw (add-one, events-more items i x lt is)
     (e ∙ (sym (append-nil mid) ∙ ran-more old (take i (events_of items)) mid (event_of x) h false
@@ -407,8 +407,8 @@ events-split (y ∷ items) zero x lt is = (events_of items, ap (λ z. event_of z
 events-split (y ∷ items) (suc i) x lt is = grind (arith, nat_tests, events-split items i x (omega arith) is)
 
 pub ran-before : (old mid new : List Event) (items : List CodeEvent) (i : ℕ) (x : CodeEvent) (fault : ApplyFault) → i < length items → x ≡ get_or items i x
-    → Ran old (take i (events_of items)) mid
-    → is_memory fault ≡ true → NamesRefusal fault (refusal (event_of x) (run mid start)) → new ≡ mid → RanBefore old (events_of items) new
+    → RunsTo old (take i (events_of items)) mid
+    → is_memory fault ≡ true → NamesRefusal fault (refusal (event_of x) (run mid start)) → new ≡ mid → RunsToFault old (events_of items) new
 ran-before old mid new items i x fault lt is h memory why e =
     let split = events-split items i x lt is in (
       take i (events_of items),
@@ -431,11 +431,11 @@ turned : {A : Type 0} (p : Option (Incarnation A)) (before : List (Past A)) → 
 turned p before = grind (arith, nat_tests, reverse-append, reverse-reverse)
 
 -- without its end an incarnation is kept as an earlier one
-pub past-stands : {A : Type 0} (i : Incarnation A) (x : EndState) → IncStands i x → PastStands (past_of i) x
+pub past-stands : {A : Type 0} (i : Incarnation A) (x : EndState) → IncarnationRepresents i x → PastRepresents (past_of i) x
 past-stands i x h = record { kept = h.kept; put = h.put; taken = h.taken }
 
-all-stand : {A : Type 0} (p : Option (Incarnation A)) (before : List (Past A)) (xs : List EndState) → PresentStands p xs
-    → BeforeStand before (rest_of xs) → BeforeStand (present_list p ++ before) xs
+all-stand : {A : Type 0} (p : Option (Incarnation A)) (before : List (Past A)) (xs : List EndState) → PresentRepresents p xs
+    → EarlierRepresent before (rest_of xs) → EarlierRepresent (present_list p ++ before) xs
 all-stand None before [] h k = k
 all-stand None before (x ∷ xs) h k = absurd h
 all-stand (Some i) before [] h k = absurd h
@@ -448,32 +448,32 @@ map-reverse f (x ∷ xs) =
     ∙ (map-append f (reverse xs) (x ∷ [])
     ∙ (ap (λ ys. ys ++ f x ∷ []) (map-reverse f xs) ∙ sym (reverse-append (f x ∷ []) (map f xs))))
 
-il-entries : {A : Type 0} (is : List (Past A)) (xs : List EndState) → BeforeStand is xs → map il_entry xs ≡ map (entry_of None) is
+il-entries : {A : Type 0} (is : List (Past A)) (xs : List EndState) → EarlierRepresent is xs → map il_entry xs ≡ map (entry_of None) is
 il-entries [] [] h = refl
 il-entries [] (x ∷ xs) h = absurd h
 il-entries (i ∷ is) [] h = absurd h
 il-entries (i ∷ is) (x ∷ xs) h = grind (arith, h.0.put, h.0.taken, il-entries is xs h.1)
 
-pub il-report : {A : Type 0} (o : Openings A) (xs : List EndState) → SideStands o xs → reverse (map il_entry xs) ≡ map (entry_of None) (incarnations_of o)
+pub il-report : {A : Type 0} (o : Openings A) (xs : List EndState) → SideRepresents o xs → reverse (map il_entry xs) ≡ map (entry_of None) (incarnations_of o)
 il-report o xs h = grind (arith, il-entries (latest_first o) xs (all-stand o.present (reverse o.before.items) xs h.present h.before), map-reverse, turned)
 
-fe-entries : {A : Type 0} (is : List (Past A)) (fs : List JoinedEnd) → BeforeStand is (ends_of fs) → map joined_of is ≡ joins_in fs
+fe-entries : {A : Type 0} (is : List (Past A)) (fs : List JoinedEnd) → EarlierRepresent is (ends_of fs) → map joined_of is ≡ joins_in fs
     → map fe_entry fs ≡ map joined_entry is
 fe-entries [] [] h j = refl
 fe-entries [] (f ∷ fs) h j = absurd h
 fe-entries (i ∷ is) [] h j = absurd h
 fe-entries (i ∷ is) (f ∷ fs) h j = grind (arith, h.0.put, h.0.taken, fe-entries is fs h.1)
 
-none-before : {A : Type 0} (before : List (Past A)) → BeforeStand before [] → before ≡ []
+none-before : {A : Type 0} (before : List (Past A)) → EarlierRepresent before [] → before ≡ []
 none-before [] h = refl
 none-before (i ∷ is) h = absurd h
 
-joins-all : {A : Type 0} (p : Option (Incarnation A)) (before : List (Past A)) (fs : List JoinedEnd) → PresentStands p (ends_of fs)
-    → BeforeStand before (rest_of (ends_of fs))
+joins-all : {A : Type 0} (p : Option (Incarnation A)) (before : List (Past A)) (fs : List JoinedEnd) → PresentRepresents p (ends_of fs)
+    → EarlierRepresent before (rest_of (ends_of fs))
     → joins_with p (map joined_of before) ≡ joins_in fs → map joined_of (present_list p ++ before) ≡ joins_in fs
 joins-all p before fs h k l = grind (arith, nat_tests, none-before)
 
-pub fe-report : {A : Type 0} (o : Openings A) (fs : List JoinedEnd) → SideStands o (ends_of fs) → joins_of o ≡ joins_in fs
+pub fe-report : {A : Type 0} (o : Openings A) (fs : List JoinedEnd) → SideRepresents o (ends_of fs) → joins_of o ≡ joins_in fs
     → reverse (map fe_entry fs) ≡ map joined_entry (incarnations_of o)
 fe-report o fs h j =
     let before = reverse o.before.items in
@@ -516,92 +516,92 @@ alone-entry r (Some p) h = ap (option_map unjoined) h
 
 -- the end that was present becomes the latest of the earlier ones
 pub opened-side : {A : Type 0} (o p : Openings A) (i opened : Incarnation A) (past : Past A) (x : EndState) (xs : List EndState) → o.present ≡ Some i
-    → SideStands o xs → p.present ≡ Some opened → p.before.items ≡ o.before.items ++ past ∷ [] → ((y : EndState) → IncStands i y → PastStands past y)
-    → IncStands opened x → SideStands p (x ∷ xs)
-opened-side o p i opened past x [] e h now before keeps one = absurd (subst (λ q. PresentStands q []) e h.present)
+    → SideRepresents o xs → p.present ≡ Some opened → p.before.items ≡ o.before.items ++ past ∷ [] → ((y : EndState) → IncarnationRepresents i y → PastRepresents past y)
+    → IncarnationRepresents opened x → SideRepresents p (x ∷ xs)
+opened-side o p i opened past x [] e h now before keeps one = absurd (subst (λ q. PresentRepresents q []) e h.present)
 opened-side o p i opened past x (y ∷ ys) e h now before keeps one = record {
-  present = subst (λ q. PresentStands q (x ∷ y ∷ ys)) (sym now) one;
-  before = subst (λ ps. BeforeStand (reverse ps) (y ∷ ys)) (sym before)
-      (subst (λ ps. BeforeStand ps (y ∷ ys)) (sym (reverse-append o.before.items (past ∷ [])))
-      (keeps y (subst (λ q. PresentStands q (y ∷ ys)) e h.present), h.before));
+  present = subst (λ q. PresentRepresents q (x ∷ y ∷ ys)) (sym now) one;
+  before = subst (λ ps. EarlierRepresent (reverse ps) (y ∷ ys)) (sym before)
+      (subst (λ ps. EarlierRepresent ps (y ∷ ys)) (sym (reverse-append o.before.items (past ∷ [])))
+      (keeps y (subst (λ q. PresentRepresents q (y ∷ ys)) e h.present), h.before));
 }
 
 -- the search goes on among the first `number` incarnations
 abbrev pub IsLeft : {A : Type 0} → List ℕ → List (Past A) → ℕ → Type 0
 IsLeft octets incs number =
-    (xs : List EndState) → BeforeStand (reverse incs) xs → (ys : List EndState) × BeforeStand (reverse (take number incs)) ys
+    (xs : List EndState) → EarlierRepresent (reverse incs) xs → (ys : List EndState) × EarlierRepresent (reverse (take number incs)) ys
     × (latest_maker octets xs ≡ latest_maker octets ys)
 
 one-back : {X : Type 0} (xs : List X) (n : ℕ) (x : X) → n < length xs → x ≡ get_or xs n x → reverse (take (suc n) xs) ≡ x ∷ reverse (take n xs)
 one-back xs n x lt is = ap reverse (take-suc xs n x lt ∙ ap (λ y. take n xs ++ y ∷ []) (sym is)) ∙ reverse-append (take n xs) (x ∷ [])
 
-stand-length : {A : Type 0} (is : List (Past A)) (xs : List EndState) → BeforeStand is xs → length is ≡ length xs
+stand-length : {A : Type 0} (is : List (Past A)) (xs : List EndState) → EarlierRepresent is xs → length is ≡ length xs
 stand-length [] [] h = refl
 stand-length [] (x ∷ xs) h = absurd h
 stand-length (i ∷ is) [] h = absurd h
 stand-length (i ∷ is) (x ∷ xs) h = ap suc (stand-length is xs h.1)
 
 abbrev pub MadeBy : {A : Type 0} → Bool → List ℕ → Past A → Type 0
-MadeBy made octets p = (x : EndState) → PastStands p x → has_made (rule_of x.settings) octets x.machine.made ≡ made
+MadeBy made octets p = (x : EndState) → PastRepresents p x → has_made (rule_of x.settings) octets x.machine.made ≡ made
 
 -- the same of the present incarnation
 abbrev pub MadeNow : {A : Type 0} → Bool → List ℕ → Incarnation A → Type 0
-MadeNow made octets i = (x : EndState) → IncStands i x → has_made (rule_of x.settings) octets x.machine.made ≡ made
+MadeNow made octets i = (x : EndState) → IncarnationRepresents i x → has_made (rule_of x.settings) octets x.machine.made ≡ made
 
 pub all-left : {A : Type 0} (octets : List ℕ) (incs : List (Past A)) (n : ℕ) → take n incs ≡ incs → IsLeft octets incs n
-all-left octets incs n all = λ xs h. (xs, subst (λ is. BeforeStand (reverse is) xs) (sym all) h, refl)
+all-left octets incs n all = λ xs h. (xs, subst (λ is. EarlierRepresent (reverse is) xs) (sym all) h, refl)
 
 pub go-back : {A : Type 0} (octets : List ℕ) (incs : List (Past A)) (n : ℕ) (i : Past A) → n < length incs → i ≡ get_or incs n i
     → MadeBy false octets i → IsLeft octets incs (suc n) → IsLeft octets incs n
 go-back {A} octets incs n i lt is made left = λ xs h. behind xs (left xs h)
   where
-    behind : (xs : List EndState) → ((ys : List EndState) × BeforeStand (reverse (take (suc n) incs)) ys × (latest_maker octets xs ≡ latest_maker octets ys))
-        → ((ys : List EndState) × BeforeStand (reverse (take n incs)) ys × (latest_maker octets xs ≡ latest_maker octets ys))
-    behind xs (ys, stands, same) = split ys (subst (λ is. BeforeStand is ys) (one-back incs n i lt is) stands) same
+    behind : (xs : List EndState) → ((ys : List EndState) × EarlierRepresent (reverse (take (suc n) incs)) ys × (latest_maker octets xs ≡ latest_maker octets ys))
+        → ((ys : List EndState) × EarlierRepresent (reverse (take n incs)) ys × (latest_maker octets xs ≡ latest_maker octets ys))
+    behind xs (ys, stands, same) = split ys (subst (λ is. EarlierRepresent is ys) (one-back incs n i lt is) stands) same
       where
-        split : (ys : List EndState) → BeforeStand (i ∷ reverse (take n incs)) ys → latest_maker octets xs ≡ latest_maker octets ys
-            → ((zs : List EndState) × BeforeStand (reverse (take n incs)) zs × (latest_maker octets xs ≡ latest_maker octets zs))
+        split : (ys : List EndState) → EarlierRepresent (i ∷ reverse (take n incs)) ys → latest_maker octets xs ≡ latest_maker octets ys
+            → ((zs : List EndState) × EarlierRepresent (reverse (take n incs)) zs × (latest_maker octets xs ≡ latest_maker octets zs))
         split [] h same = absurd h
         split (y ∷ ys) h same = (ys, h.1, same ∙ ap (λ (b : Bool). if b then Some (length ys + 1) else latest_maker octets ys) (made y h.0))
 
 pub found : {A : Type 0} (octets : List ℕ) (incs : List (Past A)) (n : ℕ) (i : Past A) → n < length incs → i ≡ get_or incs n i
     → MadeBy true octets i → IsLeft octets incs (suc n)
-    → (xs : List EndState) → BeforeStand (reverse incs) xs → latest_maker octets xs ≡ Some (suc n)
+    → (xs : List EndState) → EarlierRepresent (reverse incs) xs → latest_maker octets xs ≡ Some (suc n)
 found {A} octets incs n i lt is made left xs h = behind (left xs h)
   where
     count : length (reverse (take n incs)) ≡ n
     count = omega (arith, length-reverse (take n incs), length-take n incs, lt)
 
-    behind : ((ys : List EndState) × BeforeStand (reverse (take (suc n) incs)) ys × (latest_maker octets xs ≡ latest_maker octets ys))
+    behind : ((ys : List EndState) × EarlierRepresent (reverse (take (suc n) incs)) ys × (latest_maker octets xs ≡ latest_maker octets ys))
         → latest_maker octets xs ≡ Some (suc n)
-    behind (ys, stands, same) = split ys (subst (λ is. BeforeStand is ys) (one-back incs n i lt is) stands) same
+    behind (ys, stands, same) = split ys (subst (λ is. EarlierRepresent is ys) (one-back incs n i lt is) stands) same
       where
-        split : (ys : List EndState) → BeforeStand (i ∷ reverse (take n incs)) ys → latest_maker octets xs ≡ latest_maker octets ys
+        split : (ys : List EndState) → EarlierRepresent (i ∷ reverse (take n incs)) ys → latest_maker octets xs ≡ latest_maker octets ys
             → latest_maker octets xs ≡ Some (suc n)
         split [] h same = absurd h
         split (y ∷ ys) h same =
             let number : length ys + 1 ≡ suc n = omega (arith, stand-length (reverse (take n incs)) ys h.1, count) in
             same ∙ (ap (λ (b : Bool). if b then Some (length ys + 1) else latest_maker octets ys) (made y h.0) ∙ ap Some number)
 
-pub none-left : {A : Type 0} (octets : List ℕ) (incs : List (Past A)) → IsLeft octets incs 0 → (xs : List EndState) → BeforeStand (reverse incs) xs
+pub none-left : {A : Type 0} (octets : List ℕ) (incs : List (Past A)) → IsLeft octets incs 0 → (xs : List EndState) → EarlierRepresent (reverse incs) xs
     → latest_maker octets xs ≡ None
 none-left {A} octets incs left xs h = behind (left xs h)
   where
-    go : (ys : List EndState) → BeforeStand {A = A} [] ys → latest_maker octets xs ≡ latest_maker octets ys → latest_maker octets xs ≡ None
+    go : (ys : List EndState) → EarlierRepresent {A = A} [] ys → latest_maker octets xs ≡ latest_maker octets ys → latest_maker octets xs ≡ None
     go [] stands same = same
     go (y ∷ ys) stands same = absurd stands
 
-    behind : ((ys : List EndState) × BeforeStand {A = A} [] ys × (latest_maker octets xs ≡ latest_maker octets ys)) → latest_maker octets xs ≡ None
+    behind : ((ys : List EndState) × EarlierRepresent {A = A} [] ys × (latest_maker octets xs ≡ latest_maker octets ys)) → latest_maker octets xs ≡ None
     behind (ys, stands, same) = go ys stands same
 
 -- the present incarnation made it, or not
 pub present-made : {A : Type 0} (o : Openings A) (i : Incarnation A) (octets : List ℕ) (xs : List EndState) → o.present ≡ Some i → MadeNow true octets i
-    → SideStands o xs
+    → SideRepresents o xs
     → Some (length o.before.items + 1) ≡ latest_maker octets xs
 present-made o i octets xs h k l = grind (arith, nat_tests, length-reverse, stand-length)
 
 pub present-not : {A : Type 0} (o : Openings A) (i : Incarnation A) (octets : List ℕ) (r : Option ℕ) → o.present ≡ Some i → MadeNow false octets i
-    → ((ys : List EndState) → BeforeStand (reverse o.before.items) ys → r ≡ latest_maker octets ys) → (xs : List EndState) → SideStands o xs
+    → ((ys : List EndState) → EarlierRepresent (reverse o.before.items) ys → r ≡ latest_maker octets ys) → (xs : List EndState) → SideRepresents o xs
     → r ≡ latest_maker octets xs
 present-not o i octets r h k l xs q = grind (arith, nat_tests)
 

@@ -1,7 +1,7 @@
 -- The side of the last event of a history.
 use Rattle.stack_engine.proofs.Words.{[], arith, ap, Event, event_of, List, nat_tests, refl, sym, ◌++◌, ◌∙◌, ◌∷◌, ◌≡◌}
 use Rattle.std.specs.Prelude.{Some}
-use Rattle.end_settings.specs.Configured.{side_of}
+use Rattle.end_settings.specs.ConfigValue.{side_of}
 use Rattle.stack_engine.specs.PairValue.{last_side, side_in}
 use Rattle.stack_engine.specs.declared.event.Event.{Event as CodeEvent}
 

@@ -1,23 +1,23 @@
 -- Over every faithful list of crossed ends the machines receive each other's PDUs in order.
 use Rattle.stack_engine.proofs.Words.{[], after_along, AllByRecursion, AllFaithful, answered, ap, append-nil, append_assoc, AreFrom, AreTyped, arith, arrivals}
-use Rattle.stack_engine.proofs.Words.{arrivals_of, arrive_octets, AtCall, AtOpened, Bool, Call, call, call_fe, call_il, call_refusal, Calls, Carries, change_world}
+use Rattle.stack_engine.proofs.Words.{arrivals_of, arrive_octets, AtCall, AtOpened, Bool, Call, call, call_fe, call_il, call_refusal, Calls, CarriesPdu, change_world}
 use Rattle.stack_engine.proofs.Words.{Close, ClosedByUser, Closes, CodeRule, Completes, cond, Crossed, Datagram, Deliver, drop, ends_of, EndSettings}
 use Rattle.stack_engine.proofs.Words.{EndState, Event, EventsLaw, FaithfulCall, FaithfulEvent, false, Fe, Genuine, GenuineCall, GenuineEvent, goes_on, guard}
 use Rattle.stack_engine.proofs.Words.{GuardHolds, Guards, handed_up, apply_event, HaveTexts, heard_as, IdentifiedLaw, Il, InitDone, inl, Input, inr, is_shut}
 use Rattle.stack_engine.proofs.Words.{IsGenuine, IsNear, IsTyped, JoinedEnd, judge_units, last_time, latest, leave, Leaves, leaves, Leaving, length, List, Made}
 use Rattle.stack_engine.proofs.Words.{made_of, process_event, Move, move, MovesLaw, nat_tests, new_end, no_wait, NoDeadlineFalls, None, OfBoth, Open, OpenMachine}
-use Rattle.stack_engine.proofs.Words.{Option, packed, Part, parts_passed_along, parts_passed, Put, Puts, QNear, receives, red_opened, RedTick, refl, refusal, rule_of}
+use Rattle.stack_engine.proofs.Words.{Option, packed, Part, parts_passed_along, parts_passed, Put, Puts, QNear, input_step, red_opened, RedTick, refl, refusal, rule_of}
 use Rattle.stack_engine.proofs.Words.{run, safe_seen, safe_text, SafeText, SameRule, seen_by, Sends, sends, Settings, Side, Some, start, State, subst}
 use Rattle.stack_engine.proofs.Words.{suc, sym, Tick, tick, Ticks, time_of, true, Unspecified, upper_of, with_input, with_joined, with_machine, with_session}
 use Rattle.stack_engine.proofs.Words.{World, zero, ℕ, ⊎_elim, ◌++◌, ◌∙◌, ◌∷◌, ◌≡◌, ◌≢◌, ◌≤◌, ◌⊎◌}
-use Rattle.stack_engine.proofs.Words.{guarded, ticked}
-use Rattle.stack_engine.proofs.faithful.Ordering.{arrivals-push, bear-nth, Carry, IsNth, Left, near-front, Next, Numbered, ord-deliver, ord-done, ord-put}
-use Rattle.stack_engine.proofs.faithful.Ordering.{ord-tick, OrdEnd, Ordered, ordered, peer_dead, peer_made, red-numbered, timely-front, WasOpened}
-use Rattle.stack_engine.proofs.one.Heeding.{FailsAt, Machined, machined-texts, Whole}
-use Rattle.stack_engine.proofs.one.Speaking.{all-append, all-map, any-parts, AnyPart, call-keeps, came, IsTypedCall, keep-packed, keep-parts}
-use Rattle.stack_engine.proofs.one.Speaking.{Keeps, Laws, legal-of, Steady, steady-goes}
-use Rattle.stack_engine.proofs.two.Mapping.{both-call, Comes, own-same, peer-same, TextsOf}
-use Rattle.stack_engine.proofs.two.Pairing.{Paired, paired-event, PairedWorld}
+use Rattle.stack_engine.proofs.Words.{guard_step, tick_step}
+use Rattle.stack_engine.proofs.faithful.Order.{arrivals-push, bear-nth, Carry, IsNth, Left, near-front, Next, Numbered, ord-deliver, ord-done, ord-put}
+use Rattle.stack_engine.proofs.faithful.Order.{ord-tick, OrdEnd, Ordered, ordered, peer_dead, peer_made, red-numbered, timely-front, WasOpened}
+use Rattle.stack_engine.proofs.one.Received.{FailsAt, Machined, machined-texts, Whole}
+use Rattle.stack_engine.proofs.one.Sent.{all-append, all-map, any-parts, AnyPart, call-keeps, came, IsTypedCall, keep-packed, keep-parts}
+use Rattle.stack_engine.proofs.one.Sent.{Keeps, Laws, legal-of, Steady, steady-goes}
+use Rattle.stack_engine.proofs.two.Machines.{both-call, Comes, own-same, peer-same, TextsOf}
+use Rattle.stack_engine.proofs.two.JointSessions.{Paired, paired-event, PairedWorld}
 use Rattle.stack_engine.proofs.two.Worlds.{at-call, call-timely, machines_as, made-fe, made-il, Mapped, open-fe, open-il, Opens, opens, served, states}
 use Rattle.stack_engine.proofs.two.Worlds.{texts-latest, typed-call, unless, unserved}
 use Rattle.safe_machine.specs.World as M
@@ -81,26 +81,26 @@ grown-call law Q c x t q =
 -- The inputs after a call, if the end goes on.
 on-inputs : (now : ℕ) (i : Input) (x : EndState) → is_shut x ≡ false → (goes_on now i x).inputs ≡ x.inputs ++ i ∷ []
 on-inputs now i x on =
-    let y = receives now i x in
+    let y = input_step now i x in
     let ps = parts_passed i x.red in
     ap (λ (b : Bool). (cond b x (sends now y)).inputs) on
     ∙ (keep-packed now AnyPart (Steady y) (steady-goes now y) (length y.session.waiting) y (record { set = refl; inputs = refl })).inputs
     ∙ (keep-parts now AnyPart (Steady (with_input i x)) (steady-goes now (with_input i x)) ps (with_input i x) (any-parts now ps (with_input i x))
     (record { set = refl; inputs = refl })).inputs
 
-tick-inputs : (now : ℕ) (x : EndState) → is_shut x ≡ false → is_shut (ticked now x) ≡ false → (call (Tick now) x).inputs ≡ x.inputs ++ RedTick now ∷ []
+tick-inputs : (now : ℕ) (x : EndState) → is_shut x ≡ false → is_shut (tick_step now x) ≡ false → (call (Tick now) x).inputs ≡ x.inputs ++ RedTick now ∷ []
 tick-inputs now x a b =
-    ap (λ (q : Bool). (cond q x (goes_on now (RedTick now) (ticked now x))).inputs) a ∙ on-inputs now (RedTick now) (ticked now x) b
+    ap (λ (q : Bool). (cond q x (goes_on now (RedTick now) (tick_step now x))).inputs) a ∙ on-inputs now (RedTick now) (tick_step now x) b
 
-deliver-inputs : (channel : ℕ) (octets : List ℕ) (now : ℕ) (x : EndState) → is_shut x ≡ false → is_shut (guarded now x) ≡ false
+deliver-inputs : (channel : ℕ) (octets : List ℕ) (now : ℕ) (x : EndState) → is_shut x ≡ false → is_shut (guard_step now x) ≡ false
     → (call (Deliver channel octets now) x).inputs ≡ x.inputs ++ Datagram octets now ∷ []
 deliver-inputs channel octets now x a b =
-    ap (λ (q : Bool). (cond q x (goes_on now (Datagram octets now) (guarded now x))).inputs) a ∙ on-inputs now (Datagram octets now) (guarded now x) b
+    ap (λ (q : Bool). (cond q x (goes_on now (Datagram octets now) (guard_step now x))).inputs) a ∙ on-inputs now (Datagram octets now) (guard_step now x) b
 
 -- what an end knows of what came
 pub record Known (peer : Option EndState) (x : EndState) : Type 0 where
   pub red : x.red ≡ after_along x.inputs (red_opened x.settings.q x.settings.t_seq)
-  pub carry : AllByRecursion (Carries peer) (arrivals x.inputs)
+  pub carry : AllByRecursion (CarriesPdu peer) (arrivals x.inputs)
 
 nth-more : (r : CodeRule) (ms more : List Made) (n : ℕ) (octets : List ℕ) → IsNth r ms n octets → IsNth r (ms ++ more) n octets
 nth-more r [] more zero octets h = let no = h.2 in cc
@@ -113,7 +113,7 @@ known-grown x y z g h =
     record {
       red = h.red;
       carry =
-          all-map (Carries (Some x)) (Carries (Some y))
+          all-map (CarriesPdu (Some x)) (CarriesPdu (Some y))
           (λ p n. subst (λ (s : EndSettings). IsNth (rule_of s) y.machine.made p.0 p.1) (sym g.set)
           (subst (λ ms. IsNth (rule_of x.settings) ms p.0 p.1) (sym g.made) (nth-more (rule_of x.settings) x.machine.made g.more_made p.0 p.1 n)))
           (arrivals z.inputs) h.carry;
@@ -208,36 +208,36 @@ numbers p r ms x y i near set ins carry brought =
 ord-any : (p : Laws) (side : Side) (m : M.World) (k : ℕ) (x : EndState) (peer : Option EndState) (dead : ℕ) (F : Type 0) (texts : TextsOf peer)
     (live : drop dead (made_of peer) ≡ drop (peer_dead side m) (peer_made side m)) (r : CodeRule) (ms : List Made)
     (next : (n : ℕ) (octets : List ℕ) → IsNth r ms n octets → Next side m x.settings n octets)
-    (each : (q : Part) → Carries peer q → Carry r ms q) (c : Call) → IsTypedCall c → FaithfulCall peer c x → AtCall (Comes peer dead) c x → IsNear (call c x)
+    (each : (q : Part) → CarriesPdu peer q → Carry r ms q) (c : Call) → IsTypedCall c → FaithfulCall peer c x → AtCall (Comes peer dead) c x → IsNear (call c x)
     → (call c x).settings ≡ x.settings
     → Known peer x → OrdEnd side m k x.settings (time_of c) F x.inputs (passed_count (Some x)) x
     → Left p side m k x.settings (time_of c) peer dead F texts live r ms next (call c x)
 ord-any p side m k x peer dead F texts live r ms next each (Close t) typed f q near set known h = absurd f.0
 ord-any p side m k x peer dead F texts live r ms next each (Put kind payload t) typed f q near set known h =
     ord-put p side m k x.settings t peer dead F texts live r ms next kind payload x.inputs x typed
-    (all-map (Carries peer) (Carry r ms) each (arrivals x.inputs) known.carry) h
+    (all-map (CarriesPdu peer) (Carry r ms) each (arrivals x.inputs) known.carry) h
 ord-any p side m k x peer dead F texts live r ms next each (InitDone t) typed f q near set known h =
     ord-done p side m k x.settings t peer dead F texts live r ms next x.inputs x
-    (all-map (Carries peer) (Carry r ms) each (arrivals x.inputs) known.carry) h
+    (all-map (CarriesPdu peer) (Carry r ms) each (arrivals x.inputs) known.carry) h
 ord-any p side m k x peer dead F texts live r ms next each (Tick t) typed f q near set known h =
-    let carry = all-map (Carries peer) (Carry r ms) each (arrivals x.inputs) known.carry in
+    let carry = all-map (CarriesPdu peer) (Carry r ms) each (arrivals x.inputs) known.carry in
     ord-tick p side m k x.settings t peer dead F texts live r ms next x.inputs x f.2.0
     (both-call (λ y o. GuardHolds y.machine t) (Comes peer dead) (Tick t) x f.2.1 q)
     (λ a b. numbers p r ms x (call (Tick t) x) (RedTick t) near set (tick-inputs t x a b) carry tt) carry h
 ord-any p side m k x peer dead F texts live r ms next each (Deliver channel octets t) typed f q near set known h =
-    let carry = all-map (Carries peer) (Carry r ms) each (arrivals x.inputs) known.carry in
+    let carry = all-map (CarriesPdu peer) (Carry r ms) each (arrivals x.inputs) known.carry in
     ord-deliver p side m k x.settings t peer dead F texts live r ms next channel octets x.inputs x
     typed f.2.0
     (both-call (λ y o. GuardHolds y.machine t) (Comes peer dead) (Deliver channel octets t) x f.2.1 q)
     (λ a b. numbers p r ms x (call (Deliver channel octets t) x) (Datagram octets t) near set (deliver-inputs channel octets t x a b) carry
-    (all-map (Carries peer) (Carry r ms) each (arrivals_of (Datagram octets t)) f.1)) carry h
+    (all-map (CarriesPdu peer) (Carry r ms) each (arrivals_of (Datagram octets t)) f.1)) carry h
 
 -- what the end became, in the world of machines
 left-count : (p : Laws) (s : EndSettings) (ins : List Input) (y : EndState) → y.settings ≡ s → y.inputs ≡ ins
     → length (parts_passed_along ins (red_opened s.q s.t_seq)) ≡ passed_count (Some y)
 left-count p s ins y a b = rw (← a, ← b) refl
 
-known-left : (peer : Option EndState) (r : CodeRule) (ms : List Made) (x y : EndState) (ins : List Input) → ((q : Part) → Carry r ms q → Carries peer q)
+known-left : (peer : Option EndState) (r : CodeRule) (ms : List Made) (x y : EndState) (ins : List Input) → ((q : Part) → Carry r ms q → CarriesPdu peer q)
     → y.settings ≡ x.settings → y.inputs ≡ ins
     → y.red ≡ after_along ins (red_opened x.settings.q x.settings.t_seq) → AllByRecursion (Carry r ms) (arrivals ins) → Known peer y
 known-left peer r ms x y ins back set came red carry = grind (arith, nat_tests, all-map)
@@ -256,8 +256,8 @@ record Peer (side : Side) (m : M.World) (x : EndState) (peer : Option EndState) 
   rule : CodeRule
   ms : List Made
   next : (n : ℕ) (octets : List ℕ) → IsNth rule ms n octets → Next side m x.settings n octets
-  each : (q : Part) → Carries peer q → Carry rule ms q
-  back : (q : Part) → Carry rule ms q → Carries peer q
+  each : (q : Part) → CarriesPdu peer q → Carry rule ms q
+  back : (q : Part) → Carry rule ms q → CarriesPdu peer q
 
 nobody : (side : Side) (m : M.World) (x : EndState) → Peer side m x None
 nobody side m x =
@@ -372,7 +372,7 @@ ord-fe p c ils f fs di df typed timely fc g near peers h w =
 -- openings
 knows-opened : (y : EndState) (z : Option EndState) → AtOpened (Known None) z → AtOpened (Known (Some y)) z
 knows-opened y None h = tt
-knows-opened y (Some z) h = record { red = h.red; carry = all-map (Carries None) (Carries (Some y)) (λ p no. absurd no) (arrivals z.inputs) h.carry }
+knows-opened y (Some z) h = record { red = h.red; carry = all-map (CarriesPdu None) (CarriesPdu (Some y)) (λ p no. absurd no) (arrivals z.inputs) h.carry }
 
 new-known : (peer : Option EndState) (side : Side) (s : EndSettings) (first now : ℕ) → Known peer (new_end side s first now)
 new-known peer side s first now = record { red = refl; carry = tt }

@@ -7,23 +7,23 @@ use Rattle.stack_engine.proofs.Words.{eqb-true, Err, Event, FaithfulCall, Faithf
 use Rattle.stack_engine.proofs.Words.{GenuineCall, GenuineEvent, goes_on, GuardHolds, Guards, handed_up, apply_event, heard, heard_as, Hears, History}
 use Rattle.stack_engine.proofs.Words.{IdentifiedLaw, Idle, IfAllArrived, IfOpen, Il, incarnation, InitDone, inl, Input, inr, is_closed, is_connected}
 use Rattle.stack_engine.proofs.Words.{is_early, is_nil, is_shut, is_stranger, IsBeginning, IsGenuine, IsNear, IsRunning, IsTyped, IsUp, items_of, items_waiting}
-use Rattle.stack_engine.proofs.Words.{Joined, JoinedEnd, judge_units, KeepsOrder, latest, leaves, length, List, ltb-false, Made, made_of, Match, MatchOption}
+use Rattle.stack_engine.proofs.Words.{SessionPair, JoinedEnd, judge_units, KeepsOrder, latest, leaves, length, List, ltb-false, Made, made_of, Match, MatchOption}
 use Rattle.stack_engine.proofs.Words.{may_send, messages_in, Move, move, moved, nat_tests, new_end, None, NothingLostCrossedLaw, NothingLostLaw, OfBoth, Ok}
-use Rattle.stack_engine.proofs.Words.{Open, Option, OrderlyLaw, Pdu, Phase, phase_in, Put, put_at, RedTick, refl, refusal, Result, rises, rule_of, run}
+use Rattle.stack_engine.proofs.Words.{Open, Option, OrderlyLaw, Pdu, Phase, phase_in, Put, put_at, RedTick, refl, refusal, Result, bring_up, rule_of, run}
 use Rattle.stack_engine.proofs.Words.{SafeFault, seen_by, server_state, session_of, session_refusal, Settings, Side, Some, start, State, StaysOpen}
 use Rattle.stack_engine.proofs.Words.{subst, suc, sym, taken_at, telegrams_in, Tick, Ticks, time_of, true, unconfirmed, units, UnitsThere, WaitsForWindow}
 use Rattle.stack_engine.proofs.Words.{with_machine, World, zero, ℕ, ⊎_elim, ◌++◌, ◌+◌, ◌<◌, ◌==◌, ◌∙◌, ◌∷◌, ◌≡◌, ◌≢◌, ◌≤◌, ◌⊎◌}
-use Rattle.stack_engine.proofs.Words.{guarded, guarded-is, ticked, ticked-is}
+use Rattle.stack_engine.proofs.Words.{guard_step, guarded-is, tick_step, ticked-is}
 use Rattle.stack_engine.proofs.faithful.Faithfuls.{AheadOf, back-run, bears, crossed-fe, crossed-il, Grown, grown-call, Known, not-empty, ord-run, ord-start}
 use Rattle.stack_engine.proofs.faithful.Faithfuls.{OrdAt, OrdWorld, passed_count}
-use Rattle.stack_engine.proofs.faithful.Ordering.{found, IsNth, length-first}
-use Rattle.stack_engine.proofs.one.Heeding.{AreGood, Begins, begins-keeps, closed-early, early-connected, early-stays, Fails, Heeds, idle-done, idle-put}
-use Rattle.stack_engine.proofs.one.Heeding.{IsEarly, IsGood, Machined, Whole}
-use Rattle.stack_engine.proofs.one.Speaking.{all-parts, and-parts, call-keeps, call-packs-at, closed-is, Goes, handed-none, IsTypedCall, keep-goes_on}
-use Rattle.stack_engine.proofs.one.Speaking.{keep-settle, Laws, nil-behind, nil-front, Packs, packs-some, PacksAt, Spoken}
-use Rattle.stack_engine.proofs.two.Confirmed.{checksum-short, early-by, good-sent, nil-is, not-closed}
-use Rattle.stack_engine.proofs.two.Mapping.{both-call, Comes, genuine-heard, not-stranger, own-same, peer-same, TextsOf}
-use Rattle.stack_engine.proofs.two.Pairing.{joint-new, JointEnds, law-now, Paired, paired-event, paired-run, paired-start, PairedWorld}
+use Rattle.stack_engine.proofs.faithful.Order.{found, IsNth, length-first}
+use Rattle.stack_engine.proofs.one.Received.{AreGood, Begins, begins-keeps, closed-early, early-connected, early-stays, Fails, Heeds, idle-done, idle-put}
+use Rattle.stack_engine.proofs.one.Received.{IsEarly, IsGood, Machined, Whole}
+use Rattle.stack_engine.proofs.one.Sent.{all-parts, and-parts, call-keeps, call-packs-at, closed-is, Goes, handed-none, IsTypedCall, keep-goes_on}
+use Rattle.stack_engine.proofs.one.Sent.{keep-settle, Laws, nil-behind, nil-front, Packs, packs-some, PacksAt, Spoken}
+use Rattle.stack_engine.proofs.two.PairPromises.{checksum-short, early-by, good-sent, nil-is, not-closed}
+use Rattle.stack_engine.proofs.two.Machines.{both-call, Comes, genuine-heard, not-stranger, own-same, peer-same, TextsOf}
+use Rattle.stack_engine.proofs.two.JointSessions.{joint-new, JointEnds, law-now, Paired, paired-event, paired-run, paired-start, PairedWorld}
 use Rattle.stack_engine.proofs.two.Worlds.{AllWhole, at-call, items-append, machines_as, Mapped, MappedWorld, opens, queue-is, queue-put, served, states}
 use Rattle.stack_engine.proofs.two.Worlds.{texts-latest, typed-call, unless, unserved}
 use Rattle.safe_machine.specs.Law as L
@@ -253,7 +253,7 @@ match-stays p x y sy t b m fails =
     let law = p.matching x.settings.addressing y.settings.addressing (first_version x.settings.versions) y.settings.versions y.settings.checksum
     (checksum-short Fe y.settings sy.fit) (fits-by x y m) t.joint.events t.joint.in_turn in
     let both : (x.session.history.ended_in ≡ None) × ((phase : Phase) → y.session.history.ended_in ≡ Some phase → phase ≡ Idle) =
-    subst (λ (h : Joined). (h.il.ended_in ≡ None) × ((phase : Phase) → h.fe.ended_in ≡ Some phase → phase ≡ Idle)) t.joint.leads law
+    subst (λ (h : SessionPair). (h.il.ended_in ≡ None) × ((phase : Phase) → h.fe.ended_in ≡ Some phase → phase ≡ Idle)) t.joint.leads law
     in
     ⊎_elim (λ f. f t.il_good both.0)
     (λ f. let s = some-of y.session.history.ended_in (f t.fe_good) in b.ended (s.1 ∙ ap Some (both.1 s.0 s.1))) fails
@@ -343,7 +343,7 @@ all-there p (x ∷ []) (f ∷ []) di df o a q k b = λ from-fe from-il.
           let on = stays is in
           let step = p.in_step x.settings.addressing y.settings.addressing (first_version x.settings.versions) y.settings.versions y.settings.checksum
           (checksum-short Fe y.settings sy.fit) t.joint.events t.joint.in_turn in
-          (subst (λ (h : Joined). IsRunning h.il → IsRunning h.fe → h.il.judged ≡ h.fe.queue → h.fe.judged ≡ h.il.queue → AreInStep h.il h.fe) t.joint.leads
+          (subst (λ (h : SessionPair). IsRunning h.il → IsRunning h.fe → h.il.judged ≡ h.fe.queue → h.fe.judged ≡ h.il.queue → AreInStep h.il h.fe) t.joint.leads
           step)
           (record { begun = b.0.begun (ap is_connected u.il_up); unended = h.il_whole.0.heeds.on on.0 })
           (record { begun = b.1.begun (ap is_connected u.fe_up); unended = h.fe_whole.0.heeds.on on.1 })
@@ -353,7 +353,7 @@ all-there p (x ∷ []) (f ∷ []) di df o a q k b = λ from-fe from-il.
   where
     fronts : (x y : EndState) → Spoken Fe y → Together x y → IsBeginning (taken_at x) (put_at y) × IsBeginning (taken_at y) (put_at x)
     fronts x y sy t =
-        subst (λ (h : Joined). IsBeginning h.il.taken h.fe.put × IsBeginning h.fe.taken h.il.put) t.joint.leads
+        subst (λ (h : SessionPair). IsBeginning h.il.taken h.fe.put × IsBeginning h.fe.taken h.il.put) t.joint.leads
         (p.fronts x.settings.addressing y.settings.addressing (first_version x.settings.versions) y.settings.versions y.settings.checksum
         (checksum-short Fe y.settings sy.fit) t.joint.events t.joint.in_turn)
 
@@ -395,11 +395,11 @@ module _ (now : ℕ) (Q : EndState → List ℕ → Type 0) (x : EndState) (earl
   i-heard octets y q h =
       let same = deaf octets y h q in
       let c = y.machine.connection in
-      let stays : rises (comes_up c c) y.session ≡ y.session = ap (λ b. rises b y.session) (early-stays c (early-of y h)) in
+      let stays : bring_up (comes_up c c) y.session ≡ y.session = ap (λ b. bring_up b y.session) (early-stays c (early-of y h)) in
       subst (λ (s : State). Idles x (leaves now (judge_units (handed_up y s) y.session).leaving (answered octets y s))) (sym same)
       (by_units (handed_up y y.machine) (handed-none y y.machine refl) y octets stays h)
     where
-      by_units : (us : List (List ℕ)) → us ≡ [] → (y : EndState) (octets : List ℕ) → rises (comes_up y.machine.connection y.machine.connection) y.session
+      by_units : (us : List (List ℕ)) → us ≡ [] → (y : EndState) (octets : List ℕ) → bring_up (comes_up y.machine.connection y.machine.connection) y.session
           ≡ y.session → Idles x y
           → Idles x (leaves now (judge_units us y.session).leaving
           (record {
@@ -408,7 +408,7 @@ module _ (now : ℕ) (Q : EndState → List ℕ → Type 0) (x : EndState) (earl
             inputs = y.inputs;
             machine = y.machine;
             session =
-                rises (comes_up y.machine.connection y.machine.connection) (judge_units us y.session).left;
+                bring_up (comes_up y.machine.connection y.machine.connection) (judge_units us y.session).left;
             request = (answered octets y y.machine).request;
             time = y.time;
           }))
@@ -477,21 +477,21 @@ calm-call l side x peer dead (Put kind payload t) w texts deaf ok f q h = grind 
 calm-call l side x peer dead (InitDone t) w texts deaf ok f q h = grind (arith, nat_tests, idle-done, not-refused, h.phase)
 calm-call l side x peer dead (Tick t) w texts deaf ok f q h =
     let Q : EndState → List ℕ → Type 0 = λ y o. GuardHolds y.machine t × Comes peer dead y o in
-    by_test (λ b. is_shut x ≡ b → Calm (record (cond b x (goes_on t (RedTick t) (ticked t x))) { time = t })) (is_shut x) (λ _ _. h)
+    by_test (λ b. is_shut x ≡ b → Calm (record (cond b x (goes_on t (RedTick t) (tick_step t x))) { time = t })) (is_shut x) (λ _ _. h)
     (λ on _.
-    calm-idles x (goes_on t (RedTick t) (ticked t x))
-    (i-goes_on t Q x h.early h.waiting f.2.0 (deaf-of l side x peer dead t w texts deaf h.early) (RedTick t) (ticked t x)
+    calm-idles x (goes_on t (RedTick t) (tick_step t x))
+    (i-goes_on t Q x h.early h.waiting f.2.0 (deaf-of l side x peer dead t w texts deaf h.early) (RedTick t) (tick_step t x)
     (both-call (λ y o. GuardHolds y.machine t) (Comes peer dead) (Tick t) x f.2.1 q on)
-    (i-moved t Q x h.early h.waiting f.2.0 (deaf-of l side x peer dead t w texts deaf h.early) (Ticks t) (ticked t x) (ticked-is t x) (still-tick t x.machine h.early f.2.0))) h)
+    (i-moved t Q x h.early h.waiting f.2.0 (deaf-of l side x peer dead t w texts deaf h.early) (Ticks t) (tick_step t x) (ticked-is t x) (still-tick t x.machine h.early f.2.0))) h)
     refl
 calm-call l side x peer dead (Deliver channel octets t) w texts deaf ok f q h =
     let Q : EndState → List ℕ → Type 0 = λ y o. GuardHolds y.machine t × Comes peer dead y o in
-    by_test (λ b. is_shut x ≡ b → Calm (record (cond b x (goes_on t (Datagram octets t) (guarded t x))) { time = t })) (is_shut x) (λ _ _. h)
+    by_test (λ b. is_shut x ≡ b → Calm (record (cond b x (goes_on t (Datagram octets t) (guard_step t x))) { time = t })) (is_shut x) (λ _ _. h)
     (λ on _.
-    calm-idles x (goes_on t (Datagram octets t) (guarded t x))
-    (i-goes_on t Q x h.early h.waiting f.2.0 (deaf-of l side x peer dead t w texts deaf h.early) (Datagram octets t) (guarded t x)
+    calm-idles x (goes_on t (Datagram octets t) (guard_step t x))
+    (i-goes_on t Q x h.early h.waiting f.2.0 (deaf-of l side x peer dead t w texts deaf h.early) (Datagram octets t) (guard_step t x)
     (both-call (λ y o. GuardHolds y.machine t) (Comes peer dead) (Deliver channel octets t) x f.2.1 q on)
-    (i-moved t Q x h.early h.waiting f.2.0 (deaf-of l side x peer dead t w texts deaf h.early) (Guards t) (guarded t x) (guarded-is t x) f.2.0)) h) refl
+    (i-moved t Q x h.early h.waiting f.2.0 (deaf-of l side x peer dead t w texts deaf h.early) (Guards t) (guard_step t x) (guarded-is t x) f.2.0)) h) refl
 
 -- ends that are not crossed
 abbrev Unmet : EndState → EndState → Type 0

@@ -1,17 +1,17 @@
 -- What makes a list of events genuine and faithful, and what holds at its end, as tests that are computed.
-use Rattle.safe_machine.proofs.one.Turning.{guard-is}
+use Rattle.safe_machine.proofs.one.TurnSteps.{guard-is}
 use Rattle.stack_engine.proofs.Words.{[], AllArrived, AllByRecursion, AllFaithful, AreAtMost, AreTyped, arith, arrivals, arrivals_of, Arrived, AtCall, AtOpened}
-use Rattle.stack_engine.proofs.Words.{AtParts, Bool, bytes_eq, bytes_eq-Decides, Call, Calls, Carries, cases_lt, Close, CodeRule, Datagram, Deliver, drop}
+use Rattle.stack_engine.proofs.Words.{AtParts, Bool, bytes_eq, bytes_eq-Decides, Call, Calls, CarriesPdu, cases_lt, Close, CodeRule, Datagram, Deliver, drop}
 use Rattle.stack_engine.proofs.Words.{EndState, Event, FaithfulCall, FaithfulEvent, false, Fe, first_missing, first_version, Genuine, GenuineCall, GenuineEvent}
 use Rattle.stack_engine.proofs.Words.{GuardHolds, apply_event, has_number, if◌then◌else◌, Il, inl, Input, inr, is_alive, is_asked_of, is_live, is_nil}
 use Rattle.stack_engine.proofs.Words.{IsGenuine, IsInTime, IsNear, IsTyped, leave, length, Limit, List, list_any, Made, Match, moment_of, nat_le, nat_lt}
-use Rattle.stack_engine.proofs.Words.{nat_tests, no_wait, NoDeadlineFalls, None, not, OfBoth, OfOpened, Open, Option, Part, part, parts_passed, present}
+use Rattle.stack_engine.proofs.Words.{nat_tests, no_wait, NoDeadlineFalls, None, not, OfBoth, OfBothOpened, Open, Option, Part, part_step, parts_passed, present}
 use Rattle.stack_engine.proofs.Words.{ProtocolError, Put, QNear, RedTick, refl, refusal, rule_of, run, SameRule, Some, State, subst, suc, sym, taken_at, Tick}
 use Rattle.stack_engine.proofs.Words.{Timeout, true, Unspecified, upper_of, Wait, wait_after, with_input, World, zero, ℕ, ◌&&◌, ◌++◌, ◌+◌, ◌<◌, ◌==◌}
 use Rattle.stack_engine.proofs.Words.{◌^◌, ◌||◌, ◌∙◌, ◌∷◌, ◌≡◌, ◌≢◌, ◌≤◌}
-use Rattle.stack_engine.proofs.Words.{guarded, ticked}
-use Rattle.stack_engine.proofs.one.Speaking.{and-parts, came}
-use Rattle.stack_engine.proofs.two.Confirmed.{nil-is, not-true}
+use Rattle.stack_engine.proofs.Words.{guard_step, tick_step}
+use Rattle.stack_engine.proofs.one.Sent.{and-parts, came}
+use Rattle.stack_engine.proofs.two.PairPromises.{nil-is, not-true}
 
 -- P holds if the test is true
 abbrev Tells : {X : Type 0} → (X → Bool) → (X → Type 0) → Type 0
@@ -43,22 +43,22 @@ TellsUp t P = (x : EndState) (octets : List ℕ) → t x octets ≡ true → P x
 
 abbrev at_parts : (EndState → List ℕ → Bool) → ℕ → List Part → EndState → Bool
 at_parts t now [] x = true
-at_parts t now (p ∷ ps) x = t x p.1 && at_parts t now ps (part now p.1 x)
+at_parts t now (p ∷ ps) x = t x p.1 && at_parts t now ps (part_step now p.1 x)
 
 abbrev at_input : (EndState → List ℕ → Bool) → ℕ → Input → EndState → Bool
 at_input t now i x = at_parts t now (parts_passed i x.red) (with_input i x)
 
 abbrev at_call : (EndState → List ℕ → Bool) → Call → EndState → Bool
-at_call t (Tick now) x = at_input t now (RedTick now) (ticked now x)
-at_call t (Deliver channel octets now) x = at_input t now (Datagram octets now) (guarded now x)
+at_call t (Tick now) x = at_input t now (RedTick now) (tick_step now x)
+at_call t (Deliver channel octets now) x = at_input t now (Datagram octets now) (guard_step now x)
 at_call t _ x = true
 
 module _ (t : EndState → List ℕ → Bool) (P : EndState → List ℕ → Type 0) (tells : TellsUp t P) where
   at-parts : (now : ℕ) (ps : List Part) (x : EndState) → at_parts t now ps x ≡ true → AtParts P now ps x
   at-parts now [] x h = tt
   at-parts now (p ∷ ps) x h =
-      let parts = and-parts (t x p.1) (at_parts t now ps (part now p.1 x)) h in
-      (tells x p.1 parts.0, at-parts now ps (part now p.1 x) parts.1)
+      let parts = and-parts (t x p.1) (at_parts t now ps (part_step now p.1 x)) h in
+      (tells x p.1 parts.0, at-parts now ps (part_step now p.1 x) parts.1)
 
   at-call : (c : Call) (x : EndState) → at_call t c x ≡ true → AtCall P c x
   at-call (Tick now) x h = λ up still. at-parts now _ _ h
@@ -110,7 +110,7 @@ carried : (rule : CodeRule) (made ms : List Made) (k : ℕ) (octets : List ℕ) 
 carried rule made [] k octets at h = cc
 carried rule made (m ∷ later) k octets at h = (m, later, at, (bytes_eq-Decides octets (upper_of rule m)).0 h)
 
-carries-part : (peer : Option EndState) → Tells (carries peer) (Carries peer)
+carries-part : (peer : Option EndState) → Tells (carries peer) (CarriesPdu peer)
 carries-part None p h = cc
 carries-part (Some peer) p h = carried (rule_of peer.settings) peer.machine.made (drop p.0 peer.machine.made) p.0 p.1 refl h
 
@@ -141,12 +141,12 @@ good-call peer dead (Deliver channel octets now) x h =
     let came = and-parts (all_of (λ (p : Part). is_genuine_part peer dead x p.1) ps) (all_of (carries peer) ps) both.1 in (
       (
         all-of _ _ (λ p. genuine-part peer dead x p.1) ps came.0,
-        at-call _ _ (λ y part k. genuine-part peer dead y part (and-parts _ _ k).0) c x here.1,
+        at-call _ _ (λ y part_step k. genuine-part peer dead y part_step (and-parts _ _ k).0) c x here.1,
       ),
       (
         tt,
-        all-of (carries peer) (Carries peer) (carries-part peer) ps came.1,
-        (stays-at now x [] here.0, at-call _ _ (λ y part k. stays-at now y part (and-parts _ _ k).1) c x here.1),
+        all-of (carries peer) (CarriesPdu peer) (carries-part peer) ps came.1,
+        (stays-at now x [] here.0, at-call _ _ (λ y part_step k. stays-at now y part_step (and-parts _ _ k).1) c x here.1),
       ),
     )
 good-call peer dead _ x h = ((tt, tt), (tt, tt, tt))
@@ -338,7 +338,7 @@ is_whole (Some il) (Some fe) =
     (has_come il fe && has_come fe il) && (is_match il fe && (not (is_nil (taken_at il)) && not (is_nil (taken_at fe))))
 is_whole _ _ = false
 
-arrived : (rule : CodeRule) (il fe : Option EndState) → AtOpened (HasRule rule) il → AtOpened (HasRule rule) fe → is_whole il fe ≡ true → OfOpened Arrived il fe
+arrived : (rule : CodeRule) (il fe : Option EndState) → AtOpened (HasRule rule) il → AtOpened (HasRule rule) fe → is_whole il fe ≡ true → OfBothOpened Arrived il fe
 arrived rule None fe il_rule fe_rule h = cc
 arrived rule (Some il) None il_rule fe_rule h = cc
 arrived rule (Some il) (Some fe) il_rule fe_rule h =
@@ -370,7 +370,7 @@ pub record Told (es : List Event) (w : World) : Type 0 where
   pub il_near : AtOpened IsNear (present Il (run es w))
   pub fe_near : AtOpened IsNear (present Fe (run es w))
   pub same_rule : OfBoth SameRule (present Il (run es w)) (present Fe (run es w))
-  pub arrived : OfOpened Arrived (present Il (run es w)) (present Fe (run es w))
+  pub arrived : OfBothOpened Arrived (present Il (run es w)) (present Fe (run es w))
 
 pub course : (rule : CodeRule) (es : List Event) (w : World) → AtOpened (HasRule rule) (present Il (run es w))
     → AtOpened (HasRule rule) (present Fe (run es w)) → is_course es w ≡ true → Told es w

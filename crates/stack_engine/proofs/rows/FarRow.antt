@@ -1,4 +1,4 @@
--- Made by tests/rows from a script: do not edit it.
+-- Made by tests/gate/rows from a script: do not edit it.
 -- A faithful list of events, computed, whose ends have different T_max. Parts come up to q numbers too early and wait on both channels until just before
 -- the deadline; seven commands and two status go through, the longest among them.
 use Rattle.stack_engine.proofs.Words.{[], after_block, after_round, ahead, AtOpened, Calls, CodeRule, decoded, Deliver, digest, Eight, Event}

@@ -2,9 +2,9 @@
 use Rattle.stack_engine.proofs.Words.{ap, arith, made_after, confirming_pdu, EndState, Fresh, FreshInstances, HeadlineInstances, inl, inr, Instances, IsBeginning}
 use Rattle.stack_engine.proofs.Words.{Item, lit<, lit≤, Made, made_one, one, Pdu, refl, SettledInstances, State, subst, sym, two}
 use Rattle.std.specs.Prelude.{[], Bool, drop, false, List, None, Option, Some, true, ℕ, ◌++◌, ◌+◌, ◌-◌, ◌<◌, ◌∷◌, ◌≡◌, ◌≤◌}
-use Rattle.stack_engine.proofs.one.Speaking.{nil-front}
+use Rattle.stack_engine.proofs.one.Sent.{nil-front}
 use Rattle.stack_engine.proofs.rows.Drops.{differ, no-item, none-found, one-found}
-use Rattle.stack_engine.proofs.rows.Forged.{taken-from-nobody}
+use Rattle.stack_engine.proofs.rows.Forgery.{taken-from-nobody}
 
 not-itself : (n : ℕ) → n < n → ⊥
 not-itself n h = omega arith

@@ -1,6 +1,6 @@
 -- Each clause of "nothing lost" refuses a world that all other clauses admit.
 use Rattle.stack_engine.proofs.Words.{[], AllArrived, AllThere, arith, world_of_two, Course, early, EndState, Established, fe_with, il_with, Initialising, inl, inr}
-use Rattle.stack_engine.proofs.Words.{List, LossInstances, lost_course, Made, Match, NothingLost, one, plain, refl, Start, starting, tele_seen, Up, waiting_course, ℕ, ◌<◌, ◌∷◌}
+use Rattle.stack_engine.proofs.Words.{List, LossInstances, lost_course, Made, Match, NothingLost, one, plain, refl, Start, not_up, tele_seen, Up, waiting_course, ℕ, ◌<◌, ◌∷◌}
 use Rattle.stack_engine.proofs.Words.{◌≡◌, ◌≢◌, ◌≤◌, ◌⊎◌}
 use Rattle.stack_engine.proofs.rows.Drops.{no-item}
 use Rattle.stack_engine.proofs.rows.Instances.{true-is-false}
@@ -66,8 +66,8 @@ loss-instances x m =
       fe_waits = ((λ h. not-full ((there plain waiting_course x h).fe_waits refl (no-message [] []))), idle, refl, refl, up, up, (λ m il fe. absurd (no-item [] [] fe)));
       commands = ((λ h. no-item one [] (there lost_course plain x h).commands), idle, idle, refl, up, up, steady);
       status = ((λ h. no-item one [] (there plain lost_course x h).status), idle, idle, refl, up, up, steady);
-      il_starts = ((λ h. not-up ((there starting plain x h).il_up (match-plain starting plain x))), idle, idle, refl, refl, up, steady);
-      fe_starts = ((λ h. not-up ((there plain starting x h).fe_up (match-plain plain starting x))), idle, idle, refl, refl, up, steady);
+      il_starts = ((λ h. not-up ((there not_up plain x h).il_up (match-plain not_up plain x))), idle, idle, refl, refl, up, steady);
+      fe_starts = ((λ h. not-up ((there plain not_up x h).fe_up (match-plain plain not_up x))), idle, idle, refl, refl, up, steady);
       il_early = (
         (λ h. elim ((there early plain x h).in_step (match-plain early plain x) refl refl) [ inl w ↦ true-is-false w.0 | inr w ↦ not-initialising w.1 ]),
         idle,

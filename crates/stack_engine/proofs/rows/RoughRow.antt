@@ -1,4 +1,4 @@
--- Made by tests/rows from a script: do not edit it.
+-- Made by tests/gate/rows from a script: do not edit it.
 -- A genuine list of events over a bad network, computed. A damaged datagram and a repeated one lead to a request; its answer comes beside a foreign
 -- datagram and under made-up redundancy numbers, one of which waits for its deadline. Then each end is opened again, with openings that are joined to
 -- none; parts come out of order and repeated, and three telegrams come in one unit. At its end both ends are settled.

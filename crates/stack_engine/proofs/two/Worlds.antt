@@ -6,16 +6,16 @@ use Rattle.stack_engine.proofs.Words.{GenuineEvent, guard, Guards, apply_event, 
 use Rattle.stack_engine.proofs.Words.{is_legal, is_name, is_untimely, IsBeginning, IsGenuine, IsJoined, IsName, IsTyped, items_of, joined_by, JoinedBelow}
 use Rattle.stack_engine.proofs.Words.{JoinedEnd, JoinsFall, last_time, latest, length, length-append, List, Made, made_of, MatchOption, messages_in, move}
 use Rattle.stack_engine.proofs.Words.{MovesLaw, nat_le, nat_lt, nat_tests, new_end, next_bound, None, Ok, OnlyJoinedTake, open_refusal, OpenMachine, Option}
-use Rattle.stack_engine.proofs.Words.{Part, part, parts_passed, Pdu, Put, put_at, RedTick, refl, Refusal, Result, safe_seen, SafeFault, seen_by, session_of}
+use Rattle.stack_engine.proofs.Words.{Part, part_step, parts_passed, Pdu, Put, put_at, RedTick, refl, Refusal, Result, safe_seen, SafeFault, seen_by, session_of}
 use Rattle.stack_engine.proofs.Words.{Settings, settle, Side, Some, start, State, subst, suc, sym, take, taken_at, TakesBeginnings, TakesFresh, Tele}
 use Rattle.stack_engine.proofs.Words.{telegrams_in, texts, TextsLaw, Tick, time_of, true, units, unless_refused, with_input, with_joined}
 use Rattle.stack_engine.proofs.Words.{World, ℕ, ◌++◌, ◌+◌, ◌==◌, ◌^◌, ◌||◌, ◌∙◌, ◌∷◌, ◌≡◌, ◌≢◌, ◌≤◌}
-use Rattle.stack_engine.proofs.Words.{guarded, heard, part-is, ticked}
-use Rattle.stack_engine.proofs.one.Heeding.{machined-texts, OctetsUp, Whole}
-use Rattle.stack_engine.proofs.one.Speaking.{and-parts, came, goes-of, handed-none, IsTypedCall, IsTypedInput, keep-part, Keeps, Laws, leaves-same, keep-guarded, keep-ticked}
-use Rattle.stack_engine.proofs.one.Speaking.{legal-of, messages-append, nil-front, queue-read, rises-same, Spoken, telegrams-append}
-use Rattle.stack_engine.proofs.two.Mapping.{both-call, Comes, fe_at, FeAt, genuine-heard, il_at, IlAt, live-same, octets-call, PeerIs, Reached, reached}
-use Rattle.stack_engine.proofs.two.Mapping.{rule-same, TextsOf}
+use Rattle.stack_engine.proofs.Words.{guard_step, heard, part-is, tick_step}
+use Rattle.stack_engine.proofs.one.Received.{machined-texts, OctetsUp, Whole}
+use Rattle.stack_engine.proofs.one.Sent.{and-parts, came, goes-of, handed-none, IsTypedCall, IsTypedInput, keep-part, Keeps, Laws, leaves-same, keep-guarded, keep-ticked}
+use Rattle.stack_engine.proofs.one.Sent.{legal-of, messages-append, nil-front, queue-read, rises-same, Spoken, telegrams-append}
+use Rattle.stack_engine.proofs.two.Machines.{both-call, Comes, fe_at, FeAt, genuine-heard, il_at, IlAt, live-same, octets-call, PeerIs, Reached, reached}
+use Rattle.stack_engine.proofs.two.Machines.{rule-same, TextsOf}
 use Rattle.safe_machine.specs.Law as L
 use Rattle.safe_machine.specs.World as M
 
@@ -408,7 +408,7 @@ module _ (now : ℕ) (Q R : EndState → List ℕ → Type 0) (P : EndState → 
     (each : (x : EndState) (octets : List ℕ) → P x → Q x octets → R x octets) where
   at-parts : (ps : List Part) (x : EndState) → AtParts Q now ps x → P x → AtParts R now ps x
   at-parts [] x q h = tt
-  at-parts (p ∷ ps) x q h = (each x p.1 h q.0, at-parts ps (part now p.1 x) q.1 (keep-part now Q P (goes-of now Q P k) p.1 x q.0 h))
+  at-parts (p ∷ ps) x q h = (each x p.1 h q.0, at-parts ps (part_step now p.1 x) q.1 (keep-part now Q P (goes-of now Q P k) p.1 x q.0 h))
 
   pub at-input : (i : Input) (x : EndState) → IsTypedInput i → AtInput Q now i x → P x → AtInput R now i x
   at-input i x t q h = λ on. at-parts (parts_passed i x.red) (with_input i x) (q on) (k.inputs i x t h)
@@ -417,10 +417,10 @@ pub call-at : (c : Call) (Q R : EndState → List ℕ → Type 0) (P : EndState 
     → ((y : EndState) (octets : List ℕ) → P y → Q y octets → R y octets)
     → IsTypedCall c → AtCall Q c x → P x → AtCall R c x
 call-at (Tick now) Q R P x k each t q h = λ on.
-    at-input now Q R P k each (RedTick now) (ticked now x) tt (q on)
+    at-input now Q R P k each (RedTick now) (tick_step now x) tt (q on)
     (keep-ticked now Q P (goes-of now Q P k) x (k.ticks x h))
 call-at (Deliver channel octets now) Q R P x k each t q h = λ on.
-    at-input now Q R P k each (Datagram octets now) (guarded now x) t (q on)
+    at-input now Q R P k each (Datagram octets now) (guard_step now x) t (q on)
     (keep-guarded now Q P (goes-of now Q P k) x (k.guards x h))
 call-at _ Q R P x k each t q h = tt
 
@@ -428,7 +428,7 @@ settle-taken : (y : EndState) → taken_at (settle y) ≡ taken_at y
 settle-taken y = grind (arith, append-nil)
 
 pub nothing-taken : (now : ℕ) (octets : List ℕ) (x : EndState) → (arrive_octets octets now x.machine).taken ≡ x.machine.taken
-    → taken_at (part now octets x) ≡ taken_at x
+    → taken_at (part_step now octets x) ≡ taken_at x
 nothing-taken now octets x e =
     subst (λ (y : EndState). taken_at y ≡ taken_at x) (sym (part-is now octets x)) settled
   where

@@ -1,6 +1,6 @@
 use Rattle.std.proofs.Common.{refl}
 use Rattle.capture.proofs.Sums.{counted_law, once_law}
-use Rattle.capture.proofs.AddingUp.{adds_up_law}
+use Rattle.capture.proofs.DatagramSums.{adds_up_law}
 use Rattle.capture.proofs.law.sums_law.Goals as goal
 
 pub returns : goal.returns

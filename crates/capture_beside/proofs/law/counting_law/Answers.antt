@@ -1,5 +1,5 @@
 use Rattle.std.proofs.Common.{refl}
-use Rattle.capture_beside.proofs.Adding.{arrives, closes}
+use Rattle.capture_beside.proofs.WaySums.{arrives, closes}
 use Rattle.capture_beside.proofs.law.counting_law.Goals as goal
 
 pub returns-clause-arrivals : goal.returns-clause-arrivals

@@ -1,6 +1,6 @@
 use Rattle.std.proofs.Common.{◌∙◌, arith, sym}
-use Rattle.end_settings.specs.Configured.{settings_of}
-use Rattle.end_settings.proofs.Fitting.{addressed, checked, last-decides}
+use Rattle.end_settings.specs.ConfigValue.{settings_of}
+use Rattle.end_settings.proofs.Fitness.{addressed, checked, last-decides}
 use Rattle.end_settings.proofs.EndConfig.is_fit.Goals as goal
 
 pub returns : goal.returns

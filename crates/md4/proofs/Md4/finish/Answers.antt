@@ -1,5 +1,5 @@
 use Rattle.std.proofs.Common.{◌≡◌, ◌*◌, ◌%◌, ◌^◌, length, arith, ◌∙◌}
-use Rattle.md4.proofs.Feeding.{StandsFor-total, digest-padded}
+use Rattle.md4.proofs.Pieces.{StandsFor-total, digest-padded}
 use Rattle.md4.proofs.Md4.finish.Goals as goal
 
 pub returns : goal.returns

@@ -1,5 +1,5 @@
 use Rattle.std.proofs.Common.{refl, []}
-use Rattle.md4.proofs.Feeding.{StandsFor-from}
+use Rattle.md4.proofs.Pieces.{StandsFor-from}
 use Rattle.md4.proofs.Md4.new.Goals as goal
 
 pub returns : goal.returns

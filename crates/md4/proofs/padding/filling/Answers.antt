@@ -1,5 +1,5 @@
 use Rattle.std.proofs.Common.{◌≡◌, ◌-◌, ◌%◌, arith}
-use Rattle.md4.proofs.Feeding.{take-filling}
+use Rattle.md4.proofs.Pieces.{take-filling}
 use Rattle.md4.proofs.padding.filling.Goals as goal
 
 pub returns : goal.returns

@@ -1,11 +1,11 @@
-use Rattle.pdi_session.proofs.one.Growing.{stands_on}
-use Rattle.pdi_session.proofs.one.Added.{message_law}
+use Rattle.pdi_session.proofs.one.Growth.{stands_on}
+use Rattle.pdi_session.proofs.one.AddedTelegrams.{message_law}
 use Rattle.pdi_session.proofs.one.ItemLists.{queue_law, taken_law}
 use Rattle.pdi_session.proofs.one.Queues.{field_law, interlocking_law}
 use Rattle.pdi_session.proofs.two.JointSteps.{fronts_law, one_more_law, phase_law}
 use Rattle.pdi_session.proofs.one.RowLaws.{takes_law, goes_law, own_law, put_law, room_law}
 use Rattle.pdi_session.proofs.one.OwnEarly.{own_early_law}
-use Rattle.pdi_session.proofs.two.Matching.{matching_law}
+use Rattle.pdi_session.proofs.two.MatchingSessions.{matching_law}
 use Rattle.pdi_session.proofs.two.InStep.{in_step_law}
 use Rattle.pdi_session.proofs.one.Over.{over_law, begun_law}
 use Rattle.pdi_session.proofs.law.session_law.Goals as goal

@@ -3,7 +3,7 @@ use Rattle.std.proofs.lemmas.Bool.{false≢true}
 use Rattle.std.specs.Option.{is_none}
 use Rattle.red_layer.specs.Parts.{is_nil}
 use Rattle.red_layer.proofs.Views.{map_parts-put_in, IsBelow-put_in, is_nil-least}
-use Rattle.red_layer.proofs.Deferring.{deferred-again, deferred-full, deferred-wait, one_more}
+use Rattle.red_layer.proofs.EarlyParts.{deferred-again, deferred-full, deferred-wait, one_more}
 use Rattle.red_layer.proofs.RedLayer.defer.Goals as goal
 use Rattle.red_layer.proofs.FiniteMap.{Rises-put_in, length-put_in}
 

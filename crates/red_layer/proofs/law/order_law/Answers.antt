@@ -1,6 +1,6 @@
-use Rattle.red_layer.proofs.Accepted.{arrival_law, parts_law}
-use Rattle.red_layer.proofs.Ordered.{service_law}
-use Rattle.red_layer.proofs.Masked.{masking_law, missing_law}
+use Rattle.red_layer.proofs.AcceptedParts.{arrival_law, parts_law}
+use Rattle.red_layer.proofs.Order.{service_law}
+use Rattle.red_layer.proofs.MaskingLaw.{masking_law, missing_law}
 use Rattle.red_layer.proofs.Origins.{bounded_law, origin_law, one_more_law}
 use Rattle.red_layer.proofs.law.order_law.Goals as goal
 

@@ -3,11 +3,11 @@ use Rattle.safe_machine.proofs.order.OrderLaw.{order_law_holds, stays_law_holds}
 use Rattle.safe_machine.proofs.one.Kept.{moves_law_holds, settings_law_holds, identified_law_holds, strangers_law_holds, waits_law_holds, connections_law_holds}
 use Rattle.safe_machine.proofs.one.Kept.{texts_law_holds, requests_law_holds}
 use Rattle.safe_machine.proofs.one.Carriers.{reached_law_holds}
-use Rattle.safe_machine.proofs.code.Reaching.{few_law_holds}
+use Rattle.safe_machine.proofs.code.Reach.{few_law_holds}
 use Rattle.safe_machine.proofs.one.Runs.{ring_of-units}
 use Rattle.safe_machine.proofs.code.Properties.{recent_law_holds}
 use Rattle.safe_machine.proofs.one.Ahead.{made_law_holds}
-use Rattle.safe_machine.proofs.one.Turning.{octets_law_holds, opening_law_holds, tells_law_holds, turns_law_holds}
+use Rattle.safe_machine.proofs.one.TurnSteps.{octets_law_holds, opening_law_holds, tells_law_holds, turns_law_holds}
 use Rattle.safe_machine.proofs.law.unit_law.Goals as goal
 
 pub returns : goal.returns

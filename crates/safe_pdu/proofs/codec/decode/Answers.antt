@@ -1,4 +1,4 @@
-use Rattle.safe_pdu.proofs.Judging.{found_by_places, fault_by_places, only_by_places}
+use Rattle.safe_pdu.proofs.ReadByField.{found_by_places, fault_by_places, only_by_places}
 use Rattle.safe_pdu.proofs.codec.decode.Goals as goal
 
 pub returns-clause-found : goal.returns-clause-found

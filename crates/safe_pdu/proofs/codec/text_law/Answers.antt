@@ -1,6 +1,6 @@
 use Rattle.safe_pdu.proofs.SafeLemmas.{by_place, is_asked, is_text-Decides}
-use Rattle.safe_pdu.proofs.Judging.{safe_seen-text}
-use Rattle.safe_pdu.proofs.Asking.{read_law, read_alike_law, read_asked_law, asked_law}
+use Rattle.safe_pdu.proofs.ReadByField.{safe_seen-text}
+use Rattle.safe_pdu.proofs.PremiseTest.{read_law, read_alike_law, read_asked_law, asked_law}
 use Rattle.safe_pdu.proofs.codec.text_law.Goals as goal
 
 pub returns-clause-by_place : goal.returns-clause-by_place

@@ -2,7 +2,7 @@
 use Rattle.std.proofs.Common.{◌≡◌, ◌++◌, map}
 use Rattle.std.specs.Prelude.{None}
 use Rattle.toml.specs.View.{members_view, table_view}
-use Rattle.settings_file.specs.Whole.{is_end}
+use Rattle.settings_file.specs.FileContents.{is_end}
 use Rattle.settings_file.specs.Findings.{finding_seen, unknown_in}
 use Rattle.settings_file.proofs.all_faults.find_strange.Given as goal
 

@@ -1,14 +1,14 @@
-use Rattle.stack_end.proofs.Words.{ap, datagrams, EndSettings, FoldsTo, FoldsTo-keeps, HasMade, kept_of, length, number_behind, opening_turn, rule_of, rules, sendings}
+use Rattle.stack_end.proofs.Words.{ap, datagrams, EndSettings, FoldsTo, FoldsTo-keeps, HasMade, kept_of, length, number_after, opening_turn, rule_of, rules, sendings}
 use Rattle.stack_end.proofs.Words.{SendsOne, Settings, settings_of, side_of, subst, sym, ◌%◌, ◌^◌, ◌∙◌, ◌≡◌}
 use Rattle.end_settings.specs.EndSettings.{connection_of}
 use Rattle.end_settings.specs.declared.Side.TheVariants.{Interlocking}
-use Rattle.safe_machine.proofs.one.Turning.{opening_law_holds}
+use Rattle.safe_machine.proofs.one.TurnSteps.{opening_law_holds}
 use Rattle.safe_machine.specs.Step.{new_state}
 use Rattle.safe_machine.specs.View.{settings_of as machine_settings}
 use Rattle.std.proofs.Common.{zero-add}
-use Rattle.stack_end.proofs.Going.{datagrams-out}
-use Rattle.stack_end.proofs.Turning.{behind-wrap, datagrams-are, opens-made}
-use Rattle.stack_end.specs.Statistics.{none_made, with_made}
+use Rattle.stack_end.proofs.CallParts.{datagrams-out}
+use Rattle.stack_end.proofs.TurnOfCall.{behind-wrap, datagrams-are, opens-made}
+use Rattle.stack_end.specs.Statistics.{no_made_counts, with_made}
 use Rattle.stack_end.proofs.opening.open_machine.Goals as goal
 
 pub returns-in-Ok-clause-stands : goal.returns-in-Ok-clause-stands
@@ -59,7 +59,7 @@ returns-in-Ok-clause-numbered g c =
     made _ _ c.in-Ok.ensures.made in
     let numbered =
     out.1
-    ∙ (ap (λ n. number_behind n made) c.requires.first
+    ∙ (ap (λ n. number_after n made) c.requires.first
     ∙ (behind-wrap 0 made
     ∙ (ap (λ n. n % 2 ^ 32) (zero-add (length made)) ∙ ap (λ ms. length ms % 2 ^ 32) (sym (opening_law_holds machine c.args.first_sn c.args.now).made)
     ∙ ap (λ (q : Settings). length (new_state q c.args.first_sn c.args.now).made % 2 ^ 32) is))) in
@@ -78,7 +78,7 @@ returns-in-Ok-clause-made g c =
     let counted =
     out.2
     ∙ (ap (with_made made) c.requires.none
-    ∙ (ap (λ ms. with_made ms none_made) (sym (opening_law_holds machine c.args.first_sn c.args.now).made)
-    ∙ ap (λ (q : Settings). with_made (new_state q c.args.first_sn c.args.now).made none_made) is)) in
+    ∙ (ap (λ ms. with_made ms no_made_counts) (sym (opening_law_holds machine c.args.first_sn c.args.now).made)
+    ∙ ap (λ (q : Settings). with_made (new_state q c.args.first_sn c.args.now).made no_made_counts) is)) in
     let same = FoldsTo-keeps (λ s. s.made.ghost_name) _ (λ s x t h. h.2) _ _ _ c.in-Ok.ensures.made in
     search (rules, counted, same)

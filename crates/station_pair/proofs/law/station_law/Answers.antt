@@ -1,8 +1,8 @@
-use Rattle.station_pair.proofs.Agreeing.{agreed}
-use Rattle.station_pair.proofs.Promising.{promises}
-use Rattle.station_pair.proofs.Refusing.{refused}
+use Rattle.station_pair.proofs.OneSession.{agreed}
+use Rattle.station_pair.proofs.Promises.{promises}
+use Rattle.station_pair.proofs.Refusals.{refused}
 use Rattle.station_pair.proofs.Sessions.{carried}
-use Rattle.station_pair.proofs.Standing.{follows}
+use Rattle.station_pair.proofs.StepsKeep.{follows}
 use Rattle.station_pair.proofs.law.station_law.Goals as goal
 
 pub returns : goal.returns

@@ -1,6 +1,6 @@
 use Rattle.std.proofs.Common.{rules}
-use Rattle.channels.specs.Told.{answers_of}
-use Rattle.udp_channels.proofs.Asking.{asks-came, asks-nothing, asks-refused}
+use Rattle.channels.specs.ChannelHistory.{answers_of}
+use Rattle.udp_channels.proofs.SocketLemmas.{asks-came, asks-nothing, asks-refused}
 use Rattle.udp_channels.proofs.sockets.+ask.Goals as goal
 
 pub returns-in-Came-clause-asked : goal.returns-in-Came-clause-asked

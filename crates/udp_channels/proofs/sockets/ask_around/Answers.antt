@@ -1,6 +1,6 @@
 use Rattle.std.proofs.Common.{rules, Some, None, [], refl}
-use Rattle.channels.specs.Told.{answers_of}
-use Rattle.udp_channels.proofs.Asking.{asks-around, asks-on, then-asked, then-joined}
+use Rattle.channels.specs.ChannelHistory.{answers_of}
+use Rattle.udp_channels.proofs.SocketLemmas.{asks-around, asks-on, then-asked, then-joined}
 use Rattle.udp_channels.proofs.sockets.ask_around.Goals as goal
 
 pub returns-in-Ok-Some-clause-asked : goal.returns-in-Ok-Some-clause-asked

@@ -1,5 +1,5 @@
 use Rattle.std.proofs.Common.{rules}
-use Rattle.udp_channels.proofs.Asking.{sends-on}
+use Rattle.udp_channels.proofs.SocketLemmas.{sends-on}
 use Rattle.udp_channels.proofs.sockets.tell.Goals as goal
 
 pub returns-in-Ok-clause-sent : goal.returns-in-Ok-clause-sent

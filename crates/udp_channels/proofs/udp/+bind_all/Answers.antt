@@ -1,5 +1,5 @@
 use Rattle.std.proofs.Common.{rules}
-use Rattle.udp_channels.proofs.Binding.{binds, if-ok}
+use Rattle.udp_channels.proofs.BindLemmas.{binds, if-ok}
 use Rattle.udp_channels.proofs.udp.+bind_all.Goals as goal
 
 pub returns-clause-ok : goal.returns-clause-ok

@@ -1,5 +1,5 @@
 use Rattle.std.proofs.Common.{ap, arith}
-use Rattle.end_for_callers.proofs.Sharing.{spent-least}
+use Rattle.end_for_callers.proofs.Shares.{spent-least}
 use Rattle.end_for_callers.proofs.outbox.OutboxChannels.send.Goals as goal
 use Rattle.end_for_callers.specs.Boxes.{sum_of_shares}
 

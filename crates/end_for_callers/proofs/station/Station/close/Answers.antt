@@ -3,10 +3,10 @@ use Rattle.std.specs.Global.{Global}
 use Rattle.stack_end.specs.Ends.Call.{Close}
 use Rattle.stack_end.specs.EndValue.{EndValue, inside}
 use Rattle.stack_end.specs.Turns.{turn}
-use Rattle.end_for_callers.specs.Boxes.{Outgoing}
+use Rattle.end_for_callers.specs.Boxes.{DatagramQueue}
 use Rattle.end_for_callers.specs.Calls.{StationValue, seen_end}
-use Rattle.end_for_callers.proofs.Keeping.{loses-none, turned-ready}
-use Rattle.end_for_callers.proofs.Posting.{does-alone, seen-alone}
+use Rattle.end_for_callers.proofs.StationBounds.{loses-none, turned-ready}
+use Rattle.end_for_callers.proofs.Deliveries.{does-alone, seen-alone}
 use Rattle.end_for_callers.proofs.station.Station.close.Goals as goal
 
 pub returns-clause-does : goal.returns-clause-does
@@ -32,6 +32,6 @@ pub invariant_of-self : goal.invariant_of-self
 invariant_of-self c =
     let call = Close c.args.now in
     let is : inside c.close.new.self ≡ (turn call (inside c.self.inside.end)).left =
-    c.close.ensures.turns.left ∙ ap (λ (e : EndValue Outgoing Global). (turn call (inside e)).left) c.set_aside.ensures.same in
+    c.close.ensures.turns.left ∙ ap (λ (e : EndValue DatagramQueue Global). (turn call (inside e)).left) c.set_aside.ensures.same in
     let ready = turned-ready c.self.inside.reserve call (inside c.self.inside.end) (inside c.close.new.self) is c.self.invariant.3 in
     (search rules, search rules, search rules, ready)

@@ -3,10 +3,10 @@ use Rattle.std.specs.Global.{Global}
 use Rattle.stack_end.specs.Ends.Call.{Put}
 use Rattle.stack_end.specs.EndValue.{EndValue, inside}
 use Rattle.stack_end.specs.Turns.{turn}
-use Rattle.end_for_callers.specs.Boxes.{Outgoing}
+use Rattle.end_for_callers.specs.Boxes.{DatagramQueue}
 use Rattle.end_for_callers.specs.Calls.{StationValue, seen_end}
-use Rattle.end_for_callers.proofs.Keeping.{loses-none, turned-ready}
-use Rattle.end_for_callers.proofs.Posting.{does-alone, seen-alone}
+use Rattle.end_for_callers.proofs.StationBounds.{loses-none, turned-ready}
+use Rattle.end_for_callers.proofs.Deliveries.{does-alone, seen-alone}
 use Rattle.end_for_callers.proofs.station.Station.put.Goals as goal
 
 pub returns-in-Ok-clause-does : goal.returns-in-Ok-clause-does
@@ -32,6 +32,6 @@ pub invariant_of-self : goal.invariant_of-self
 invariant_of-self c =
     let call = Put c.args.kind c.args.payload.now c.args.now in
     let is : inside c.put.new.self ≡ (turn call (inside c.self.inside.end)).left =
-    c.in-Ok.ensures.turns.left ∙ ap (λ (e : EndValue Outgoing Global). (turn call (inside e)).left) c.set_aside.ensures.same in
+    c.in-Ok.ensures.turns.left ∙ ap (λ (e : EndValue DatagramQueue Global). (turn call (inside e)).left) c.set_aside.ensures.same in
     let ready = turned-ready c.self.inside.reserve call (inside c.self.inside.end) (inside c.put.new.self) is c.self.invariant.3 in
     (search rules, search rules, search rules, ready)

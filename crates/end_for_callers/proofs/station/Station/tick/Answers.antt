@@ -3,10 +3,10 @@ use Rattle.std.specs.Global.{Global}
 use Rattle.stack_end.specs.Ends.Call.{Tick}
 use Rattle.stack_end.specs.EndValue.{EndValue, inside}
 use Rattle.stack_end.specs.Turns.{turn}
-use Rattle.end_for_callers.specs.Boxes.{Outgoing}
+use Rattle.end_for_callers.specs.Boxes.{DatagramQueue}
 use Rattle.end_for_callers.specs.Calls.{StationValue, seen_end}
-use Rattle.end_for_callers.proofs.Keeping.{loses-none, turned-ready}
-use Rattle.end_for_callers.proofs.Posting.{does-all, seen-turns}
+use Rattle.end_for_callers.proofs.StationBounds.{loses-none, turned-ready}
+use Rattle.end_for_callers.proofs.Deliveries.{does-all, seen-turns}
 use Rattle.end_for_callers.proofs.station.Station.tick.Goals as goal
 
 pub returns-clause-does : goal.returns-clause-does
@@ -32,6 +32,6 @@ pub invariant_of-self : goal.invariant_of-self
 invariant_of-self c =
     let call = Tick c.args.now in
     let is : inside c.tick.new.self ≡ (turn call (inside c.self.inside.end)).left =
-    c.tick.ensures.turns.left ∙ ap (λ (e : EndValue Outgoing Global). (turn call (inside e)).left) c.set_aside.ensures.same in
+    c.tick.ensures.turns.left ∙ ap (λ (e : EndValue DatagramQueue Global). (turn call (inside e)).left) c.set_aside.ensures.same in
     let ready = turned-ready c.self.inside.reserve call (inside c.self.inside.end) (inside c.tick.new.self) is c.self.invariant.3 in
     (search rules, search rules, search rules, ready)

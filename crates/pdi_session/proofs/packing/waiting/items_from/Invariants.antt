@@ -1,5 +1,5 @@
 use Rattle.std.proofs.Common.{◌≡◌, ◌+◌, ◌≤◌}
-use Rattle.pdi_session.specs.Counted.{items_in}
+use Rattle.pdi_session.specs.TelegramCounts.{items_in}
 use Rattle.pdi_session.specs.packing.Ring.{IsRing, messages_from}
 use Rattle.pdi_session.proofs.packing.waiting.items_from.Given as goal
 

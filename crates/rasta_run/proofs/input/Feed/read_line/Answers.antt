@@ -1,6 +1,6 @@
 use Rattle.std.proofs.Common.{sym}
-use Rattle.rasta_run.specs.Feeding.{input_of, line_read}
-use Rattle.rasta_run.proofs.Readings.{reads-telegram}
+use Rattle.rasta_run.specs.InputLines.{input_of, line_read}
+use Rattle.rasta_run.proofs.NextLines.{reads-telegram}
 use Rattle.rasta_run.proofs.input.Feed.read_line.Goals as goal
 
 pub returns-in-Ok-Telegram-clause-read : goal.returns-in-Ok-Telegram-clause-read

@@ -1,6 +1,6 @@
 use Rattle.std.proofs.Common.{[], ap, refl, rules, sym, ◌∙◌}
-use Rattle.rasta_run.specs.Putting.{refusals_after}
-use Rattle.rasta_run.proofs.Offers.{full-offer, one-more, stops}
+use Rattle.rasta_run.specs.TelegramPuts.{refusals_after}
+use Rattle.rasta_run.proofs.PutLemmas.{full-offer, one-more, stops}
 use Rattle.rasta_run.proofs.turns.Actor.put_left.Goals as goal
 
 pub puts-init : goal.puts-init

@@ -1,6 +1,6 @@
 use Rattle.std.proofs.Common.{arith, inl, inr, refl, rules, sym, ◌∙◌}
-use Rattle.rasta_run.specs.Feeding.{input_of}
-use Rattle.rasta_run.proofs.Offers.{line-as, line-more, when-ready}
+use Rattle.rasta_run.specs.InputLines.{input_of}
+use Rattle.rasta_run.proofs.PutLemmas.{line-as, line-more, when-ready}
 use Rattle.rasta_run.proofs.turns.Actor.put_lines.Goals as goal
 
 pub returns-then-not-branch-clause-puts : goal.returns-then-not-branch-clause-puts

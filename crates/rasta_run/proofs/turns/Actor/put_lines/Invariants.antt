@@ -1,7 +1,7 @@
 -- As many lines were taken as there were iterations, and nothing else has changed.
 use Rattle.std.proofs.Common.{◌≡◌, ◌≤◌, is_some}
-use Rattle.rasta_run.specs.Feeding.{input_of}
-use Rattle.rasta_run.specs.Putting.{TakesLines}
+use Rattle.rasta_run.specs.InputLines.{input_of}
+use Rattle.rasta_run.specs.TelegramPuts.{TakesLines}
 use Rattle.rasta_run.proofs.turns.Actor.put_lines.Given as goal
 
 abbrev pub invariant-lines : goal.invariant-lines

@@ -1,5 +1,5 @@
 use Rattle.std.proofs.Common.{ap}
-use Rattle.rasta_run.proofs.Offers.{puts-now}
+use Rattle.rasta_run.proofs.PutLemmas.{puts-now}
 use Rattle.rasta_run.proofs.turns.Actor.put_now.Goals as goal
 
 pub returns-clause-puts : goal.returns-clause-puts

@@ -1,8 +1,8 @@
 use Rattle.std.proofs.Common.{ap, ◌∙◌}
-use Rattle.rasta_run.specs.Turning.{deaf_after}
+use Rattle.rasta_run.specs.Turns.{deaf_after}
 use Rattle.stack_end.specs.EndValue.{inside}
 use Rattle.stack_end.specs.Turns.{is_over}
-use Rattle.rasta_run.proofs.Offers.{takes-turn}
+use Rattle.rasta_run.proofs.PutLemmas.{takes-turn}
 use Rattle.rasta_run.proofs.turns.Actor.turn.Goals as goal
 
 pub returns-clause-turn : goal.returns-clause-turn

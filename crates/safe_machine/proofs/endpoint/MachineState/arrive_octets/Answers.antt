@@ -1,6 +1,6 @@
 use Rattle.safe_machine.proofs.Words.{◌≡◌, subst, ap, ◌∙◌, arith, FoldsTo, Pdu, pdu_of, safe_seen, Guards, Hears, HandsIf, IsRecent, OnlyConfirms, arrival_turn}
 use Rattle.safe_machine.proofs.Words.{handed_units, View}
-use Rattle.safe_machine.proofs.code.Reaching.{reached-near, reached-still, reached-sound, reached-turn, reached-stops, reached-keeps}
+use Rattle.safe_machine.proofs.code.Reach.{reached-near, reached-still, reached-sound, reached-turn, reached-stops, reached-keeps}
 use Rattle.safe_machine.proofs.code.Properties.{hands-recent, reached-passes, one-read}
 use Rattle.safe_machine.proofs.endpoint.MachineState.arrive_octets.Goals as goal
 

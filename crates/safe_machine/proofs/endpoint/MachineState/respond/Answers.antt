@@ -1,5 +1,5 @@
 use Rattle.safe_machine.proofs.Words.{sym, subst, pdu_of}
-use Rattle.safe_machine.proofs.one.Deciding.{Fits, decide-fits}
+use Rattle.safe_machine.proofs.one.DecisionCounts.{Fits, decide-fits}
 use Rattle.safe_machine.proofs.code.Properties.{allowed}
 use Rattle.safe_machine.proofs.endpoint.MachineState.respond.Goals as goal
 

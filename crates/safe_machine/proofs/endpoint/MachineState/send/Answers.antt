@@ -1,6 +1,6 @@
 use Rattle.safe_machine.proofs.Words.{◌≡◌, ◌∙◌, Bool, ap, arith, length, sym, true, if◌then◌else◌, nat_lt, ltb-true, and_parts, Sends, send_unit_turn, still, View}
 use Rattle.safe_machine.proofs.Words.{in_turn}
-use Rattle.safe_machine.proofs.code.Reaching.{reached-sound, reached-turn}
+use Rattle.safe_machine.proofs.code.Reach.{reached-sound, reached-turn}
 use Rattle.safe_machine.proofs.endpoint.MachineState.send.Goals as goal
 
 pub send_unit-requires-clause-few : goal.send_unit-requires-clause-few

@@ -1,5 +1,5 @@
 use Rattle.safe_machine.proofs.Words.{◌≡◌, ◌<◌, ◌≤◌, ◌∙◌, length, ap, arith, subst, true, in_turn, View, WINDOW_MAX}
-use Rattle.safe_machine.proofs.code.Reaching.{reached-sound, reached-window}
+use Rattle.safe_machine.proofs.code.Reach.{reached-sound, reached-window}
 use Rattle.safe_machine.proofs.one.Runs.{turn-live}
 use Rattle.safe_machine.proofs.machine.Machine.bounds.Goals as goal
 

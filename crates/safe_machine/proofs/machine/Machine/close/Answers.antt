@@ -1,5 +1,5 @@
 use Rattle.safe_machine.proofs.Words.{arith, LeavesNow}
-use Rattle.safe_machine.proofs.code.Reaching.{reached-sound, reached-turn}
+use Rattle.safe_machine.proofs.code.Reach.{reached-sound, reached-turn}
 use Rattle.safe_machine.proofs.machine.Machine.close.Goals as goal
 
 pub leave-requires : goal.leave-requires

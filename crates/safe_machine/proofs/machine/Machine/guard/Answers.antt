@@ -1,5 +1,5 @@
 use Rattle.safe_machine.proofs.Words.{arith, Guards}
-use Rattle.safe_machine.proofs.code.Reaching.{reached-sound, reached-turn}
+use Rattle.safe_machine.proofs.code.Reach.{reached-sound, reached-turn}
 use Rattle.safe_machine.proofs.machine.Machine.guard.Goals as goal
 
 pub guard-requires : goal.guard-requires

@@ -1,6 +1,6 @@
 use Rattle.safe_machine.proofs.Words.{refl, sym, ◌∙◌, [], false≢true, settings_of}
 use Rattle.safe_machine.proofs.one.Kept.{own-legal}
-use Rattle.safe_machine.proofs.one.Turning.{opening_law_holds}
+use Rattle.safe_machine.proofs.one.TurnSteps.{opening_law_holds}
 use Rattle.safe_machine.proofs.machine.Machine.open.Goals as goal
 
 pub returns-then-not-is_legal-clause-bad_config : goal.returns-then-not-is_legal-clause-bad_config

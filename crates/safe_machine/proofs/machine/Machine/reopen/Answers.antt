@@ -1,7 +1,7 @@
 use Rattle.safe_machine.proofs.Words.{[], ◌∙◌}
-use Rattle.safe_machine.proofs.code.Reaching.{reached-legal, reached-room}
+use Rattle.safe_machine.proofs.code.Reach.{reached-legal, reached-room}
 use Rattle.safe_machine.proofs.one.Kept.{own-legal}
-use Rattle.safe_machine.proofs.one.Turning.{opening_law_holds}
+use Rattle.safe_machine.proofs.one.TurnSteps.{opening_law_holds}
 use Rattle.safe_machine.proofs.machine.Machine.reopen.Goals as goal
 
 pub reopen-requires-clause-room : goal.reopen-requires-clause-room

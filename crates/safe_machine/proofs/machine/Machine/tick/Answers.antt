@@ -1,5 +1,5 @@
 use Rattle.safe_machine.proofs.Words.{arith, Ticks}
-use Rattle.safe_machine.proofs.code.Reaching.{reached-sound, reached-turn}
+use Rattle.safe_machine.proofs.code.Reach.{reached-sound, reached-turn}
 use Rattle.safe_machine.proofs.machine.Machine.tick.Goals as goal
 
 pub tick-requires : goal.tick-requires

@@ -1,5 +1,5 @@
 use Rattle.stack_end.proofs.Words.{arith, inl, inr, refl}
-use Rattle.stack_end.proofs.Going.{heard-more}
+use Rattle.stack_end.proofs.CallParts.{heard-more}
 use Rattle.stack_end.proofs.end.End.hear_all.Goals as goal
 
 pub returns-in-Ok-false-clause-done : goal.returns-in-Ok-false-clause-done

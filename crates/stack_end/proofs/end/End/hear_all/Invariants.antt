@@ -1,5 +1,5 @@
 use Rattle.stack_end.proofs.Words.{FoldsTo, length, List, ℕ, ◌≡◌, ◌≤◌}
-use Rattle.stack_end.specs.Polling.{Hears}
+use Rattle.stack_end.specs.Poll.{ProcessesDatagram}
 use Rattle.stack_end.proofs.end.End.hear_all.Given as goal
 
 abbrev pub invariant-loop : goal.invariant-loop
@@ -8,5 +8,5 @@ invariant-loop g l =
       time : l.self.time ≤ l.now;
       along :
           (heard : List (ℕ × List ℕ))
-          × (length heard ≡ l.counter) × FoldsTo (Hears g.C.Channels.told g.T.Taker.takes l.now) (l.initial.self, l.initial.taker) heard (l.self, l.taker);
+          × (length heard ≡ l.counter) × FoldsTo (ProcessesDatagram g.C.Channels.told g.T.Taker.takes l.now) (l.initial.self, l.initial.taker) heard (l.self, l.taker);
     }

@@ -1,5 +1,5 @@
 use Rattle.stack_end.proofs.Words.{can_pack, false, fields_of, Inside, subst, sym, ◌≡◌}
-use Rattle.stack_end.proofs.Packing.{completes-empties}
+use Rattle.stack_end.proofs.Deliveries.{completes-empties}
 use Rattle.stack_end.proofs.end.End.init_done.Goals as goal
 
 pub returns-clause-packs : goal.returns-clause-packs

@@ -1,7 +1,7 @@
 use Rattle.stack_end.proofs.Words.{inl, inr, inside, is_nil, IsBefore, IsReachedAt, refl, subst}
 use Rattle.stack_end.specs.Deadlines.{HasFallen, IsQuiet}
 use Rattle.std.proofs.Common.{⊎_elim}
-use Rattle.stack_end.proofs.Turning.{at-either, before-both, red-at, red-before}
+use Rattle.stack_end.proofs.TurnOfCall.{at-either, before-both, red-at, red-before}
 use Rattle.stack_end.proofs.end.End.next_deadline.Goals as goal
 
 pub returns-in_default-clause-before : goal.returns-in_default-clause-before

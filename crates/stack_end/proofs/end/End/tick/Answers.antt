@@ -1,11 +1,11 @@
-use Rattle.stack_end.proofs.Words.{can_pack, false, Inside, inside, inside_of, passes, subst, sym, TickRecent, ◌≡◌}
-use Rattle.stack_end.proofs.Packing.{passes-empties, tick-recent}
-use Rattle.stack_end.proofs.Turning.{layers-turn}
+use Rattle.stack_end.proofs.Words.{can_pack, false, Inside, inside, inside_of, time_turn, subst, sym, TickRecent, ◌≡◌}
+use Rattle.stack_end.proofs.Deliveries.{passes-empties, tick-recent}
+use Rattle.stack_end.proofs.TurnOfCall.{layers-turn}
 use Rattle.stack_end.proofs.end.End.tick.Goals as goal
 
 pub returns-clause-turns : goal.returns-clause-turns
 returns-clause-turns g c =
-    layers-turn g.C.Channels.told g.T.Taker.takes (passes c.args.now) c.self.inside.layers c.tick.new.self c.self.inside.time c.args.now c.self.inside.receptions c.self.inside.receptions c.args.self.now
+    layers-turn g.C.Channels.told g.T.Taker.takes (time_turn c.args.now) c.self.inside.layers c.tick.new.self c.self.inside.time c.args.now c.self.inside.receptions c.self.inside.receptions c.args.self.now
     c.args.taker.now c.tick.new.taker c.self.view_is c.tick.ensures.does
 
 pub returns-clause-packs : goal.returns-clause-packs

@@ -1,5 +1,5 @@
-use Rattle.stack_end.proofs.Words.{above, ap, Datagram, followed, goes_on, guards, inside_of, ◌∙◌}
-use Rattle.stack_end.proofs.Going.{above-went, alone-told, open-event, open-went, went-alone, went-then}
+use Rattle.stack_end.proofs.Words.{upper_turn, ap, Datagram, turn_then, input_and_send_turn, guard_turn, inside_of, ◌∙◌}
+use Rattle.stack_end.proofs.CallParts.{above-went, alone-told, open-event, open-went, went-alone, went-then}
 use Rattle.stack_end.specs.Turns.{red_event}
 use Rattle.stack_end.proofs.layers.Layers.arrive.Goals as goal
 
@@ -9,11 +9,11 @@ returns-in_default-clause-does g c =
     let now = c.args.now in
     let i = Datagram c.args.octets.now c.args.now in
     let v = inside_of c.args.self.now in
-    let t = above (guards now) v in
-    let one = went-alone takes t _ _ _ _ (above-went (guards now) v _ _ _ (alone-told (guards now v.upper) _ _ _ _ c.tell_change.ensures c.guard.ensures.does))
+    let t = upper_turn (guard_turn now) v in
+    let one = went-alone takes t _ _ _ _ (above-went (guard_turn now) v _ _ _ (alone-told (guard_turn now v.upper) _ _ _ _ c.tell_change.ensures c.guard.ensures.does))
     in
-    open-went takes v (followed t (goes_on now i)) c.state.result _ _ _ _ _ c.state.ensures.state c.in_default.not-Closed
-    (went-then takes t (goes_on now i) _ _ _ _ _ _ _ _ one c.deliver.ensures.does)
+    open-went takes v (turn_then t (input_and_send_turn now i)) c.state.result _ _ _ _ _ c.state.ensures.state c.in_default.not-Closed
+    (went-then takes t (input_and_send_turn now i) _ _ _ _ _ _ _ _ one c.deliver.ensures.does)
 
 pub returns-in_default-clause-event : goal.returns-in_default-clause-event
 returns-in_default-clause-event g c =

@@ -1,7 +1,7 @@
 use Rattle.stack_end.proofs.Words.{ap, arith, sym, ◌∙◌}
 use Rattle.std.specs.Prelude.{option_map}
 use Rattle.safe_machine.specs.retrans.Units.{octets_of}
-use Rattle.stack_end.proofs.Packing.{units-next, units-past}
+use Rattle.stack_end.proofs.Deliveries.{units-next, units-past}
 use Rattle.stack_end.proofs.upper.UpperLayers.items_unconfirmed.Goals as goal
 use Rattle.stack_end.proofs.upper.UpperLayers.items_unconfirmed.Goals.{in-Some, in_default}
 

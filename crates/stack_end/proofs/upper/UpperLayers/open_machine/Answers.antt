@@ -1,5 +1,5 @@
 use Rattle.stack_end.proofs.Words.{fields_of, FoldsTo-keeps, opening_turn, refl}
-use Rattle.stack_end.proofs.Going.{machine-went}
+use Rattle.stack_end.proofs.CallParts.{machine-went}
 use Rattle.stack_end.proofs.upper.UpperLayers.open_machine.Goals as goal
 
 pub shape_of-self : goal.shape_of-self

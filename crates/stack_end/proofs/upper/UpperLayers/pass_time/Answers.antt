@@ -1,5 +1,5 @@
 use Rattle.stack_end.proofs.Words.{fields_of, FoldsTo-keeps, refl, rules}
-use Rattle.stack_end.proofs.Going.{parts-went}
+use Rattle.stack_end.proofs.CallParts.{parts-went}
 use Rattle.stack_end.proofs.upper.UpperLayers.pass_time.Goals as goal
 
 pub returns-clause-does : goal.returns-clause-does

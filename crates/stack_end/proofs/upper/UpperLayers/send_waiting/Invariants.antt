@@ -1,4 +1,4 @@
-use Rattle.stack_end.proofs.Words.{Fields, fields_of, followed, if◌then◌else◌, Keeps, length, sends, Turn, UNIT_MESSAGES, WentAlone, ◌+◌, ◌≡◌, ◌≤◌}
+use Rattle.stack_end.proofs.Words.{Fields, fields_of, turn_then, if◌then◌else◌, KeepsBounds, length, send_turn, Turn, UNIT_MESSAGES, CarriesOutAlone, ◌+◌, ◌≡◌, ◌≤◌}
 use Rattle.stack_end.proofs.upper.UpperLayers.send_waiting.Given as goal
 
 abbrev pub invariant-loop-packs : goal.invariant-loop-packs
@@ -7,10 +7,10 @@ invariant-loop-packs g l =
     record {
       some : 1 ≤ l.self.max;
       most : l.self.max ≤ UNIT_MESSAGES;
-      keeps : Keeps 0 l.initial.self l.self;
+      keeps : KeepsBounds 0 l.initial.self l.self;
       along :
-          (t : Turn Fields) × WentAlone t (g.C.Channels.told l.initial.self.channels) (fields_of l.self) (g.C.Channels.told l.self.channels)
-          × (sends l.now v ≡ (if l.packs then followed t (sends l.now) else t));
+          (t : Turn Fields) × CarriesOutAlone t (g.C.Channels.told l.initial.self.channels) (fields_of l.self) (g.C.Channels.told l.self.channels)
+          × (send_turn l.now v ≡ (if l.packs then turn_then t (send_turn l.now) else t));
     }
 
 abbrev pub decreases-loop-packs : goal.decreases-loop-packs

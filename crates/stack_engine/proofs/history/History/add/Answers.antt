@@ -1,5 +1,5 @@
 use Rattle.stack_engine.proofs.Words.{[], ap, Action, doing_of, EndConfig, Entry, event_of, events_in, length, List, side_of, sym, ℕ, ◌++◌, ◌∙◌, ◌∷◌, ◌≡◌}
-use Rattle.stack_engine.specs.Histories.{Events}
+use Rattle.stack_engine.specs.Histories.{HistoryValue}
 use Rattle.std.proofs.Common.{rules, vec_len}
 use Rattle.stack_engine.proofs.code.Histories.{opening-added}
 use Rattle.stack_engine.proofs.history.History.add.Goals as goal
@@ -18,5 +18,5 @@ returns-in-Open g c =
           ∙ (opening-added configs c.in-Open.config entries _ [] c.in-Open.first_sn c.self.invariant
           (ap (λ n. deed.Open n c.in-Open.first_sn) (c.len.ensures ∙ size))
           ∙ (ap (λ (d : Action). events_in configs entries ++ doing_of (side_of e.side) e.time d ∷ []) (sym c.in-Open.is)
-          ∙ ap (λ (h : Events). h.events ++ event_of e ∷ []) c.self.view_is)));
+          ∙ ap (λ (h : HistoryValue). h.events ++ event_of e ∷ []) c.self.view_is)));
     }

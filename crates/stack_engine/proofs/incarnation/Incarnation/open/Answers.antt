@@ -1,4 +1,4 @@
-use Rattle.end_settings.specs.Configured.{settings_of, side_of}
+use Rattle.end_settings.specs.ConfigValue.{settings_of, side_of}
 use Rattle.std.proofs.Common.{arith, refl, rules, sym, ◌∙◌}
 use Rattle.stack_engine.proofs.code.Histories.{opened-stands}
 use Rattle.stack_engine.proofs.incarnation.Incarnation.open.Goals as goal

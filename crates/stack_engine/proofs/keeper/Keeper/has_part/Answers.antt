@@ -1,14 +1,16 @@
-use Rattle.stack_engine.proofs.Words.{[], arith, bytes_eq, drop, List, sym, ℕ, ◌∙◌}
-use Rattle.octets.specs.declared.limits.TheConstants.{RED_HEADER}
-use Rattle.stack_engine.proofs.code.Histories.{found-here, none-later}
+use Rattle.stack_engine.proofs.Words.{sym, ◌∙◌, arith}
+use Rattle.stack_engine.proofs.code.Numbers.{none-there, there}
 use Rattle.stack_engine.proofs.keeper.Keeper.has_part.Goals as goal
+use Rattle.stack_engine.proofs.keeper.Keeper.has_part.Goals.{then-place-dead-via-then-place-dead, then-place-dead-via-else-place-dead+then-place-len}
 
-pub returns-then-is_part : goal.returns-then-is_part
-returns-then-is_part g c =
-    sym (found-here (λ (d : List ℕ). bytes_eq c.args.part.now (drop RED_HEADER d)) c.args.dead _ c.args.self.now.datagrams [] (omega arith)
-    (omega (arith, c.loop-place.invariant.0)) (sym c.is_part.ensures ∙ c.if-is_part.true))
+pub returns-then-place-dead : goal.returns-then-place-dead
+returns-then-place-dead g c =
+    sym (none-there c.args.part.now c.args.self.now.datagrams c.args.dead c.in-Some.place c.in-Some.ensures
+    (λ le lt. elim c.then-place-dead.branch [
+      | then-place-dead-via-then-place-dead w ↦ omega arith
+      | then-place-dead-via-else-place-dead+then-place-len w ↦ omega arith
+    ]))
 
 pub returns : goal.returns
 returns g c =
-    sym (none-later (λ (d : List ℕ). bytes_eq c.args.part.now (drop RED_HEADER d)) _ c.args.dead c.args.self.now.datagrams (omega arith)
-    c.loop-place.invariant.1)
+    c.is_part.ensures ∙ there c.args.part.now c.args.self.now.datagrams c.args.dead c.in-Some.place c.in-Some.ensures c.if-place-dead.false (omega arith)

@@ -1,4 +1,4 @@
-use Rattle.stack_engine.proofs.Words.{ap, BeforeStand, length, reverse, Some, subst, sym, ℕ, ◌+◌, ◌∙◌, ◌≡◌}
+use Rattle.stack_engine.proofs.Words.{ap, EarlierRepresent, length, reverse, Some, subst, sym, ℕ, ◌+◌, ◌∙◌, ◌≡◌}
 use Rattle.std.proofs.Common.{rules, vec_len}
 use Rattle.stack_engine.proofs.code.Histories.{present-made, present-not}
 use Rattle.stack_engine.proofs.openings.Openings.latest_maker.Goals as goal
@@ -12,4 +12,4 @@ returns-in-Some g c = λ xs h.
 pub returns-in-Some-2 : goal.returns-in-Some-2
 returns-in-Some-2 g c = λ xs h.
     present-not c.args.self.now c.in-Some.present c.args.octets.now _ c.in-Some.is (λ x k. sym (c.has_made.ensures x k) ∙ c.if-has_made.false)
-    (λ ys k. c.latest_maker_of.ensures ys (subst (λ is. BeforeStand (reverse is) ys) (sym c.deref.ensures.value) k)) xs h
+    (λ ys k. c.latest_maker_of.ensures ys (subst (λ is. EarlierRepresent (reverse is) ys) (sym c.deref.ensures.value) k)) xs h

@@ -1,0 +1,529 @@
+//! One end, or an interlocking and a field element in one process, which take turns.
+
+ghost use Rattle.std.specs.Prelude.{◌≡◌, ℕ, ◌≤◌, ◌+◌, ◌%◌, ◌^◌, ◌&&◌, ◌==◌, None, true, IfOk, IfSome, OnOk};
+ghost use Rattle.octets.specs.declared.limits.TheConstants.{TIME_MAX};
+ghost use Rattle.rasta_run.specs.Actors as acting;
+ghost use Rattle.rasta_run.specs.Counters.{run_counts_of};
+ghost use Rattle.rasta_run.specs.Counts.{look};
+ghost use Rattle.rasta_run.specs.ChannelFailures.{all_failures};
+ghost use Rattle.rasta_run.specs.Backlogs.{unread_lines};
+ghost use Rattle.rasta_run.specs.Progress.{limit_after};
+ghost use Rattle.rasta_run.specs.Leftovers.{is_nothing};
+ghost use Rattle.stack_end.specs.EndValue.{channels_of, statistics_of};
+
+use crate::input::Feed;
+use crate::leftovers::{Leftovers, Outcome};
+use crate::metrics::{Samples, write_block};
+use crate::net::unless_unread;
+use crate::number_source::Random;
+use crate::printer::Printer;
+use crate::run_clock::RunClock;
+use crate::streams::Streams;
+use crate::turns::Actor;
+use crate::waits::{earlier, take_rest};
+use octets::Milliseconds;
+use rasta_words::{Fault, RunLength, RunRequest};
+use std::alloc::Global;
+use std::io;
+use std::io::{Input, Read, Write};
+use std::net::Net;
+use std::rt::Files;
+use std::time::Clock;
+use udp_channels::{UdpChannels, Watch};
+
+/// The turn limit of a run that lasts until its input ends. It is never reached.
+const TURNS_MOST: u64 = 1 << 63;
+
+/// The ends that run.
+#[derive(Drop)]
+pub struct Runner<'a> {
+    /// The end whose turn comes first, which puts the lines of input: the interlocking of two.
+    pub first: Actor<'a, UdpChannels>,
+    /// The field element beside it.
+    pub second: Option<Actor<'a, UdpChannels>>,
+    /// The number of turns, modulo 2^64.
+    pub turns: u64,
+}
+
+impl Runner<'_> {
+    /// Takes this many turns.
+    ///
+    /// # Errors
+    ///
+    /// - `Clock` if the clock gives no time, or one above 2^62 ms;
+    /// - `Output` if a line cannot be printed;
+    /// - `File` or `Memory` if an end cannot be opened again.
+    pub fn take_turns<R: Clock + Files, O: Write, E: Write>(
+        &mut self,
+        rt: &R,
+        alloc: Global,
+        clock: &mut RunClock,
+        watch: &mut Watch,
+        turns: u32,
+        streams: &mut Streams<O, E>,
+    ) -> Result<(), Fault>
+        requires later { (self.old.first.end.time ≤ clock.old.last) × IfSome self.old.second (λ a. a.end.time ≤ clock.old.last) }
+        requires bounded { clock.old.last ≤ TIME_MAX }
+        // After `take_turns` no end is later than the last reading of the clock, which is at most 2^62 ms.
+        ensures later { (self.new.first.end.time ≤ clock.new.last) × IfSome self.new.second (λ a. a.end.time ≤ clock.new.last)
+            × (clock.new.last ≤ TIME_MAX) }
+        // If `take_turns` succeeds, it has read the clock once for each of its `turns`, and taken that many.
+        ensures taken { OnOk result ((clock.new.readings ≡ (clock.old.readings + turns) % 2 ^ 64)
+            × (self.new.turns ≡ (self.old.turns + turns) % 2 ^ 64)) }
+    {
+        'turns: for _ in 0..turns {
+            let now = clock.read(rt)?;
+            self.look_at_clock(rt, now);
+            let heard = self.take_turn(now, &mut streams.out, &mut streams.err)?;
+            let anew = self.keep(rt, alloc, now, &mut streams.err)?;
+            streams.pass_on()?;
+            let found = heard || anew;
+            let deadline = earlier(self.next_deadline(), streams.next_try(now));
+            take_rest(watch, RunLength::Turns(turns), found, now, deadline);
+        }
+        Ok(())
+    }
+
+    /// Runs until standard input has ended, and everything is put and confirmed or the ends give up, or until standard
+    /// output has no room. Returns how many lines of input were not offered to the first end.
+    ///
+    /// # Errors
+    ///
+    /// - `Memory` if an allocation fails;
+    /// - `File` if there is no standard input, or if no first sequence number can be drawn;
+    /// - `Network` if the system cannot watch the input;
+    /// - `Clock` if the clock gives no time, or one above 2^62 ms;
+    /// - `Output` if a line cannot be printed.
+    pub fn run_until_end<R: Net + Clock + Input + Files, O: Write, E: Write>(
+        &mut self,
+        rt: &R,
+        alloc: Global,
+        clock: &mut RunClock,
+        watch: &mut Watch,
+        streams: &mut Streams<O, E>,
+    ) -> Result<u64, Fault>
+        requires later { (self.old.first.end.time ≤ clock.old.last) × IfSome self.old.second (λ a. a.end.time ≤ clock.old.last) }
+        requires bounded { clock.old.last ≤ TIME_MAX }
+        // After `run_until_end` no end is later than the last reading of the clock, which is at most 2^62 ms.
+        ensures { (self.new.first.end.time ≤ clock.new.last) × IfSome self.new.second (λ a. a.end.time ≤ clock.new.last)
+            × (clock.new.last ≤ TIME_MAX) }
+    {
+        let mut feed = Feed::open(alloc, &mut streams.gate, watch, rt.reader())?;
+        let ran = self.take_fed_turns(rt, alloc, clock, watch, &mut feed, streams);
+        unless_unread(ran, streams.out.has_left_out())?;
+        Ok(feed.unput())
+    }
+
+    /// Takes turns until the input has ended, and everything is put and confirmed or the ends give up.
+    fn take_fed_turns<R: Clock + Files, I: Read + Drop, O: Write, E: Write>(
+        &mut self,
+        rt: &R,
+        alloc: Global,
+        clock: &mut RunClock,
+        watch: &mut Watch,
+        feed: &mut Feed<I>,
+        streams: &mut Streams<O, E>,
+    ) -> Result<(), Fault>
+        requires later { (self.old.first.end.time ≤ clock.old.last) × IfSome self.old.second (λ a. a.end.time ≤ clock.old.last) }
+        requires bounded { clock.old.last ≤ TIME_MAX }
+        // After `take_fed_turns` no end is later than the last reading of the clock, which is at most 2^62 ms.
+        ensures { (self.new.first.end.time ≤ clock.new.last) × IfSome self.new.second (λ a. a.end.time ≤ clock.new.last)
+            × (clock.new.last ≤ TIME_MAX) }
+    {
+        'turns: for _ in 0..TURNS_MOST {
+            let now = clock.read(rt)?;
+            self.look_at_clock(rt, now);
+            let heard = self.take_turn(now, &mut streams.out, &mut streams.err)?;
+            let came = feed.read(&mut streams.gate, now)?;
+            let put = self.put_lines(alloc, feed, now, &mut streams.out, &mut streams.err)?;
+            self.note_progress(now);
+            if feed.ended.is_some() && self.are_over(feed.is_done(), now) {
+                return Ok(());
+            }
+            let anew = self.keep(rt, alloc, now, &mut streams.err)?;
+            streams.pass_on()?;
+            let found = heard || came || put || anew;
+            let limit = limit_after(feed.ended, self.limit(), now);
+            let own = earlier(self.next_deadline(), limit);
+            let deadline = earlier(own, streams.next_try(now));
+            take_rest(watch, RunLength::UntilEnd, found, now, deadline);
+        }
+        Ok(())
+    }
+
+    /// Reads the system's clock for the lines of each log.
+    fn look_at_clock<R: Clock>(&mut self, rt: &R, now: Milliseconds)
+        // `look_at_clock` does not change the time of an end, nor the number of turns.
+        ensures { (self.new.first.end ≡ self.old.first.end) × (self.new.turns ≡ self.old.turns)
+            × ((limit : ℕ) → IfSome self.old.second (λ a. a.end.time ≤ limit) → IfSome self.new.second (λ a. a.end.time ≤ limit)) }
+    {
+        self.first.look_at_clock(rt, now);
+        if let Some(second) = &mut self.second {
+            second.look_at_clock(rt, now);
+        }
+    }
+
+    /// Takes one turn of each end, and returns whether anything was received.
+    fn take_turn<O: Write, E: Write>(
+        &mut self,
+        now: Milliseconds,
+        out: &mut O,
+        err: &mut E,
+    ) -> Result<bool, Fault>
+        requires now { now ≤ TIME_MAX }
+        requires later { (self.old.first.end.time ≤ now) × IfSome self.old.second (λ a. a.end.time ≤ now) }
+        // After `take_turn` no end is later than `now`.
+        ensures time { (self.new.first.end.time ≤ now) × IfSome self.new.second (λ a. a.end.time ≤ now) }
+        // If `take_turn` succeeds, each end has taken a turn now, and the turn is counted.
+        ensures taken { OnOk result ((self.new.first.last_turn ≡ now) × IfSome self.new.second (λ a. a.last_turn ≡ now)
+            × (self.new.turns ≡ (self.old.turns + 1) % 2 ^ 64)) }
+    {
+        let before = self.received();
+        turn_of(&mut self.first, now, out, err)?;
+        turn_of_second(&mut self.second, now, out, err)?;
+        self.turns = self.turns.wrapping_add(1);
+        Ok(self.received() != before)
+    }
+
+    /// Puts lines of input into the first end, and returns whether there was one.
+    fn put_lines<I: Read + Drop, O: Write, E: Write>(
+        &mut self,
+        alloc: Global,
+        feed: &mut Feed<I>,
+        now: Milliseconds,
+        out: &mut O,
+        err: &mut E,
+    ) -> Result<bool, Fault>
+        requires now { now ≤ TIME_MAX }
+        requires later { self.old.first.end.time ≤ now }
+        // After `put_lines` the first end is no later than `now`.
+        ensures time { self.new.first.end.time ≤ now }
+        // `put_lines` does not change the second end.
+        ensures kept { self.new ≡ record self.old { first = self.new.first } }
+    {
+        let stamp = self.first.log.stamp(now);
+        let mut printer = Printer::new(self.first.side, stamp, out);
+        self.first.put_lines(alloc, feed, now, &mut printer, err)
+    }
+
+    /// Returns how many datagrams the sockets of each end received, modulo 2^64.
+    fn received(&self) -> (u64, Option<u64>) {
+        let second = match &self.second {
+            None => None,
+            Some(second) => Some(second.received()),
+        };
+        (self.first.received(), second)
+    }
+
+    /// Records of each end whether it has got on.
+    fn note_progress(&mut self, now: Milliseconds)
+        // `note_progress` does not change the time of an end.
+        ensures time { (self.new.first.end ≡ self.old.first.end)
+            × ((limit : ℕ) → IfSome self.old.second (λ a. a.end.time ≤ limit) → IfSome self.new.second (λ a. a.end.time ≤ limit)) }
+    {
+        self.first.note_progress(now);
+        if let Some(second) = &mut self.second {
+            second.note_progress(now);
+        }
+    }
+
+    /// Returns whether all ends are over, once input has ended.
+    fn are_over(&self, input_done: bool, now: Milliseconds) -> bool
+        // `are_over` is true if and only if the first end is over, and the second one too if there is one.
+        ensures { result ≡ (acting.is_actor_over input_done now self.now.first && acting.is_second_over now self.now.second) }
+    {
+        let second_over = match &self.second {
+            None => true,
+            Some(second) => second.is_over(true, now),
+        };
+        self.first.is_over(input_done, now) && second_over
+    }
+
+    /// Returns when the later of all ends gives up, in milliseconds.
+    fn limit(&self) -> Milliseconds
+        // `limit` returns the time at which the first end gives up, or the later one of two.
+        ensures { result ≡ acting.later_limit self.now.first self.now.second }
+    {
+        match &self.second {
+            None => self.first.limit(),
+            Some(second) => self.first.limit().max(second.limit()),
+        }
+    }
+
+    /// Opens each end again that is to be, prints counts that are due, and returns whether an end was opened. The
+    /// field element is opened first.
+    fn keep<R: Files, E: Write>(
+        &mut self,
+        rt: &R,
+        alloc: Global,
+        now: Milliseconds,
+        err: &mut E,
+    ) -> Result<bool, Fault>
+        requires now { now ≤ TIME_MAX }
+        requires later { (self.old.first.end.time ≤ now) × IfSome self.old.second (λ a. a.end.time ≤ now) }
+        // After `keep` no end is later than `now`.
+        ensures time { (self.new.first.end.time ≤ now) × IfSome self.new.second (λ a. a.end.time ≤ now) }
+        // `keep` takes no turn.
+        ensures turns { self.new.turns ≡ self.old.turns }
+        // If `keep` succeeds, it has looked at the counts of the first end, as it is then.
+        ensures counts { OnOk result (self.new.first.teller ≡ look self.old.first.teller
+            (run_counts_of self.new.first.earlier.sums (statistics_of self.new.first.end)
+            (channels_of self.new.first.end).recorder.value self.new.first.failures self.new.first.put self.new.first.taken) now) }
+    {
+        let mut source = Random { system: rt };
+        let second = keep_second(&mut self.second, &mut source, alloc, now, err)?;
+        let first = self.first.keep(&mut source, alloc, now, err)?;
+        if self.first.tell_due(now, err) {
+            let _ = self.tell_block(now, err);
+        }
+        Ok(first || second)
+    }
+
+    /// Prints the counts of all ends in one block, if that is their form.
+    ///
+    /// # Errors
+    ///
+    /// - The error of the writer; what it wrote before stays written.
+    fn tell_block<E: Write>(&self, now: Milliseconds, err: &mut E) -> io::Result<()> {
+        if !self.first.teller.has_block() {
+            return Ok(());
+        }
+        write_block(err, &self.samples(now))
+    }
+
+    /// Returns what is counted of each end.
+    fn samples(&self, now: Milliseconds) -> Samples {
+        let second = match &self.second {
+            None => None,
+            Some(second) => Some(second.sample(now)),
+        };
+        Samples {
+            first: self.first.sample(now),
+            second,
+        }
+    }
+
+    /// Returns the earliest deadline of all ends.
+    fn next_deadline(&self) -> Option<Milliseconds> {
+        match &self.second {
+            None => self.first.next_deadline(),
+            Some(second) => earlier(self.first.next_deadline(), second.next_deadline()),
+        }
+    }
+
+    /// Ends a run, in which this many lines of input are left: prints the state of each end and what it leaves
+    /// undone, and finishes its log. Ends that ran until their input ended disconnect first. Returns how they were.
+    ///
+    /// # Errors
+    ///
+    /// - `Output` if a line cannot be printed.
+    pub fn finish<O: Write, E: Write>(
+        &mut self,
+        run: &RunRequest<'_>,
+        lines: u64,
+        now: Milliseconds,
+        streams: &mut Streams<O, E>,
+    ) -> Result<Outcome, Fault>
+        requires now { now ≤ TIME_MAX }
+        requires later { (self.old.first.end.time ≤ now) × IfSome self.old.second (λ a. a.end.time ≤ now) }
+        // If no state is expected, each end was in it when `finish` succeeds.
+        ensures expected { run.now.expected ≡ None → IfOk result (λ outcome. outcome.is_met ≡ true) }
+        // If `finish` succeeds, its outcome says whether every end was in the expected state before.
+        ensures met { IfOk result (λ outcome. outcome.is_met ≡ (acting.is_as_expected run.now.expected lines self.old.first
+            && acting.is_second_as_expected run.now.expected self.old.second)) }
+        // If `finish` succeeds, its outcome says whether each end had left nothing undone, if the run lasted until its input
+        // ended.
+        ensures finished { IfOk result (λ outcome. outcome.is_finished
+            ≡ acting.is_finished run.now.length lines self.old.first self.old.second) }
+        // If `finish` succeeds, its outcome says whether no line of standard output was left out, and none waits.
+        ensures read { IfOk result (λ outcome. outcome.is_read
+            ≡ (unread_lines streams.old.out.left_out streams.new.out.octets.items == 0)) }
+    {
+        let first_undone = self.first.undone(lines);
+        let second_undone = undone_of(&self.second);
+        let first_met = self.first.stands_as(run.expected, first_undone);
+        let second_met = is_met(&self.second, run, second_undone);
+        let is_until_end = run.length == RunLength::UntilEnd;
+        let left_out = streams.out.take_left_out();
+        self.leave(is_until_end, left_out, now, &mut streams.err);
+        if streams.print_rest()? {
+            self.report(&mut streams.out)?;
+            let _ = streams.print_rest()?;
+        }
+        if is_until_end {
+            self.tell_undone(first_undone, second_undone, &mut streams.err);
+        }
+        let is_read = streams.tell_unread(left_out);
+        self.conclude(first_met, second_met, now, &mut streams.err);
+        let is_finished = first_undone.is_nothing() && second_undone.is_nothing();
+        Ok(Outcome {
+            is_read,
+            is_finished: !is_until_end || is_finished,
+            is_met: first_met && second_met,
+        })
+    }
+
+    /// Disconnects the ends if their input has ended, or if lines of standard output were left out. Logs the latter.
+    fn leave<E: Write>(&mut self, is_until_end: bool, left_out: u64, now: Milliseconds, err: &mut E)
+        requires now { now ≤ TIME_MAX }
+        requires later { (self.old.first.end.time ≤ now) × IfSome self.old.second (λ a. a.end.time ≤ now) }
+    {
+        if left_out > 0 {
+            let _ = self.first.tell_unread(now, err);
+            if let Some(second) = &self.second {
+                let _ = second.tell_unread(now, err);
+            }
+        }
+        if is_until_end || left_out > 0 {
+            self.first.close(now, err);
+            if let Some(second) = &mut self.second {
+                second.close(now, err);
+            }
+        }
+    }
+
+    /// Prints the state of each end.
+    fn report<O: Write>(&self, out: &mut O) -> Result<(), Fault> {
+        self.first.report(out)?;
+        match &self.second {
+            None => Ok(()),
+            Some(second) => second.report(out),
+        }
+    }
+
+    /// Prints what each end leaves undone, if it is anything. A failing output is ignored.
+    fn tell_undone<E: Write>(
+        &self,
+        first_undone: Leftovers,
+        second_undone: Leftovers,
+        err: &mut E,
+    ) {
+        let _ = self.first.tell_undone(first_undone, err);
+        if let Some(second) = &self.second {
+            let _ = second.tell_undone(second_undone, err);
+        }
+    }
+
+    /// Finishes the log of each end.
+    fn conclude<E: Write>(
+        &mut self,
+        first_met: bool,
+        second_met: bool,
+        now: Milliseconds,
+        err: &mut E,
+    ) {
+        self.first.note_failures();
+        self.first.conclude(now, first_met, err);
+        if let Some(second) = &mut self.second {
+            second.note_failures();
+            second.conclude(now, second_met, err);
+        }
+        let _ = self.tell_block(now, err);
+    }
+}
+
+/// Takes one turn of an end, whose telegrams are printed.
+fn turn_of<O: Write, E: Write>(
+    actor: &mut Actor<'_, UdpChannels>,
+    now: Milliseconds,
+    out: &mut O,
+    err: &mut E,
+) -> Result<(), Fault>
+    requires now { now ≤ TIME_MAX }
+    requires later { actor.old.end.time ≤ now }
+    // After `turn_of` the end is no later than `now`, and it has taken a turn.
+    ensures turned { (actor.new.end.time ≤ now) × (actor.new.last_turn ≡ now) }
+    // After `turn_of` the calls that failed so far are noted.
+    ensures noted { actor.new.failures ≡ all_failures (channels_of actor.new.end).inner.channels }
+{
+    let stamp = actor.log.stamp(now);
+    let mut printer = Printer::new(actor.side, stamp, out);
+    let ran = actor.turn(now, &mut printer, err);
+    actor.note_taken(printer.taken);
+    actor.note_failures();
+    ran
+}
+
+/// Takes one turn of the second end, if there is one.
+fn turn_of_second<O: Write, E: Write>(
+    second: &mut Option<Actor<'_, UdpChannels>>,
+    now: Milliseconds,
+    out: &mut O,
+    err: &mut E,
+) -> Result<(), Fault>
+    requires now { now ≤ TIME_MAX }
+    requires later { IfSome second.old (λ a. a.end.time ≤ now) }
+    // After `turn_of_second` the end is no later than `now`, and it has taken a turn.
+    ensures { IfSome second.new (λ a. (a.end.time ≤ now) × (a.last_turn ≡ now)) }
+{
+    match second {
+        None => Ok(()),
+        Some(actor) => turn_of(actor, now, out, err),
+    }
+}
+
+/// Opens the second end again, if there is one and it is to be, and prints its counts if they are due. Returns whether
+/// it was opened.
+fn keep_second<R: Files, E: Write>(
+    second: &mut Option<Actor<'_, UdpChannels>>,
+    source: &mut Random<'_, R>,
+    alloc: Global,
+    now: Milliseconds,
+    err: &mut E,
+) -> Result<bool, Fault>
+    requires now { now ≤ TIME_MAX }
+    requires later { IfSome second.old (λ a. a.end.time ≤ now) }
+    // After `keep_second` the end is no later than `now`.
+    ensures { IfSome second.new (λ a. a.end.time ≤ now) }
+{
+    match second {
+        None => Ok(false),
+        Some(actor) => {
+            let anew = actor.keep(source, alloc, now, err)?;
+            let _due = actor.tell_due(now, err);
+            Ok(anew)
+        }
+    }
+}
+
+/// Returns what the second end leaves undone: nothing, if there is none.
+fn undone_of(second: &Option<Actor<'_, UdpChannels>>) -> Leftovers
+    // `undone_of` returns what that end leaves, to which no line of input is offered.
+    ensures left { IfSome second.now (λ a. result ≡ acting.leftovers_of a 0) }
+    // Nothing is left if nothing is left by that end, or if there is none.
+    ensures done { is_nothing result ≡ acting.is_second_done second.now }
+{
+    match second {
+        None => Leftovers::nothing(),
+        Some(second) => second.undone(0),
+    }
+}
+
+/// Returns whether the second end is in the expected state, if there is one.
+fn is_met(second: &Option<Actor<'_, UdpChannels>>, run: &RunRequest<'_>, undone: Leftovers) -> bool
+    // `is_met` is true without a second end, and else if that is in the expected state.
+    ensures met { IfSome second.now (λ a. undone ≡ acting.leftovers_of a 0) → result ≡ acting.is_second_as_expected run.now.expected second.now }
+    // If no state is expected, `is_met` returns true.
+    ensures none { run.now.expected ≡ None → result ≡ true }
+{
+    match second {
+        None => true,
+        Some(second) => second.stands_as(run.expected, undone),
+    }
+}
+
+/// Returns when a run gives up, once its input has ended. A time that has passed does not count: then another end
+/// has something left to do.
+fn limit_after(
+    ended: Option<Milliseconds>,
+    limit: Milliseconds,
+    now: Milliseconds,
+) -> Option<Milliseconds>
+    // `limit_after` returns the time if input has ended and the time is after `now`, and else `None`.
+    ensures { result ≡ limit_after ended limit now }
+{
+    match ended {
+        Some(_) if now < limit => Some(limit),
+        _ => None,
+    }
+}
