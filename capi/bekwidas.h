@@ -195,9 +195,25 @@ typedef struct bek_reception {
     uint64_t repeated; /* early, with a number that was deferred already */
     uint64_t far;      /* with a number that is too far ahead */
     uint64_t full;     /* early, while every place was taken */
-    uint64_t damaged;  /* no redundancy PDU */
+    uint64_t damaged;  /* no redundancy PDU; bek_statistics has them by fault */
     uint64_t last;     /* the time of the last redundancy PDU that was not too far ahead, or BEK_NEVER */
 } bek_reception;
+
+/* The datagrams of one channel that are no redundancy PDU, by fault. */
+typedef struct bek_channel_faults {
+    uint64_t too_short;  /* fewer octets than a header */
+    uint64_t bad_length; /* the length field differs from the number of octets, or there are too many */
+    uint64_t reserve;    /* the reserve is not zero */
+} bek_channel_faults;
+
+/* The PDUs that went up and are no safety PDU with a valid safety code, by fault. */
+typedef struct bek_part_faults {
+    uint64_t too_short;  /* fewer octets than a header and the safety code need */
+    uint64_t bad_length; /* the length field differs from the number of octets, or there are too many */
+    uint64_t bad_code;   /* the safety code is not that of the octets */
+    uint64_t bad_type;   /* the type is not one of the eight */
+    uint64_t bad_body;   /* the body does not fit the type */
+} bek_part_faults;
 
 /* What an end has counted since it was opened, modulo 2^64. Times are in milliseconds. */
 typedef struct bek_statistics {
@@ -205,7 +221,7 @@ typedef struct bek_statistics {
     /* PDUs that went up to the safety layer. One that ends the connection is not counted. */
     uint64_t taken;
     uint64_t gaps;         /* revealed a gap, so that a retransmission was requested */
-    uint64_t damaged;      /* dropped: no safety PDU with a valid safety code */
+    uint64_t damaged;      /* dropped: no safety PDU with a valid safety code; part_faults has them by fault */
     uint64_t strangers;    /* dropped: another receiver or sender */
     uint64_t unopened;     /* dropped: no ConnReq, while the end waits for one */
     uint64_t far;          /* dropped: the sequence number is too far ahead */
@@ -221,6 +237,9 @@ typedef struct bek_statistics {
     uint64_t requests;   /* retransmissions requested */
     uint64_t answers;    /* retransmissions granted */
     uint64_t confirmed;  /* units that the peer has confirmed */
+    uint64_t expired_deferrals; /* how often t_seq passed while datagrams were deferred: what was missing before them was given up */
+    bek_channel_faults channel_faults[BEK_CHANNELS_MAX]; /* channel 1 first */
+    bek_part_faults part_faults;
 } bek_statistics;
 
 /* Who ended a connection. */

@@ -43,10 +43,21 @@ package Bekwidas is
    end record with Convention => C;
    type Receptions is array (1 .. 4) of Reception with Convention => C;
 
+   type Channel_Fault_Counts is record
+      Too_Short, Bad_Length, Reserve : Unsigned_64 := 0;
+   end record with Convention => C;
+   type All_Channel_Faults is array (1 .. 4) of Channel_Fault_Counts with Convention => C;
+
+   type Part_Fault_Counts is record
+      Too_Short, Bad_Length, Bad_Code, Bad_Type, Bad_Body : Unsigned_64 := 0;
+   end record with Convention => C;
+
    type Statistics is record
       Channels : Receptions;
       Taken, Gaps, Damaged, Strangers, Unopened, Far, Unrequested, Answered, Below, Oldest, Longest_Wait : Unsigned_64 := 0;
-      Units, Resent, Heartbeats, Requests, Answers, Confirmed : Unsigned_64 := 0;
+      Units, Resent, Heartbeats, Requests, Answers, Confirmed, Expired_Deferrals : Unsigned_64 := 0;
+      Channel_Faults : All_Channel_Faults;
+      Part_Faults : Part_Fault_Counts;
    end record with Convention => C;
 
    type Note is record

@@ -60,12 +60,25 @@ class Reception(ctypes.Structure):
     _fields_ = [(name, c_uint64) for name in "received passed deferred old repeated far full damaged last".split()]
 
 
+class ChannelFaults(ctypes.Structure):
+    """The datagrams of one channel that are no redundancy PDU, by fault."""
+
+    _fields_ = [(name, c_uint64) for name in "too_short bad_length reserve".split()]
+
+
+class PartFaults(ctypes.Structure):
+    """The PDUs that are no safety PDU with a valid safety code, by fault."""
+
+    _fields_ = [(name, c_uint64) for name in "too_short bad_length bad_code bad_type bad_body".split()]
+
+
 class Statistics(ctypes.Structure):
     """What an end has counted since it was opened, as in bekwidas.h."""
 
     _fields_ = [("channels", Reception * 4)] + [(name, c_uint64) for name in (
         "taken gaps damaged strangers unopened far unrequested answered below oldest longest_wait "
-        "units resent heartbeats requests answers confirmed").split()]
+        "units resent heartbeats requests answers confirmed expired_deferrals").split()] + [
+            ("channel_faults", ChannelFaults * 4), ("part_faults", PartFaults)]
 
 
 class Leaving(ctypes.Structure):

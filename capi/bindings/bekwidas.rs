@@ -37,13 +37,24 @@ pub struct Reception {
     pub received: u64, pub passed: u64, pub deferred: u64, pub old: u64, pub repeated: u64, pub far: u64, pub full: u64, pub damaged: u64, pub last: u64,
 }
 
+/// The datagrams of one channel that are no redundancy PDU, by fault.
+#[repr(C)]
+#[derive(Clone, Copy, Debug, Default, PartialEq, Eq)]
+pub struct ChannelFaults { pub too_short: u64, pub bad_length: u64, pub reserve: u64 }
+
+/// The PDUs that are no safety PDU with a valid safety code, by fault.
+#[repr(C)]
+#[derive(Clone, Copy, Debug, Default, PartialEq, Eq)]
+pub struct PartFaults { pub too_short: u64, pub bad_length: u64, pub bad_code: u64, pub bad_type: u64, pub bad_body: u64 }
+
 /// What an end has counted since it was opened, as in bekwidas.h.
 #[repr(C)]
 #[derive(Clone, Copy, Debug, Default, PartialEq, Eq)]
 pub struct Statistics {
     pub channels: [Reception; 4], pub taken: u64, pub gaps: u64, pub damaged: u64, pub strangers: u64, pub unopened: u64, pub far: u64,
     pub unrequested: u64, pub answered: u64, pub below: u64, pub oldest: u64, pub longest_wait: u64, pub units: u64, pub resent: u64,
-    pub heartbeats: u64, pub requests: u64, pub answers: u64, pub confirmed: u64,
+    pub heartbeats: u64, pub requests: u64, pub answers: u64, pub confirmed: u64, pub expired_deferrals: u64,
+    pub channel_faults: [ChannelFaults; 4], pub part_faults: PartFaults,
 }
 
 /// One thing that an end did, as in bekwidas.h.

@@ -131,6 +131,7 @@ int32_t bekr_statistics(bek_end *end, bek_statistics *statistics) {
     statistics->channels[3].last = told[1];
     statistics->taken = told[2];
     statistics->confirmed = told[3];
+    statistics->part_faults.bad_body = told[4];
     return notes("statistics", end, NULL, 0, 0, 0, 0);
 }
 int32_t bekr_counts(bek_end *end, bek_counts *counts) {
@@ -242,7 +243,7 @@ static void passes_on(void) {
     went("counts", 1);
     AT, must(bek_statistics_of(&end, &statistics) == result);
     must(statistics.channels[0].received == told[0] && statistics.channels[3].last == told[1]);
-    must(statistics.taken == told[2] && statistics.confirmed == told[3]);
+    must(statistics.taken == told[2] && statistics.confirmed == told[3] && statistics.part_faults.bad_body == told[4]);
     went("statistics", 1);
     AT, must(bek_hear_notes(&end, (int)told[0]) == result);
     went("hear_notes", 0);

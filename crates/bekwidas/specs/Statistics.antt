@@ -1,8 +1,13 @@
 -- The counts of an end in numbers.
 use Rattle.std.specs.Prelude.{ℕ, ◌-◌, ◌^◌, List, map, Option, Some, None}
 use Rattle.stack_end.specs.declared.statistics.ReceptionCounts.{ReceptionCounts}
+use Rattle.stack_end.specs.Statistics.{all_red_faults, all_safe_faults}
+use Rattle.stack_end.specs.declared.statistics.RedFaultCounts.{RedFaultCounts}
+use Rattle.stack_end.specs.declared.statistics.SafeFaultCounts.{SafeFaultCounts}
 use Rattle.stack_end.specs.declared.statistics.Statistics.{Statistics}
 use Rattle.bekwidas.specs.declared.statistics.PlainReceptions.{PlainReceptions}
+use Rattle.bekwidas.specs.declared.statistics.PlainRedFaults.{PlainRedFaults}
+use Rattle.bekwidas.specs.declared.statistics.PlainSafeFaults.{PlainSafeFaults}
 use Rattle.bekwidas.specs.declared.statistics.PlainStatistics.{PlainStatistics}
 
 -- a time, or 2^64 - 1 for none
@@ -21,9 +26,17 @@ receptions_of c =
       repeated = c.repeated;
       far = c.far;
       full = c.full;
-      damaged = c.damaged;
+      damaged = all_red_faults c.damaged;
       last = time_or_none c.last;
     }
+
+-- the damaged datagrams of a channel, by fault
+abbrev pub red_faults_of : RedFaultCounts → PlainRedFaults
+red_faults_of c = record { short = c.short; length = c.length; reserve = c.reserve }
+
+-- the damaged parts, by fault
+abbrev pub safe_faults_of : SafeFaultCounts → PlainSafeFaults
+safe_faults_of c = record { short = c.short; length = c.length; code = c.code; bad_type = c.bad_type; body = c.body }
 
 -- all counts, the channels in order
 abbrev pub statistics_in : Statistics → PlainStatistics
@@ -32,7 +45,7 @@ statistics_in s =
       channels = map receptions_of s.channels;
       taken = s.parts.taken;
       gaps = s.parts.gaps;
-      damaged = s.parts.damaged;
+      damaged = all_safe_faults s.parts.damaged;
       strangers = s.parts.strangers;
       unopened = s.parts.unopened;
       far = s.parts.far;
@@ -47,4 +60,7 @@ statistics_in s =
       requests = s.made.requests;
       answers = s.made.answers;
       confirmed = s.confirmed;
+      expired_deferrals = s.expired_deferrals;
+      channel_faults = map (λ c. red_faults_of c.damaged) s.channels;
+      part_faults = safe_faults_of s.parts.damaged;
     }

@@ -4,7 +4,7 @@ ghost use Rattle.std.specs.Prelude.{◌≡◌};
 ghost use Rattle.bekwidas.specs.Statistics as plain;
 
 use octets::limits::CHANNELS_MAX;
-use stack_end::{ReceptionCounts, Statistics};
+use stack_end::{ReceptionCounts, RedFaultCounts, SafeFaultCounts, Statistics};
 
 /// The datagrams that came on one channel since the opening.
 #[repr(C)]
@@ -28,6 +28,34 @@ pub struct PlainReceptions {
     pub damaged: u64,
     /// The own time of the last redundancy PDU that was not too far ahead, in milliseconds, or 2^64 - 1 if none came.
     pub last: u64,
+}
+
+/// The datagrams of one channel that are no redundancy PDU, by fault.
+#[repr(C)]
+#[derive(Drop)]
+pub struct PlainRedFaults {
+    /// Those with fewer bytes than a header.
+    pub short: u64,
+    /// Those whose length field differs from the number of bytes, or that are too long.
+    pub length: u64,
+    /// Those whose reserve is not zero.
+    pub reserve: u64,
+}
+
+/// The parts that are no safety PDU with a valid safety code, by fault.
+#[repr(C)]
+#[derive(Drop)]
+pub struct PlainSafeFaults {
+    /// Those with fewer bytes than a header and the safety code need.
+    pub short: u64,
+    /// Those whose length field differs from the number of bytes, or that are too long.
+    pub length: u64,
+    /// Those whose safety code is not that of their bytes.
+    pub code: u64,
+    /// Those whose PDU type is not one of the eight.
+    pub bad_type: u64,
+    /// Those whose body does not fit the PDU type.
+    pub body: u64,
 }
 
 /// All that an end has counted since its opening.
@@ -70,6 +98,12 @@ pub struct PlainStatistics {
     pub answers: u64,
     /// Units that the peer has confirmed.
     pub confirmed: u64,
+    /// How often T_seq passed while parts were deferred.
+    pub expired_deferrals: u64,
+    /// The damaged datagrams by channel, that of number 1 first.
+    pub channel_faults: [PlainRedFaults; CHANNELS_MAX],
+    /// The damaged parts.
+    pub part_faults: PlainSafeFaults,
 }
 
 /// Returns the counts of a channel in numbers.
@@ -89,8 +123,34 @@ fn plain_receptions(counts: ReceptionCounts) -> PlainReceptions
         repeated: counts.repeated,
         far: counts.far,
         full: counts.full,
-        damaged: counts.damaged,
+        damaged: counts.damaged.total(),
         last,
+    }
+}
+
+/// Returns the counts of a channel's damaged datagrams in numbers.
+fn plain_red_faults(counts: RedFaultCounts) -> PlainRedFaults
+    // Each number is the count of its name.
+    ensures { result ≡ plain.red_faults_of counts }
+{
+    PlainRedFaults {
+        short: counts.short,
+        length: counts.length,
+        reserve: counts.reserve,
+    }
+}
+
+/// Returns the counts of damaged parts in numbers.
+fn plain_safe_faults(counts: SafeFaultCounts) -> PlainSafeFaults
+    // Each number is the count of its name.
+    ensures { result ≡ plain.safe_faults_of counts }
+{
+    PlainSafeFaults {
+        short: counts.short,
+        length: counts.length,
+        code: counts.code,
+        bad_type: counts.bad_type,
+        body: counts.body,
     }
 }
 
@@ -111,7 +171,7 @@ pub(crate) fn plain_statistics(counts: Statistics) -> PlainStatistics
         ],
         taken: parts.taken,
         gaps: parts.gaps,
-        damaged: parts.damaged,
+        damaged: parts.damaged.total(),
         strangers: parts.strangers,
         unopened: parts.unopened,
         far: parts.far,
@@ -126,5 +186,13 @@ pub(crate) fn plain_statistics(counts: Statistics) -> PlainStatistics
         requests: made.requests,
         answers: made.answers,
         confirmed: counts.confirmed,
+        expired_deferrals: counts.expired_deferrals,
+        channel_faults: [
+            plain_red_faults(first.damaged),
+            plain_red_faults(second.damaged),
+            plain_red_faults(third.damaged),
+            plain_red_faults(fourth.damaged),
+        ],
+        part_faults: plain_safe_faults(parts.damaged),
     }
 }

@@ -1,5 +1,5 @@
 -- What is counted of an end in a run, modulo 2^64: by itself, and beside it.
-use Rattle.std.specs.Prelude.{ℕ, ◌+◌, ◌-◌, ◌%◌, ◌^◌, ◌==◌, ◌||◌, nat_eq, nat_lt, Bool, true, false, List, [], ◌∷◌, slice_index_or, slice_set, Option, Some, None, if◌then◌else◌}
+use Rattle.std.specs.Prelude.{ℕ, ◌-◌, ◌==◌, ◌||◌, nat_eq, nat_lt, Bool, true, false, List, [], ◌∷◌, slice_index_or, slice_set, Option, Some, None, if◌then◌else◌}
 use Rattle.octets.specs.declared.limits.TheConstants.{CHANNELS_MAX}
 use Rattle.safe_machine.specs.declared.DropCause.{DropCause}
 use Rattle.safe_machine.specs.declared.DropCause.TheVariants as cause
@@ -9,14 +9,11 @@ use Rattle.rasta_run.specs.declared.counts.ChannelCounts.{ChannelCounts}
 use Rattle.rasta_run.specs.declared.counts.RunCounts.{RunCounts}
 use Rattle.rasta_run.specs.declared.header.Header.{Header}
 use Rattle.rasta_run.specs.declared.recorder.Recorder.{Recorder}
-use Rattle.rasta_run.specs.Totals.{plus, sum}
+use Rattle.rasta_run.specs.Totals.{plus}
+use Rattle.stack_end.specs.Statistics.{all_safe_faults, one_more, sum}
 use Rattle.stack_end.specs.declared.statistics.Statistics.{Statistics}
 use Rattle.udp_channels.specs.Sockets.{no_failures}
 use Rattle.udp_channels.specs.declared.sockets.Failures.{Failures}
-
--- the next count
-abbrev pub one_more : ℕ → ℕ
-one_more n = (n + 1) % 2 ^ 64
 
 -- a channel of which nothing was counted
 abbrev pub no_datagrams : ChannelCounts
@@ -90,7 +87,7 @@ accepted_count c = sum (sum c.sums.parts.taken c.sums.parts.gaps) c.closing
 abbrev pub dropped_count : RunCounts → ℕ
 dropped_count c =
     let p = c.sums.parts in
-    sum (sum (sum (sum (sum (sum p.damaged p.strangers) p.unopened) p.far) p.unrequested) p.answered) p.below
+    sum (sum (sum (sum (sum (sum (all_safe_faults p.damaged) p.strangers) p.unopened) p.far) p.unrequested) p.answered) p.below
 
 -- the greatest age of a confirmed timestamp in milliseconds, if a PDU was taken
 abbrev pub oldest : RunCounts → Option ℕ

@@ -9,8 +9,7 @@ use Rattle.rasta_run.specs.declared.counts_text.CountsPrinter.{CountsPrinter}
 use Rattle.rasta_run.specs.declared.log.ChannelSilence.{ChannelSilence}
 use Rattle.rasta_run.specs.Counters.{accepted_count, dropped_count, failures_in, no_datagrams, oldest}
 use Rattle.rasta_run.specs.Silence.{all_silences}
-use Rattle.rasta_run.specs.Totals.{sum}
-use Rattle.stack_end.specs.Statistics.{no_reception_counts}
+use Rattle.stack_end.specs.Statistics.{all_red_faults, no_reception_counts, sum}
 use Rattle.stack_end.specs.declared.statistics.ReceptionCounts.{ReceptionCounts}
 use Rattle.rasta_words.specs.declared.status.CountsRequest.{CountsRequest}
 use Rattle.pdu_text.specs.Lines.{join_pieces}
@@ -79,7 +78,7 @@ abbrev pub channel_fields : ℕ → ℕ → ReceptionCounts → ChannelCounts �
 channel_fields at channel r c refused heard =
     (codes "time", at) ∷ (codes "channel", channel) ∷ (codes "sent", c.sent) ∷ (codes "failed", c.failed) ∷ (codes "refused", refused) ∷ (codes "received", r.received)
     ∷ (codes "passed", r.passed) ∷ (codes "deferred", r.deferred) ∷ (codes "old", r.old) ∷ (codes "repeats", r.repeated) ∷ (codes "far", r.far)
-    ∷ (codes "full", r.full) ∷ (codes "damaged", sum r.damaged c.damaged) ∷ (codes "strangers", c.strangers) ∷ (codes "heard", heard) ∷ []
+    ∷ (codes "full", r.full) ∷ (codes "damaged", sum (all_red_faults r.damaged) c.damaged) ∷ (codes "strangers", c.strangers) ∷ (codes "heard", heard) ∷ []
 
 -- the line of a channel
 unfoldable pub channel_text : LineForm → ℕ → Side → ℕ → ReceptionCounts → ChannelCounts → (refused heard : ℕ) → List ℕ
@@ -100,12 +99,12 @@ abbrev pub margin_of : Option ℕ → ℕ → Option ℕ
 margin_of None t_max = None
 margin_of (Some oldest) t_max = Some (t_max - oldest)
 
--- the line of the connection: PDUs, the greatest age and its margin, and the telegrams put and taken
+-- the line of the connection: PDUs, the greatest age and its margin, the telegrams put and taken, and how often T_seq passed while parts were deferred
 unfoldable pub connection_text : LineForm → ℕ → Side → RunCounts → (t_max : ℕ) → List ℕ
 connection_text form at side c t_max =
     join_pieces
     (front_of form side ∷ pdus_text form at c ∷ some_text form (codes "oldest") (oldest c) ∷ some_text form (codes "margin") (margin_of (oldest c) t_max)
-    ∷ fields_text form ((codes "put", c.put) ∷ (codes "taken", c.taken) ∷ []) ∷ end_of form ∷ [])
+    ∷ fields_text form ((codes "put", c.put) ∷ (codes "taken", c.taken) ∷ (codes "expired", c.sums.expired_deferrals) ∷ []) ∷ end_of form ∷ [])
 
 -- when the channel at a place last received something
 abbrev pub last_reception_at : List ChannelSilence → ℕ → ℕ

@@ -6,7 +6,6 @@ use Rattle.pdu_text.specs.Lines.{join_pieces}
 use Rattle.pdu_text.specs.Names.{side_name}
 use Rattle.rasta_run.specs.Counters.{accepted_count, failures_in, no_datagrams, oldest}
 use Rattle.rasta_run.specs.Counts.{margin_of}
-use Rattle.rasta_run.specs.Totals.{sum}
 use Rattle.rasta_run.specs.declared.counts.ChannelCounts.{ChannelCounts}
 use Rattle.rasta_run.specs.declared.metrics.ChannelMetric.{ChannelMetric}
 use Rattle.rasta_run.specs.declared.metrics.ChannelMetric.TheVariants as channel
@@ -14,7 +13,7 @@ use Rattle.rasta_run.specs.declared.metrics.EndMetric.{EndMetric}
 use Rattle.rasta_run.specs.declared.metrics.EndMetric.TheVariants as end
 use Rattle.rasta_run.specs.declared.metrics.Sample.{Sample}
 use Rattle.rasta_run.specs.declared.metrics.Samples.{Samples}
-use Rattle.stack_end.specs.Statistics.{no_reception_counts}
+use Rattle.stack_end.specs.Statistics.{all_red_faults, all_safe_faults, no_reception_counts, sum}
 use Rattle.stack_end.specs.declared.statistics.ReceptionCounts.{ReceptionCounts}
 use Rattle.udp_channels.specs.declared.sockets.Failures.{Failures}
 
@@ -30,7 +29,7 @@ channel_number channel.Old r c f = r.old
 channel_number channel.Repeated r c f = r.repeated
 channel_number channel.Far r c f = r.far
 channel_number channel.Full r c f = r.full
-channel_number channel.Damaged r c f = sum r.damaged c.damaged
+channel_number channel.Damaged r c f = sum (all_red_faults r.damaged) c.damaged
 channel_number channel.Stranger r c f = c.strangers
 
 -- the name of the metric of a channel, after the prefix of all
@@ -72,7 +71,7 @@ end_number end.Heartbeats s = Some s.counted.sums.made.heartbeats
 end_number end.Requested s = Some s.counted.sums.made.requests
 end_number end.Answered s = Some s.counted.sums.made.answers
 end_number end.Accepted s = Some (accepted_count s.counted)
-end_number end.Damaged s = Some s.counted.sums.parts.damaged
+end_number end.Damaged s = Some (all_safe_faults s.counted.sums.parts.damaged)
 end_number end.Stranger s = Some s.counted.sums.parts.strangers
 end_number end.Unopened s = Some s.counted.sums.parts.unopened
 end_number end.Far s = Some s.counted.sums.parts.far
@@ -80,6 +79,7 @@ end_number end.Unrequested s = Some s.counted.sums.parts.unrequested
 end_number end.Repeated s = Some s.counted.sums.parts.answered
 end_number end.Below s = Some s.counted.sums.parts.below
 end_number end.Confirmed s = Some s.counted.sums.confirmed
+end_number end.Expired s = Some s.counted.sums.expired_deferrals
 end_number end.Put s = Some s.counted.put
 end_number end.Taken s = Some s.counted.taken
 end_number end.Oldest s = oldest s.counted
@@ -102,6 +102,7 @@ end_name end.Unrequested = codes "pdus_dropped_total"
 end_name end.Repeated = codes "pdus_dropped_total"
 end_name end.Below = codes "pdus_dropped_total"
 end_name end.Confirmed = codes "units_confirmed_total"
+end_name end.Expired = codes "deferrals_expired_total"
 end_name end.Put = codes "telegrams_put_total"
 end_name end.Taken = codes "telegrams_taken_total"
 end_name end.Oldest = codes "confirmation_age_max_milliseconds"
@@ -124,6 +125,7 @@ end_cause end.Unrequested = codes ",cause=\"unrequested\""
 end_cause end.Repeated = codes ",cause=\"answered\""
 end_cause end.Below = codes ",cause=\"below\""
 end_cause end.Confirmed = []
+end_cause end.Expired = []
 end_cause end.Put = []
 end_cause end.Taken = []
 end_cause end.Oldest = []
@@ -161,6 +163,7 @@ end_help end.Unrequested = codes "PDUs that the safety layer dropped, by cause."
 end_help end.Repeated = codes "PDUs that the safety layer dropped, by cause."
 end_help end.Below = codes "PDUs that the safety layer dropped, by cause."
 end_help end.Confirmed = codes "Units that the peer confirmed."
+end_help end.Expired = codes "How often T_seq passed while datagrams were deferred."
 end_help end.Put = codes "Telegrams put."
 end_help end.Taken = codes "Telegrams taken."
 end_help end.Oldest = codes "The greatest age of a confirmed timestamp."
@@ -183,6 +186,7 @@ end_kind end.Unrequested = codes "counter"
 end_kind end.Repeated = codes "counter"
 end_kind end.Below = codes "counter"
 end_kind end.Confirmed = codes "counter"
+end_kind end.Expired = codes "counter"
 end_kind end.Put = codes "counter"
 end_kind end.Taken = codes "counter"
 end_kind end.Oldest = codes "gauge"
@@ -291,7 +295,7 @@ misplacements_text s = join_pieces (end_text end.Far s ∷ end_text end.Unreques
 
 -- the PDUs that ends received
 unfoldable pub parts_text : Samples → List ℕ
-parts_text s = join_pieces (end_metric end.Accepted s ∷ rejections_text s ∷ misplacements_text s ∷ [])
+parts_text s = join_pieces (end_metric end.Expired s ∷ end_metric end.Accepted s ∷ rejections_text s ∷ misplacements_text s ∷ [])
 
 -- telegrams and times
 unfoldable pub telegrams_text : Samples → List ℕ

@@ -1,19 +1,32 @@
 -- The sums of what an end counted in its openings, modulo 2^64.
-use Rattle.std.specs.Prelude.{ℕ, ◌+◌, ◌%◌, ◌^◌, max, Option, Some, None, List, [], ◌∷◌, slice_index_or}
+use Rattle.std.specs.Prelude.{ℕ, max, Option, Some, None, List, [], ◌∷◌, slice_index_or}
 use Rattle.stack_end.specs.declared.statistics.MadeCounts.{MadeCounts}
 use Rattle.stack_end.specs.declared.statistics.PartCounts.{PartCounts}
 use Rattle.stack_end.specs.declared.statistics.ReceptionCounts.{ReceptionCounts}
+use Rattle.stack_end.specs.declared.statistics.RedFaultCounts.{RedFaultCounts}
+use Rattle.stack_end.specs.declared.statistics.SafeFaultCounts.{SafeFaultCounts}
 use Rattle.stack_end.specs.declared.statistics.Statistics.{Statistics}
-use Rattle.stack_end.specs.Statistics.{no_part_counts, no_made_counts, no_reception_counts}
-
--- the sum of two counts
-abbrev pub sum : ℕ → ℕ → ℕ
-sum m n = (m + n) % 2 ^ 64
+use Rattle.stack_end.specs.Statistics.{no_part_counts, no_made_counts, no_reception_counts, sum}
 
 -- the later of two times: the second, if there is one
 abbrev pub later : Option ℕ → Option ℕ → Option ℕ
 later first None = first
 later first (Some time) = Some time
+
+-- the damaged datagrams together, by fault
+abbrev pub add_red_faults : RedFaultCounts → RedFaultCounts → RedFaultCounts
+add_red_faults c d = record { short = sum c.short d.short; length = sum c.length d.length; reserve = sum c.reserve d.reserve }
+
+-- the damaged parts together, by fault
+abbrev pub add_safe_faults : SafeFaultCounts → SafeFaultCounts → SafeFaultCounts
+add_safe_faults c d =
+    record {
+      short = sum c.short d.short;
+      length = sum c.length d.length;
+      code = sum c.code d.code;
+      bad_type = sum c.bad_type d.bad_type;
+      body = sum c.body d.body;
+    }
 
 -- the counts of a channel together
 abbrev pub add_receptions : ReceptionCounts → ReceptionCounts → ReceptionCounts
@@ -26,7 +39,7 @@ add_receptions c d =
       repeated = sum c.repeated d.repeated;
       far = sum c.far d.far;
       full = sum c.full d.full;
-      damaged = sum c.damaged d.damaged;
+      damaged = add_red_faults c.damaged d.damaged;
       last = later c.last d.last;
     }
 
@@ -48,7 +61,7 @@ add_parts c d =
     record {
       taken = sum c.taken d.taken;
       gaps = sum c.gaps d.gaps;
-      damaged = sum c.damaged d.damaged;
+      damaged = add_safe_faults c.damaged d.damaged;
       strangers = sum c.strangers d.strangers;
       unopened = sum c.unopened d.unopened;
       far = sum c.far d.far;
@@ -75,6 +88,7 @@ abbrev pub none : Statistics
 none =
     record {
       channels = no_reception_counts ∷ no_reception_counts ∷ no_reception_counts ∷ no_reception_counts ∷ [];
+      expired_deferrals = 0;
       parts = no_part_counts;
       made = no_made_counts;
       confirmed = 0;
@@ -85,6 +99,7 @@ abbrev pub plus : Statistics → Statistics → Statistics
 plus s t =
     record {
       channels = add_channels s.channels t.channels;
+      expired_deferrals = sum s.expired_deferrals t.expired_deferrals;
       parts = add_parts s.parts t.parts;
       made = add_made s.made t.made;
       confirmed = sum s.confirmed t.confirmed;

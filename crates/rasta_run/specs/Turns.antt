@@ -10,14 +10,15 @@ use Rattle.rasta_run.specs.declared.notices.Notice.TheVariants.{InDoubt, NoTurn}
 use Rattle.settings_file.specs.declared.values.PutEntry.{PutEntry as Telegram}
 use Rattle.stack_end.specs.EndValue.{EndTakesTurn, EndValue, inside}
 use Rattle.stack_end.specs.Poll.{ProcessesUntilFault, IsPoll, With, most_datagrams}
-use Rattle.stack_end.specs.Turns.{is_over, time_turn}
+use Rattle.stack_end.specs.Statistics.{count_expired}
+use Rattle.stack_end.specs.Turns.{is_over, tick_expires_deferral, time_turn}
 
 -- an end was polled. If a reception failed, time passed all the same.
 abbrev pub PollsEnd : {C A T : Type 0} → (C → ChannelHistory) → (T → Item → T → Type 0) → (works : Bool) → ℕ → With C A T → With C A T → Type 0
 PollsEnd told takes true now s t = IsPoll told takes most_datagrams now s t
 PollsEnd {C} {A} {T} told takes false now s t =
     (mid : With C A T) × ProcessesUntilFault told takes most_datagrams now s mid × EndTakesTurn told takes (time_turn now) mid.0 mid.1 t.0 t.1
-    × (t.0.time ≡ now) × (t.0.receptions ≡ mid.0.receptions)
+    × (t.0.time ≡ now) × (t.0.receptions ≡ count_expired (tick_expires_deferral now (inside mid.0)) mid.0.receptions)
 
 -- what a turn changes: the end, the telegrams that are left, the numbers of those put and refused, the application, the number of turns in a row in
 -- which a reception failed, and whether the connection was found closed

@@ -60,6 +60,7 @@ impl RunCounts {
         let parts = &self.sums.parts;
         parts
             .damaged
+            .total()
             .wrapping_add(parts.strangers)
             .wrapping_add(parts.unopened)
             .wrapping_add(parts.far)

@@ -331,7 +331,7 @@ pub fn write_channel<W: Write>(
     ensures { OnOk result (Appends (W.contents writer.old) (W.contents writer.new)
         (counts.channel_text form at side channel receptions.now beside.now refused heard)) }
 {
-    let damaged = receptions.damaged.wrapping_add(beside.damaged);
+    let damaged = receptions.damaged.total().wrapping_add(beside.damaged);
     let fields = [
         ("time", at),
         ("channel", channel as u64),
@@ -369,7 +369,7 @@ pub fn write_connection<W: Write>(
     t_max: Milliseconds,
 ) -> io::Result<()>
     // If `write_connection` succeeds, it has appended the line of the connection with its PDUs made and received,
-    // its confirmations and its telegrams.
+    // its confirmations, its telegrams and the deferrals that expired.
     ensures { OnOk result (Appends (W.contents writer.old) (W.contents writer.new)
         (counts.connection_text form at side counted.now t_max)) }
 {
@@ -380,7 +380,11 @@ pub fn write_connection<W: Write>(
     write_fields(
         writer,
         form,
-        &[("put", counted.put), ("taken", counted.taken)],
+        &[
+            ("put", counted.put),
+            ("taken", counted.taken),
+            ("expired", counted.sums.expired_deferrals),
+        ],
     )?;
     write_text(writer, end_of(form))
 }

@@ -94,7 +94,7 @@ impl ChannelMetric {
             ChannelMetric::Repeated => receptions.repeated,
             ChannelMetric::Far => receptions.far,
             ChannelMetric::Full => receptions.full,
-            ChannelMetric::Damaged => receptions.damaged.wrapping_add(beside.damaged),
+            ChannelMetric::Damaged => receptions.damaged.total().wrapping_add(beside.damaged),
             ChannelMetric::Stranger => beside.strangers,
         }
     }
@@ -191,6 +191,8 @@ pub enum EndMetric {
     Below,
     /// Units that the peer confirmed.
     Confirmed,
+    /// Deferral deadlines that passed.
+    Expired,
     /// Telegrams put.
     Put,
     /// Telegrams taken.
@@ -218,7 +220,7 @@ impl EndMetric {
             EndMetric::Requested => Some(made.requests),
             EndMetric::Answered => Some(made.answers),
             EndMetric::Accepted => Some(counted.accepted()),
-            EndMetric::Damaged => Some(parts.damaged),
+            EndMetric::Damaged => Some(parts.damaged.total()),
             EndMetric::Stranger => Some(parts.strangers),
             EndMetric::Unopened => Some(parts.unopened),
             EndMetric::Far => Some(parts.far),
@@ -226,6 +228,7 @@ impl EndMetric {
             EndMetric::Repeated => Some(parts.answered),
             EndMetric::Below => Some(parts.below),
             EndMetric::Confirmed => Some(counted.sums.confirmed),
+            EndMetric::Expired => Some(counted.sums.expired_deferrals),
             EndMetric::Put => Some(counted.put),
             EndMetric::Taken => Some(counted.taken),
             EndMetric::Oldest => counted.oldest(),
@@ -247,6 +250,7 @@ impl EndMetric {
             EndMetric::Answered => "retransmissions_answered_total",
             EndMetric::Accepted => "pdus_accepted_total",
             EndMetric::Confirmed => "units_confirmed_total",
+            EndMetric::Expired => "deferrals_expired_total",
             EndMetric::Put => "telegrams_put_total",
             EndMetric::Taken => "telegrams_taken_total",
             EndMetric::Oldest => "confirmation_age_max_milliseconds",
@@ -292,6 +296,7 @@ impl EndMetric {
             EndMetric::Answered => "Retransmissions carried out.",
             EndMetric::Accepted => "PDUs that the safety layer accepted.",
             EndMetric::Confirmed => "Units that the peer confirmed.",
+            EndMetric::Expired => "How often T_seq passed while datagrams were deferred.",
             EndMetric::Put => "Telegrams put.",
             EndMetric::Taken => "Telegrams taken.",
             EndMetric::Oldest => "The greatest age of a confirmed timestamp.",
@@ -378,6 +383,7 @@ fn write_parts<W: Write>(writer: &mut W, samples: &Samples) -> io::Result<()>
     // If `write_parts` succeeds, it has appended the metrics of PDUs accepted and dropped.
     ensures { OnOk result (Appends (W.contents writer.old) (W.contents writer.new) (metrics.parts_text samples.now)) }
 {
+    write_end_metric(writer, EndMetric::Expired, samples)?;
     write_end_metric(writer, EndMetric::Accepted, samples)?;
     write_rejected(writer, samples)?;
     write_misplaced(writer, samples)

@@ -11,6 +11,7 @@ ghost use Rattle.rasta_run.specs.Headers.{header_seen, kind_seen};
 ghost use Rattle.rasta_run.specs.Recorders.{expected_header_of};
 ghost use Rattle.rasta_run.specs.Recorders as recording;
 ghost use Rattle.rasta_run.specs.LogEvents as telling;
+ghost use Rattle.stack_end.specs.Statistics.{one_more};
 
 use crate::counts::{ChannelCounts, count_dropped, count_sent};
 use crate::events::is_repeat;
@@ -241,7 +242,7 @@ impl Recorder {
     fn hear_left(&mut self, number: u32, reason: Reason)
         // `hear_left` counts the part, and keeps its version if that is the reason; it changes nothing else.
         ensures { self.new ≡ record self.old {
-          closing = counting.one_more self.old.closing;
+          closing = one_more self.old.closing;
           version = recording.version_after reason (recording.header_under number self.old.came.1) self.old.version;
         } }
     {
@@ -297,7 +298,7 @@ impl Recorder {
         // `keep` puts the event at the place of its number and counts it, and changes nothing else.
         ensures { self.new ≡ record self.old {
           kept = slice_set self.old.kept (self.old.happened % 256) happening;
-          happened = counting.one_more self.old.happened;
+          happened = one_more self.old.happened;
         } }
     {
         self.kept[(self.happened % KEPT as u64) as usize] = happening;

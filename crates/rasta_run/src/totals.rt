@@ -4,7 +4,9 @@ ghost use Rattle.std.specs.Prelude.{◌≡◌};
 ghost use Rattle.rasta_run.specs.Totals as totals;
 
 use octets::limits::CHANNELS_MAX;
-use stack_end::{MadeCounts, PartCounts, ReceptionCounts, Statistics};
+use stack_end::{
+    MadeCounts, PartCounts, ReceptionCounts, RedFaultCounts, SafeFaultCounts, Statistics,
+};
 
 /// The sums of an end's counts over openings, modulo 2^64. An age or a wait is the greatest, a time of reception the
 /// last.
@@ -23,6 +25,7 @@ impl Totals {
         Totals {
             sums: Statistics {
                 channels: [ReceptionCounts::none(); CHANNELS_MAX],
+                expired_deferrals: 0,
                 parts: PartCounts::none(),
                 made: MadeCounts::none(),
                 confirmed: 0,
@@ -45,6 +48,10 @@ impl Totals {
                     receptions(third, three),
                     receptions(fourth, four),
                 ],
+                expired_deferrals: self
+                    .sums
+                    .expired_deferrals
+                    .wrapping_add(counts.expired_deferrals),
                 parts: parts(self.sums.parts, counts.parts),
                 made: add_made_counts(self.sums.made, counts.made),
                 confirmed: self.sums.confirmed.wrapping_add(counts.confirmed),
@@ -79,8 +86,34 @@ fn receptions(first: ReceptionCounts, second: ReceptionCounts) -> ReceptionCount
         repeated: first.repeated.wrapping_add(second.repeated),
         far: first.far.wrapping_add(second.far),
         full: first.full.wrapping_add(second.full),
-        damaged: first.damaged.wrapping_add(second.damaged),
+        damaged: red_faults(first.damaged, second.damaged),
         last: second.last.or(first.last),
+    }
+}
+
+/// Adds the counts of damaged datagrams, by fault.
+fn red_faults(first: RedFaultCounts, second: RedFaultCounts) -> RedFaultCounts
+    // Each count is the sum of both.
+    ensures { result ≡ totals.add_red_faults first second }
+{
+    RedFaultCounts {
+        short: first.short.wrapping_add(second.short),
+        length: first.length.wrapping_add(second.length),
+        reserve: first.reserve.wrapping_add(second.reserve),
+    }
+}
+
+/// Adds the counts of damaged parts, by fault.
+fn safe_faults(first: SafeFaultCounts, second: SafeFaultCounts) -> SafeFaultCounts
+    // Each count is the sum of both.
+    ensures { result ≡ totals.add_safe_faults first second }
+{
+    SafeFaultCounts {
+        short: first.short.wrapping_add(second.short),
+        length: first.length.wrapping_add(second.length),
+        code: first.code.wrapping_add(second.code),
+        bad_type: first.bad_type.wrapping_add(second.bad_type),
+        body: first.body.wrapping_add(second.body),
     }
 }
 
@@ -92,7 +125,7 @@ fn parts(first: PartCounts, second: PartCounts) -> PartCounts
     PartCounts {
         taken: first.taken.wrapping_add(second.taken),
         gaps: first.gaps.wrapping_add(second.gaps),
-        damaged: first.damaged.wrapping_add(second.damaged),
+        damaged: safe_faults(first.damaged, second.damaged),
         strangers: first.strangers.wrapping_add(second.strangers),
         unopened: first.unopened.wrapping_add(second.unopened),
         far: first.far.wrapping_add(second.far),

@@ -1,6 +1,6 @@
 -- An end that is opened again: no call changes its settings, so that each layer is as newly opened.
-use Rattle.stack_end.proofs.Words.{[], ap, Arrives, Bool, by_cond, ClosedByUser, Closes, Completes, Datagram, datagrams, Dialogue, EndSettings, Err, Event, false}
-use Rattle.stack_end.proofs.Words.{if◌then◌else◌, Input, Inside, is_nil, judge_messages, judge_read, judge_units, judge_unpacked, Judgement, Leaving, length, List, process_event, None, number_after}
+use Rattle.stack_end.proofs.Words.{[], ap, Arrives, Bool, ClosedByUser, Closes, Completes, Datagram, datagrams, Dialogue, EndSettings, Err, Event, false}
+use Rattle.stack_end.proofs.Words.{if◌then◌else◌, Input, judge_messages, judge_read, judge_units, judge_unpacked, Judgement, Leaving, length, List, process_event, None, number_after}
 use Rattle.stack_end.proofs.Words.{Ok, opening_turn, Option, Part, parts_passed, Puts, Receiver, red_after, RedTick, refl, Result, bring_up, rule_of, sendings, session_in, Settings, Some, subst}
 use Rattle.stack_end.proofs.Words.{can_pack, suc, sym, Tele, tele_seen, TeleFault, true, unit_seen, unit_text, unless_leaving, Unspecified, View, zero, ℕ, ◌%◌, ◌^◌, ◌∙◌, ◌∷◌, ◌≡◌, PackFault, take, comes_up}
 use Rattle.pdi_session.specs.SessionStep.{new_session as session_opened, SessionState}
@@ -15,20 +15,18 @@ use Rattle.safe_machine.proofs.one.TurnSteps.{opened-cases, opening_law_holds}
 use Rattle.safe_machine.specs.Moves.{Move, move}
 use Rattle.safe_machine.specs.Moves.Move.{Guards, Leaves, Sends, Ticks}
 use Rattle.safe_machine.specs.Octets.{arrive_octets, move_of as heard_move, seen_by}
-use Rattle.safe_machine.specs.State.{State}
 use Rattle.safe_machine.specs.Step.{new_state}
 use Rattle.safe_machine.specs.View.{kept_of}
 use Rattle.safe_machine.specs.World.{Side}
 use Rattle.safe_machine.specs.World.Side.{Il, Fe}
 use Rattle.end_settings.specs.EndSettings.{connection_of, session_of}
 use Rattle.stack_end.proofs.TurnOfCall.{behind-wrap, datagrams-are, opens-made}
-use Rattle.stack_end.proofs.Effects.{answered, handed_up, heard, leaves, moved, packed, put_done, put_in, settle, with_machine, with_session}
+use Rattle.stack_end.proofs.Effects.{answered, handed_up, heard, leaves, moved, settle, with_machine, with_session}
 use Rattle.stack_end.proofs.TurnSteps.{closed-is, finished-is, guarded-is, packed-is, part-is, queued-is, ticked-is}
 use Rattle.stack_end.specs.Ends.{Call, Close, Deliver, EndState, InitDone, is_shut, new_end, Put, Tick}
 use Rattle.stack_end.specs.Steps.{by_steps, call, guard_step, kept_of as fields_kept, part_step, parts_step, input_step, step, tick_step, whole_way, with_input}
-use Rattle.stack_end.specs.Turns.{call_by, close_turn, finish_turn, input_and_send_by, pack_turn, pack_by, queue_turn, send_by}
-use Rattle.stack_end.specs.Fields.{LayersRepresent, UpperRepresent}
-use Rattle.stack_end.specs.Reopening.{after_calls, AgainLaw, IsAgain, reopening_turn}
+use Rattle.stack_end.specs.Turns.{call_by, finish_turn, input_and_send_by, pack_turn, pack_by, queue_turn, send_by}
+use Rattle.stack_end.specs.Reopening.{after_calls, AgainLaw}
 use Rattle.stack_end.specs.Statistics.{no_made_counts, with_made}
 use Rattle.std.proofs.Common.{zero-add}
 

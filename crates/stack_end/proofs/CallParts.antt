@@ -13,7 +13,6 @@ use Rattle.octets.proofs.Steps.{FoldsTo-append}
 use Rattle.octets.specs.declared.limits.TheConstants.{SAFE_HEADER}
 use Rattle.pdi_session.specs.Histories.{put_by}
 use Rattle.pdi_session.specs.SessionStep.{SessionState, texts as session_texts, texts as texts_of}
-use Rattle.red_layer.specs.declared.RedEvent.{RedEvent}
 use Rattle.safe_machine.specs.View.{texts}
 use Rattle.safe_pdu.specs.Pdu.{kind_number}
 use Rattle.safe_pdu.specs.Places.{kind_of}
@@ -231,9 +230,10 @@ pub open-went : {T : Type 0} (takes : T → Item → T → Type 0) (v : Inside) 
 open-went takes v turn c a b t u w e is h =
     subst (λ (q : Bool). CarriesOut takes (if q then still v else turn) a t w b u) (sym (ap is_closed (sym e) ∙ not-closed c is)) h
 
-pub open-event : (v : Inside) (c : ConnectionState) (e : Option RedEvent) → c ≡ v.upper.machine.connection → (c ≡ Closed → ⊥)
-    → e ≡ (if is_over v then None else e)
-open-event v c e is alive = sym (ap (λ (q : Bool). if q then None else e) (ap is_closed (sym is) ∙ not-closed c alive))
+-- the end is not closed, as its machine says, so the answer is that of an open end
+pub open-answer : {V : Type 0} (over answer : V) (v : Inside) (c : ConnectionState) → c ≡ v.upper.machine.connection → (c ≡ Closed → ⊥)
+    → answer ≡ (if is_over v then over else answer)
+open-answer over answer v c is alive = sym (ap (λ (q : Bool). if q then over else answer) (ap is_closed (sym is) ∙ not-closed c alive))
 
 pub took-none : {T : Type 0} (takes : T → Item → T → Type 0) (t : T) (d : Dialogue) → TakesBetween takes t d d t
 took-none takes t d = record { more = []; grown = sym (append-nil d.history.taken); handed = refl }

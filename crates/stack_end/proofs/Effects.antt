@@ -1,5 +1,5 @@
 -- What the steps of an end do to its history, change by change: the vocabulary of the laws' proofs. `TurnSteps` proves that a step is these changes.
-use Rattle.stack_end.proofs.Words.{Bool, ClosedByUser, Closes, Completes, Dialogue, drop, if◌then◌else◌, Input, judge_units, Leaving, length, List, process_event, None, Option, Puts}
+use Rattle.stack_end.proofs.Words.{Closes, Completes, Dialogue, drop, if◌then◌else◌, Input, judge_units, Leaving, length, List, process_event, None, Option, Puts}
 use Rattle.stack_end.proofs.Words.{comes_up, request_after, bring_up, Some, take, unit_text, ℕ}
 use Rattle.safe_machine.specs.Moves.{Move, move}
 use Rattle.safe_machine.specs.Octets.{arrive_octets}

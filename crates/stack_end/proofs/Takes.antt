@@ -1,5 +1,5 @@
 -- Which telegrams the application takes: of those that do not end the session, the ones that leave its phase as it was.
-use Rattle.stack_end.proofs.Words.{after, ap, Arrives, Bool, end_of, Err, false, is_none, judge_telegram, None, Ok, Option, refl, Result, Some, subst, sym, Tele, TeleFault}
+use Rattle.stack_end.proofs.Words.{after, ap, Arrives, Bool, end_of, false, is_none, judge_telegram, None, Ok, refl, Result, Some, sym, Tele, TeleFault}
 use Rattle.stack_end.proofs.Words.{true, true≢false, ◌∙◌, ◌≡◌, if◌then◌else◌, ℕ, List}
 use denote.Enum.Bare.{sameb}
 use Rattle.std.specs.Prelude.{◌==◌}

@@ -1,18 +1,18 @@
 -- The own time last confirmed never goes back in a call, and what is taken comes after a timeout check that passed.
-use Rattle.stack_end.proofs.Words.{[], upper_turn, ap, append-nil, arith, Bool, dialogue_of, false, Fields, turn_then, input_and_send_turn, up_turn, guard_turn, judge_turn, octets_units, if◌then◌else◌}
-use Rattle.stack_end.proofs.Words.{Inside, inl, inr, Input, is_closed, is_over, judge_units, judge_part, Leaving, leave_turn, List, machine_octets_turn, machine_turn, MachineTurn, None}
+use Rattle.stack_end.proofs.Words.{[], upper_turn, ap, arith, Bool, dialogue_of, false, Fields, turn_then, input_and_send_turn, up_turn, guard_turn, judge_turn, octets_units, if◌then◌else◌}
+use Rattle.stack_end.proofs.Words.{Inside, inl, inr, Input, is_closed, is_over, judge_units, judge_part, Leaving, leave_turn, List, machine_turn, MachineTurn, None}
 use Rattle.stack_end.proofs.Words.{note_request_turn, Ok, Option, pack_turn, pack_up_to_turn, Part, part_turn, parts_turn, parts_passed, input_turn, refl, rules, send_turn, session_turn, end_session_turn, Some, still}
 use Rattle.stack_end.proofs.Words.{Closes, process_event, RedTick, subst, suc, sym, true, Turn, View, zero, ℕ, ◌++◌, ◌+◌, ◌<◌, ◌∙◌, ◌∷◌, ◌≡◌, ◌≢◌, ◌⊎◌, Err, Result, Datagram, can_pack}
-use Rattle.std.specs.Prelude.{◌-◌, nat_le, nat_lt, ◌&&◌}
-use Rattle.safe_machine.specs.Connections.{in_turn, is_live}
+use Rattle.std.specs.Prelude.{◌-◌, nat_le}
+use Rattle.safe_machine.specs.Connections.{is_live}
 use Rattle.safe_machine.specs.Decision.{as_client, by_connection, by_table, cts_step, distance}
 use Rattle.safe_machine.specs.Deadlines.{beat_due}
 use Rattle.safe_machine.specs.Made.{is_carrier_kind, leaving_body}
 use Rattle.safe_machine.specs.Octets.{move_of as heard_move}
 use Rattle.safe_machine.specs.TurnLaws.{turn as machine_move, units_of_move}
-use Rattle.safe_machine.specs.Turns.{acceptance_turn as machine_accepts, answer_ahead_turn, answer_early_turn, answer_next_turn, request_turn, both_confirmed, decision_turn, response_turn, count_pdu, guard_turn as machine_guard_turn, handed_units, leave_turn as machine_leave_turn}
-use Rattle.safe_machine.specs.Turns.{move_past, reply_turn, mark_answered, resend_turn, sending_turn, send_turn as machine_send_turn, send_unit_turn, has_room, still as machine_still, take_unit_turn, tick_turn as machine_tick_turn}
-use Rattle.safe_machine.specs.Turns.{units_confirmed, heartbeat_turn}
+use Rattle.safe_machine.specs.Turns.{answer_ahead_turn, answer_early_turn, answer_next_turn, request_turn, both_confirmed, decision_turn, response_turn, count_pdu, guard_turn as machine_guard_turn, handed_units, leave_turn as machine_leave_turn}
+use Rattle.safe_machine.specs.Turns.{move_past, reply_turn, mark_answered, resend_turn, sending_turn, send_unit_turn, has_room, still as machine_still, take_unit_turn, tick_turn as machine_tick_turn}
+use Rattle.safe_machine.specs.Turns.{units_confirmed}
 use Rattle.safe_machine.specs.declared.ConnectionState.{ConnectionState}
 use Rattle.safe_machine.specs.declared.ConnectionState.TheVariants.{Closed, Down, RetrReq as Requesting, RetrRun, Start, Up}
 use Rattle.safe_machine.specs.retrans.Units.{octets_of}
@@ -25,8 +25,8 @@ use Rattle.safe_pdu.specs.declared.reasons.Detail.{Detail}
 use Rattle.safe_pdu.specs.declared.reasons.Detail.TheVariants.{Limit, Unspecified}
 use Rattle.safe_pdu.specs.declared.reasons.Reason.{Reason}
 use Rattle.safe_pdu.specs.declared.reasons.Reason.TheVariants.{ProtocolError, Timeout, UnexpectedPdu}
-use Rattle.stack_end.specs.Timely.{IsTimely, t_max_of, TimelyLaw, TurnTimely}
-use Rattle.stack_end.specs.Turns.{arrival_turn, closing_departure, departure_turn, time_turn, tick_turn}
+use Rattle.stack_end.specs.Timely.{t_max_of, TimelyLaw, TurnTimely}
+use Rattle.stack_end.specs.Turns.{arrival_turn, time_turn, tick_turn}
 use Rattle.stack_end.proofs.Deliveries.{guards-none, part-taken, sends-none, ticks-none}
 
 -- one machine after another: T_max stays, and what was less than T_max old at this time still is

@@ -20,7 +20,7 @@ use Rattle.red_layer.specs.Redundancy.{deadline_of, is_due}
 use Rattle.safe_machine.proofs.one.StepLemmas.{made_law_holds}
 use Rattle.safe_machine.proofs.one.SameSettings.{settings_law_holds}
 use Rattle.safe_machine.proofs.one.Runs.{ring_of-units}
-use Rattle.safe_machine.proofs.one.TurnSteps.{octets_law_holds, tells_law_holds as machine_tells, tells_law_holds as machine_tells_hold}
+use Rattle.safe_machine.proofs.one.TurnSteps.{octets_law_holds, tells_law_holds as machine_tells}
 use Rattle.safe_machine.proofs.one.TurnSteps.{turns_law_holds as machine_turns}
 use Rattle.safe_machine.specs.Made.{opening_body}
 use Rattle.safe_machine.specs.Moves.{Move, move}
@@ -28,7 +28,7 @@ use Rattle.safe_machine.specs.Moves.Move.{Guards, Leaves, Sends, Ticks}
 use Rattle.safe_machine.specs.Octets.{arrive_octets, move_of as heard_move, decoded_answer, seen_by}
 use Rattle.safe_machine.specs.declared.Step.{Step as Outcome}
 use Rattle.safe_machine.specs.State.{State, unconfirmed}
-use Rattle.safe_machine.specs.Step.{may_send, send, tick}
+use Rattle.safe_machine.specs.Step.{send, tick}
 use Rattle.safe_machine.specs.TurnLaws.{MaySend, turn as machine_move, LeadsByTurn as MachineTurned}
 use Rattle.safe_machine.specs.Turns.{sending_turn, still, Turn, new_view}
 use Rattle.safe_machine.specs.View.{StandsFor}
@@ -42,7 +42,7 @@ use Rattle.stack_end.specs.Datagrams.{upper_of}
 use Rattle.stack_end.specs.Deadlines.{earliest}
 use Rattle.stack_end.specs.EndValue.{EndTakesTurn, EndValue}
 use Rattle.stack_end.proofs.Effects.{handed_up, leaves as end_leave_turn, moved, packed, sends as end_send_turn, settle, with_machine, with_session}
-use Rattle.stack_end.proofs.TurnSteps.{can_pack-is, closed-is, finished-is, guarded-is, heard_alone, noted_from, packed-is, part-is, queued-is, rises_from, ticked-is}
+use Rattle.stack_end.proofs.TurnSteps.{closed-is, finished-is, guarded-is, heard_alone, noted_from, packed-is, part-is, queued-is, rises_from, ticked-is}
 use Rattle.stack_end.specs.Ends.{Call, Close, EndState, InitDone, is_shut, Put, Tick, time_of}
 use Rattle.stack_end.specs.Steps.{by_steps, guard_step, kept_of as fields_kept, part_step as end_part, parts_step as end_parts, input_step as end_input_turn, step, tick_step}
 use Rattle.stack_end.specs.Steps.{whole_way, with_input}
@@ -51,10 +51,10 @@ use Rattle.stack_end.specs.Departures.{known_departure}
 use Rattle.stack_end.specs.Statistics.{no_made_counts, with_kind, with_made, with_step}
 use Rattle.stack_end.specs.declared.statistics.MadeCounts.{MadeCounts}
 use Rattle.stack_end.specs.declared.statistics.PartCounts.{PartCounts}
-use Rattle.stack_end.specs.declared.statistics.ReceptionCounts.{ReceptionCounts}
+use Rattle.stack_end.specs.declared.statistics.DatagramCounts.{DatagramCounts}
 use Rattle.stack_end.specs.TurnLaws.{AnyChannelLaw, GrowsBy, LastLaw, DeterminesLaw, LeadsByTurn, TurnsLaw}
 use Rattle.stack_end.specs.Departures.{own_departure}
-use Rattle.stack_end.specs.Turns.{call_by, close_turn, closing_departure, count_turn, departure_turn, finish_turn, input_and_send_by, pack_by, queue_turn, still as end_still, Turn as EndTurn}
+use Rattle.stack_end.specs.Turns.{call_by, close_turn, closing_departure, count_turn, departure_turn, input_and_send_by, pack_by, queue_turn, still as end_still, Turn as EndTurn}
 use Rattle.stack_end.specs.Turns.{waiting_time, with_units}
 use Rattle.stack_end.specs.declared.departure.Departure.{Departure}
 use Rattle.safe_machine.specs.Deadlines.{overdue}
@@ -821,7 +821,7 @@ any_channel_law_holds channel other octets now v = refl
 
 -- a turn of the layers of an end is its turn
 pub layers-turn : {C A T : Type 0} (told : C → ChannelHistory) (takes : T → Item → T → Type 0) (next : Inside → EndTurn Inside) (l m : Layers C A) (time now : ℕ)
-    (r s : List ReceptionCounts) (v : EndValue C A) (t u : T) → record { layers = l; time = time; receptions = r } ≡ v → LayersTakeTurn told takes next l t m u
+    (r s : DatagramCounts) (v : EndValue C A) (t u : T) → record { layers = l; time = time; receptions = r } ≡ v → LayersTakeTurn told takes next l t m u
     → EndTakesTurn told takes next v t (record { layers = m; time = now; receptions = s }) u
 layers-turn {C} {A} told takes next l m time now r s v t u e h =
     let w : EndValue C A = record { layers = m; time = now; receptions = s } in

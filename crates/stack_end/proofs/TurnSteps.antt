@@ -1,5 +1,5 @@
 -- A step of a history is the changes of `Effects`: the state that follows a turn, step by step.
-use Rattle.stack_end.proofs.Words.{[], added_by, ap, append-nil, append_assoc, after, arith, Arrives, Bool, ClosedByUser, Closes, comes_up, Completes, ConnectionState}
+use Rattle.stack_end.proofs.Words.{[], added_by, ap, append-nil, append_assoc, after, Arrives, Bool, ClosedByUser, Closes, comes_up, Completes, ConnectionState}
 use Rattle.stack_end.proofs.Words.{dialogue_of, Dialogue, drop, Err, Event, false, Fields, turn_then, up_turn, judge_turn, octets_units, if◌then◌else◌, is_closed, is_none, judge_messages}
 use Rattle.stack_end.proofs.Words.{judge_read, judge_units, judge_unpacked, Judgement, judge_part, leave_turn, Leaving, length, List, machine_octets_turn, machine_turn, MachineTurn, process_event, None}
 use Rattle.stack_end.proofs.Words.{request_after, note_request_turn, Ok, Option, PackFault, pack_turn, Puts, refl, Result, bring_up, session_in, session_turn, end_session_turn, Some, still, subst, sym, take, taken_by}
@@ -11,21 +11,20 @@ use Rattle.safe_machine.proofs.one.TurnSteps.{octets_law_holds, tells_law_holds 
 use Rattle.safe_machine.specs.Moves.{Move, move}
 use Rattle.safe_machine.specs.Moves.Move.{Guards, Leaves, Sends, Ticks}
 use Rattle.safe_machine.specs.Octets.{arrive_octets, decoded_answer}
-use Rattle.safe_machine.specs.Step.{history, may_send, send}
+use Rattle.safe_machine.specs.Step.{history, may_send}
 use Rattle.safe_machine.specs.State.{State}
 use Rattle.safe_machine.specs.TurnLaws.{MaySend, turn as machine_move, LeadsByTurn as MachineTurned}
-use Rattle.safe_machine.specs.Turns.{send_turn as machine_send_turn}
 use Rattle.safe_machine.specs.View.{StandsFor}
 use Rattle.safe_machine.specs.World.{is_joining}
 use Rattle.safe_machine.specs.Deadlines.{overdue}
 use Rattle.safe_machine.specs.declared.Step.{Step as Outcome}
 use Rattle.safe_pdu.specs.Places.{safe_seen}
-use Rattle.stack_end.proofs.Effects.{answered, handed_up, heard, leaves as end_leave_turn, moved, packed, put_done, put_in, settle, with_machine, with_session}
+use Rattle.stack_end.proofs.Effects.{handed_up, heard, leaves as end_leave_turn, moved, packed, put_done, put_in, settle, with_machine, with_session}
 use Rattle.stack_end.specs.Departures.{known_departure, own_departure}
 use Rattle.stack_end.specs.Ends.{EndState, is_shut}
 use Rattle.stack_end.specs.Statistics.{with_step}
 use Rattle.stack_end.specs.Steps.{add_histories, follow, guard_step, join_histories, kept_of as fields_kept, part_step as part_step, step, tick_step}
-use Rattle.stack_end.specs.Turns.{count_accepted, close_turn, closing_departure, count_turn, departure_turn, finish_turn, guard_turn, part_turn, queue_turn, tick_turn, waiting_time, with_units}
+use Rattle.stack_end.specs.Turns.{count_accepted, close_turn, closing_departure, count_turn, departure_turn, finish_turn, queue_turn, waiting_time, with_units}
 use Rattle.stack_end.specs.declared.departure.Departure.{Departure}
 use Rattle.std.proofs.Math.Seq.{drop-append_seam}
 use Rattle.std.specs.Prelude.{◌-◌}

@@ -1,9 +1,9 @@
 -- What contracts see of an end: its value, the state that it represents, and what a call of it does.
-use Rattle.std.specs.Prelude.{◌≡◌, ◌-◌, ℕ, List, length}
+use Rattle.std.specs.Prelude.{◌≡◌, ◌-◌, ℕ, length}
 use Rattle.pdi_session.specs.SessionStep.{Item}
 use Rattle.channels.specs.ChannelHistory.{ChannelHistory}
 use Rattle.stack_end.specs.declared.layers.Layers.{Layers}
-use Rattle.stack_end.specs.declared.statistics.ReceptionCounts.{ReceptionCounts}
+use Rattle.stack_end.specs.declared.statistics.DatagramCounts.{DatagramCounts}
 use Rattle.stack_end.specs.declared.statistics.Statistics.{Statistics}
 use Rattle.stack_end.specs.Ends.{EndState}
 use Rattle.stack_end.specs.Fields.{LayersRepresent, inside_of}
@@ -13,7 +13,7 @@ use Rattle.stack_end.specs.Turns.{Inside, Turn, CarriesOut, CarriesOutAlone}
 pub record EndValue (C A : Type 0) : Type 0 where
   pub layers : Layers C A  -- the layers of the end, with its channels
   pub time : ℕ  -- of the last accepted call, in milliseconds
-  pub receptions : List ReceptionCounts  -- the datagrams that came, counted by channel
+  pub receptions : DatagramCounts  -- what was counted of the datagrams that came
 
 -- the channels of an end
 abbrev pub channels_of : {C A : Type 0} → EndValue C A → C
@@ -27,7 +27,13 @@ inside v = inside_of v.layers
 abbrev pub statistics_of : {C A : Type 0} → EndValue C A → Statistics
 statistics_of v =
     let u = (inside v).upper in
-    record { channels = v.receptions; parts = u.parts; made = u.made; confirmed = u.made.units - length u.machine.ring }
+    record {
+      channels = v.receptions.channels;
+      expired_deferrals = v.receptions.expired_deferrals;
+      parts = u.parts;
+      made = u.made;
+      confirmed = u.made.units - length u.machine.ring;
+    }
 
 -- a call takes this turn: the end changes by it, its datagrams are sent or counted as failed, and the taker gets what it delivers
 abbrev pub EndTakesTurn : {C A T : Type 0} → (C → ChannelHistory) → (T → Item → T → Type 0) → (Inside → Turn Inside) → EndValue C A → T → EndValue C A → T → Type 0

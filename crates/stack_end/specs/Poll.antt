@@ -7,8 +7,9 @@ use Rattle.channels.specs.declared.ChannelFault.{ChannelFault}
 use Rattle.octets.specs.declared.limits.TheConstants.{RED_PDU_MAX}
 use Rattle.stack_end.specs.Recent.{DatagramRecent, TickRecent}
 use Rattle.stack_end.specs.EndValue.{EndTakesTurn, EndValue, channels_of, inside}
-use Rattle.stack_end.specs.Statistics.{count_reception}
-use Rattle.stack_end.specs.Turns.{arrival_turn, event_of, time_turn}
+use Rattle.stack_end.specs.Statistics.{count_datagram, count_expired}
+use Rattle.stack_end.specs.Turns.{arrival_turn, event_of, tick_expires_deferral, time_turn}
+use Rattle.red_layer.specs.Redundancy.{is_due}
 
 -- the length in bytes of the buffer of a poll: a longer datagram is cut
 abbrev pub buffer_size : ℕ
@@ -36,7 +37,7 @@ abbrev pub ProcessesDatagram : {C A T : Type 0} → (C → ChannelHistory) → (
 ProcessesDatagram {C = C} {A = A} told takes now s d t =
     (size : ℕ) × (buffer : List ℕ) × (asked : EndValue C A)
     × (take size buffer ≡ d.1) × RequestsDatagram told (Ok (Some (d.0, size))) buffer s.0 asked × EndTakesTurn told takes (arrival_turn now d.1) asked s.1 t.0 t.1
-    × (t.0.time ≡ now) × (t.0.receptions ≡ count_reception d.0 (event_of now d.1 (inside asked)) now asked.receptions)
+    × (t.0.time ≡ now) × (t.0.receptions ≡ count_datagram d.0 (event_of now d.1 (inside asked)) (is_due now (inside asked).red) now asked.receptions)
     × DatagramRecent takes now d.1 (inside asked) s.1 t.1
 
 -- one request to the channels had this result, and the taker got nothing
@@ -64,4 +65,4 @@ ProcessesUntilFault {C = C} {A = A} {T = T} told takes most now s t =
 abbrev pub IsPoll : {C A T : Type 0} → (C → ChannelHistory) → (T → Item → T → Type 0) → (most now : ℕ) → With C A T → With C A T → Type 0
 IsPoll {C = C} {A = A} {T = T} told takes most now s t =
     (left : With C A T) × ProcessesAll told takes most now s left × EndTakesTurn told takes (time_turn now) left.0 left.1 t.0 t.1
-    × (t.0.time ≡ now) × (t.0.receptions ≡ left.0.receptions) × TickRecent takes now (inside left.0) left.1 t.1
+    × (t.0.time ≡ now) × (t.0.receptions ≡ count_expired (tick_expires_deferral now (inside left.0)) left.0.receptions) × TickRecent takes now (inside left.0) left.1 t.1

@@ -11,7 +11,7 @@ use Rattle.pdi_session.specs.declared.PutFault.{PutFault}
 use Rattle.pdi_session.specs.Histories.{History}
 use Rattle.pdi_session.specs.SessionStep.{Closes, InitDone as Completes, Item, Puts, SessionState, Up as GoesUp, init_refusal, put_refusal}
 use Rattle.red_layer.specs.Parts.{Part, is_nil}
-use Rattle.red_layer.specs.Redundancy.{Datagram, Input, Receiver, Tick as RedTick, after, judge as red_judged, parts_passed}
+use Rattle.red_layer.specs.Redundancy.{Datagram, Input, Receiver, Tick as RedTick, after, is_due, judge as red_judged, parts_passed}
 use Rattle.red_layer.specs.declared.RedEvent.{RedEvent}
 use Rattle.red_layer.specs.pdu.RedText.{red_text}
 use Rattle.safe_pdu.specs.declared.CodeRule.{CodeRule}
@@ -394,3 +394,11 @@ event_of now octets v = if is_over v then None else red_event now octets (upper_
 -- time passes
 abbrev pub time_turn : ℕ → Inside → Turn Inside
 time_turn now v = first_by kept_way (tick_turn now) now (RedTick now) v
+
+-- T_seq has passed for deferred parts of an open end, so the redundancy layer gives up what is missing before them
+abbrev pub expires_deferral : (now : ℕ) → Inside → Bool
+expires_deferral now v = if is_over v then false else is_due now v.red
+
+-- the same at a tick, after the machine's timers, which may close the end
+abbrev pub tick_expires_deferral : (now : ℕ) → Inside → Bool
+tick_expires_deferral now v = if is_over v then false else expires_deferral now (upper_turn (tick_turn now) v).left

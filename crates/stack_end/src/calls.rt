@@ -3,15 +3,15 @@
 
 ghost use Rattle.std.specs.Prelude.{◌≡◌, ◌≤◌, ◌^◌, false, Some, None, OnOk, OnErr, MatchResult};
 ghost use Rattle.octets.specs.declared.limits.TheConstants.{TIME_MAX};
+ghost use Rattle.red_layer.specs.Redundancy.{is_due};
 ghost use Rattle.stack_end.specs.EndValue.{EndTakesTurn, EndTakesTurnAlone, inside};
 ghost use Rattle.stack_end.specs.Outstanding.{PutOut};
 ghost use Rattle.stack_end.specs.Reception.{HasProcessed, TakesPart};
 ghost use Rattle.stack_end.specs.Recent.{DatagramRecent};
-ghost use Rattle.stack_end.specs.Statistics.{count_reception};
+ghost use Rattle.stack_end.specs.Statistics.{count_datagram};
 ghost use Rattle.stack_end.specs.Turns.{upper_turn, arrival_turn, can_pack, event_of, put_answer, put_turn};
 
 use crate::End;
-use crate::statistics::count_reception;
 use channels::Channels;
 use octets::Milliseconds;
 use pdi_session::{MessageType, PutFault, Taker};
@@ -42,11 +42,13 @@ impl<C: Channels, A: Allocator> End<C, A> {
         ensures passes { TakesPart T.takes now octets.now (inside self.old) taker.old taker.new }
         // The time of the end becomes that of the datagram.
         ensures time { self.new.time ≡ now }
-        // What came is counted at its channel with the redundancy layer's event.
-        ensures received { self.new.receptions ≡ count_reception channel (event_of now octets.now (inside self.old)) now self.old.receptions }
+        // What came is counted at its channel with the redundancy layer's event, and a deferral deadline that passed
+        // before it is counted.
+        ensures received { self.new.receptions ≡ count_datagram channel (event_of now octets.now (inside self.old)) (is_due now (inside self.old).red) now self.old.receptions }
     {
+        let due = self.layers.is_due(now);
         let event = self.layers.arrive(octets, now, taker);
-        count_reception(&mut self.receptions, channel, event, now);
+        self.receptions.count_datagram(channel, event, due, now);
         self.time = now;
     }
 

@@ -10,16 +10,17 @@ ghost use Rattle.end_settings.specs.ConfigValue.{settings_of, side_of};
 ghost use Rattle.stack_end.specs.Ends.{opened_end};
 ghost use Rattle.stack_end.specs.Datagrams.{sent_at_opening};
 ghost use Rattle.stack_end.specs.EndValue.{EndRepresents, EndTakesTurn, EndTakesTurnAlone, channels_of, inside, statistics_of};
-ghost use Rattle.stack_end.specs.Turns.{upper_turn, arrival_turn, can_pack, close_turn, init_done_turn, init_answer, is_over, event_of, is_settled, time_turn, put_answer, put_turn};
+ghost use Rattle.stack_end.specs.Turns.{upper_turn, arrival_turn, can_pack, close_turn, init_done_turn, init_answer, is_over, event_of, is_settled, tick_expires_deferral, time_turn, put_answer, put_turn};
 ghost use Rattle.stack_end.specs.Outstanding.{PutOut};
 ghost use Rattle.stack_end.specs.Reception.{HasProcessed, TakesPart};
 ghost use Rattle.stack_end.specs.Recent.{DatagramRecent, TickRecent};
+ghost use Rattle.red_layer.specs.Redundancy.{is_due};
 ghost use Rattle.stack_end.specs.Bounds.{IsBounded};
 ghost use Rattle.stack_end.specs.Certain.{confirmed_in};
 ghost use Rattle.stack_end.specs.Stale.{is_stale};
 ghost use Rattle.stack_end.specs.Timely.{margin_of};
 ghost use Rattle.stack_end.specs.Reopening.{reopening_turn};
-ghost use Rattle.stack_end.specs.Statistics.{no_reception_counts, count_reception};
+ghost use Rattle.stack_end.specs.Statistics.{no_datagram_counts, count_datagram, count_expired};
 ghost use Rattle.octets.specs.declared.limits.TheConstants.{CHANNELS_MAX, TIME_MAX};
 ghost use Rattle.safe_machine.specs.Deadlines.{IsBefore, IsReachedAt};
 ghost use Rattle.stack_end.specs.Deadlines.{HasFallen, IsQuiet, earliest};
@@ -28,12 +29,11 @@ ghost use Rattle.stack_end.specs.declared.OpenFault.TheVariants.{BadConfig};
 
 use crate::departure::Departure;
 use crate::layers::Layers;
-use crate::statistics::{ReceptionCounts, Statistics};
+use crate::statistics::{DatagramCounts, Statistics};
 use crate::{OpenFault, POLL_BUFFER, POLL_DATAGRAMS, PollFault, opening};
 use channels::{ChannelFault, Channels};
 use end_settings::{EndConfig, Side};
 use octets::Milliseconds;
-use octets::limits::CHANNELS_MAX;
 use pdi_session::{InitFault, MessageType, Phase, PutFault, Taker};
 use safe_machine::ConnectionState;
 use std::alloc::{Allocator, Global};
@@ -53,8 +53,8 @@ pub struct End<C, A: Allocator = Global> {
     pub(crate) layers: Layers<C, A>,
     /// The time of the last call, in milliseconds.
     pub(crate) time: Milliseconds,
-    /// The counts of what came, by channel.
-    pub(crate) receptions: [ReceptionCounts; CHANNELS_MAX],
+    /// The counts of what came.
+    pub(crate) receptions: DatagramCounts,
 }
 
 impl<C, A: Allocator> Model for End<C, A> {
@@ -102,13 +102,13 @@ impl<C: Channels, A: Allocator + Copy> End<C, A> {
         ensures sent { IfOk result (λ end. FoldsTo SendsOne (C.told channels)
             (sent_at_opening (opened_end side config first_sn now)) (C.told (channels_of end))) }
         // Nothing has come on any channel.
-        ensures received { IfOk result (λ end. end.receptions ≡ replicate CHANNELS_MAX no_reception_counts) }
+        ensures received { IfOk result (λ end. end.receptions ≡ no_datagram_counts) }
     {
         match opening::open(alloc, channels, config, side, first_sn, now) {
             Ok(layers) => Ok(End {
                 layers,
                 time: now,
-                receptions: [ReceptionCounts::none(); CHANNELS_MAX],
+                receptions: DatagramCounts::none(),
             }),
             Err(refused) => Err(refused),
         }
@@ -148,8 +148,9 @@ impl<C: Channels, A: Allocator> End<C, A> {
         // If the datagram releases exactly one part, the taker receives everything that the session accepts
         // from that part's unit, and nothing else.
         ensures passes { TakesPart T.takes now octets.now (inside self.old) taker.old taker.new }
-        // The datagram is counted at its channel, by what the redundancy layer did with it.
-        ensures received { self.new.receptions ≡ count_reception channel (event_of now octets.now (inside self.old)) now self.old.receptions }
+        // The datagram is counted at its channel, by what the redundancy layer did with it. If T_seq had passed for
+        // parts deferred before it, that is counted too.
+        ensures received { self.new.receptions ≡ count_datagram channel (event_of now octets.now (inside self.old)) (is_due now (inside self.old).red) now self.old.receptions }
         // `arrive` sets the end's time to `now`.
         ensures time { self.new.time ≡ now }
     {
@@ -175,10 +176,12 @@ impl<C: Channels, A: Allocator> End<C, A> {
         ensures recent { TickRecent T.takes now (inside self.old) taker.old taker.new }
         // `tick` sets the end's time to `now`.
         ensures time { self.new.time ≡ now }
-        // `tick` counts no datagram.
-        ensures received { self.new.receptions ≡ self.old.receptions }
+        // `tick` counts no datagram. If T_seq has passed for deferred parts, and the machine's timers leave the end open,
+        // that is counted.
+        ensures received { self.new.receptions ≡ count_expired (tick_expires_deferral now (inside self.old)) self.old.receptions }
     {
-        self.layers.tick(now, taker);
+        let expired = self.layers.tick(now, taker);
+        self.receptions.count_expired(expired);
         self.time = now;
     }
 
@@ -289,10 +292,10 @@ impl<C: Channels, A: Allocator> End<C, A> {
         // `reopen` sets the end's time to `now`.
         ensures time { self.new.time ≡ now }
         // Nothing has come on any channel since.
-        ensures received { self.new.receptions ≡ replicate CHANNELS_MAX no_reception_counts }
+        ensures received { self.new.receptions ≡ no_datagram_counts }
     {
         self.layers.reopen(first_sn, now);
-        self.receptions = [ReceptionCounts::none(); CHANNELS_MAX];
+        self.receptions = DatagramCounts::none();
         self.time = now;
     }
 
@@ -532,7 +535,8 @@ impl<C: Channels, A: Allocator> End<C, A> {
         let upper = &self.layers.upper;
         let unconfirmed = upper.machine.unconfirmed();
         Statistics {
-            channels: self.receptions,
+            channels: self.receptions.channels,
+            expired_deferrals: self.receptions.expired_deferrals,
             parts: upper.parts,
             made: upper.made,
             confirmed: upper.made.units.saturating_sub(unconfirmed as u64),

@@ -3,11 +3,11 @@
 ghost use Rattle.std.specs.Prelude.{◌≡◌, ◌≤◌, ◌^◌, length, Some, None, MatchResult, OnOk, OnErr};
 ghost use Rattle.octets.specs.declared.limits.TheConstants.{TIME_MAX};
 ghost use Rattle.pdi_session.specs.SessionStep.{init_refusal, put_refusal};
-ghost use Rattle.red_layer.specs.Redundancy.{Datagram, Tick as RedTick};
+ghost use Rattle.red_layer.specs.Redundancy.{Datagram, Tick as RedTick, is_due};
 ghost use Rattle.stack_end.specs.Fields.{LayersTakeTurn, LayersTakeTurnAlone, inside_of};
 ghost use Rattle.stack_end.specs.LayerBounds.{KeepsLayerBounds};
 ghost use Rattle.stack_end.specs.Reopening.{reopening_turn};
-ghost use Rattle.stack_end.specs.Turns.{upper_turn, arrival_turn, close_turn, init_done_turn, event_of, input_and_send_turn, time_turn, put_turn, red_event};
+ghost use Rattle.stack_end.specs.Turns.{upper_turn, arrival_turn, close_turn, init_done_turn, event_of, expires_deferral, input_and_send_turn, tick_expires_deferral, time_turn, put_turn, red_event};
 
 use crate::notes::{tell_change, tell_opened};
 use crate::upper::UpperLayers;
@@ -86,10 +86,24 @@ impl<C: Channels, A: Allocator> Layers<C, A> {
         }
     }
 
-    /// Lets time pass: the timers of the machine, and if they leave the end open, that of the redundancy layer.
-    pub(crate) fn tick<T: Taker>(&mut self, now: Milliseconds, taker: &mut T)
+    /// Returns whether parts are deferred and T_seq has passed for them.
+    pub(crate) fn is_due(&self, now: Milliseconds) -> bool
+        // The result is true if and only if parts are deferred and their deadline is `now` or earlier.
+        ensures { result ≡ is_due now self.now.red }
+    {
+        match self.red.deadline() {
+            Some(deadline) => deadline <= now,
+            None => false,
+        }
+    }
+
+    /// Lets time pass: the timers of the machine, and if they leave the end open, that of the redundancy layer. Returns
+    /// whether T_seq had passed for deferred parts.
+    pub(crate) fn tick<T: Taker>(&mut self, now: Milliseconds, taker: &mut T) -> bool
         requires now { now ≤ TIME_MAX }
         requires kept { KeepsLayerBounds self.old }
+        // The result is true if and only if the machine's timers leave the end open and T_seq has passed for deferred parts.
+        ensures expired { result ≡ tick_expires_deferral now (inside_of self.old) }
         // The machine's timers come first. If the end is open then, the T_seq timer follows, with the parts that it
         // releases, and then waiting messages are sent.
         ensures does { LayersTakeTurn C.told T.takes (time_turn now) self.old taker.old self.new taker.new }
@@ -97,22 +111,24 @@ impl<C: Channels, A: Allocator> Layers<C, A> {
         ensures kept { KeepsLayerBounds self.new }
     {
         match self.upper.machine.state() {
-            ConnectionState::Closed => {}
+            ConnectionState::Closed => false,
             _ => {
                 let seen = self.upper.seen();
                 self.upper.tick(now);
                 let after = self.upper.seen();
                 tell_change(&mut self.upper.channels, seen, after);
-                self.wait(now, taker);
+                self.wait(now, taker)
             }
         }
     }
 
     /// Tries the timer of the redundancy layer after those of the machine, then sends waiting messages. Does nothing
-    /// if the end is closed.
-    fn wait<T: Taker>(&mut self, now: Milliseconds, taker: &mut T)
+    /// if the end is closed. Returns whether T_seq had passed for deferred parts.
+    fn wait<T: Taker>(&mut self, now: Milliseconds, taker: &mut T) -> bool
         requires now { now ≤ TIME_MAX }
         requires kept { KeepsLayerBounds self.old }
+        // The result is true if and only if the end is open and T_seq has passed for deferred parts.
+        ensures expired { result ≡ expires_deferral now (inside_of self.old) }
         // If the end is open, the redundancy layer tries its timer, each part that it releases goes up, and waiting
         // messages are sent.
         ensures does { LayersTakeTurn C.told T.takes (input_and_send_turn now (RedTick now)) self.old taker.old self.new taker.new }
@@ -120,10 +136,12 @@ impl<C: Channels, A: Allocator> Layers<C, A> {
         ensures kept { KeepsLayerBounds self.new }
     {
         match self.upper.machine.state() {
-            ConnectionState::Closed => {}
+            ConnectionState::Closed => false,
             _ => {
+                let expired = self.is_due(now);
                 self.upper.pass_time(&mut self.red, now, taker);
                 self.upper.send_waiting(now);
+                expired
             }
         }
     }

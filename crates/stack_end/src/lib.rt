@@ -18,7 +18,9 @@ mod upper;
 pub use departure::{Departure, Leaver};
 pub use end::End;
 pub use law::{end_law, stale_law, timely_law};
-pub use statistics::{MadeCounts, PartCounts, ReceptionCounts, Statistics};
+pub use statistics::{
+    MadeCounts, PartCounts, ReceptionCounts, RedFaultCounts, SafeFaultCounts, Statistics,
+};
 
 /// The length in bytes of the buffer into which a poll receives; a longer datagram is cut.
 pub const POLL_BUFFER: usize = 2_048;

@@ -7,8 +7,9 @@ use crate::departure::number_at;
 use octets::Milliseconds;
 use octets::limits::CHANNELS_MAX;
 use red_layer::RedEvent;
+use red_layer::pdu::RedFault;
 use safe_machine::{DropCause, Step};
-use safe_pdu::Kind;
+use safe_pdu::{Kind, SafeFault};
 
 /// The place of the type in a safety PDU: after its length.
 const KIND: usize = 2;
@@ -78,6 +79,63 @@ impl MadeCounts {
     }
 }
 
+/// The parts that went up and are no safety PDU with a valid safety code, by fault; each count is modulo 2^64.
+#[derive(Clone, Copy, Debug, PartialEq, Eq)]
+pub struct SafeFaultCounts {
+    /// Those with fewer bytes than a header and the safety code need.
+    pub short: u64,
+    /// Those whose length field differs from the number of bytes, or that are too long.
+    pub length: u64,
+    /// Those whose safety code is not that of their bytes.
+    pub code: u64,
+    /// Those whose PDU type is not one of the eight.
+    pub bad_type: u64,
+    /// Those whose body does not fit the PDU type.
+    pub body: u64,
+}
+
+impl SafeFaultCounts {
+    /// Returns the counts of an end to which no such part has gone up.
+    pub fn none() -> Self
+        // Every count is 0.
+        ensures { result ≡ statistics.no_safe_faults }
+    {
+        SafeFaultCounts {
+            short: 0,
+            length: 0,
+            code: 0,
+            bad_type: 0,
+            body: 0,
+        }
+    }
+
+    /// Returns how many there are of all faults, modulo 2^64.
+    pub fn total(self) -> u64
+        // The result is the sum of the five counts, modulo 2^64.
+        ensures { result ≡ statistics.all_safe_faults self }
+    {
+        self.short
+            .wrapping_add(self.length)
+            .wrapping_add(self.code)
+            .wrapping_add(self.bad_type)
+            .wrapping_add(self.body)
+    }
+
+    /// Counts a fault.
+    fn count_fault(&mut self, fault: SafeFault)
+        // The count of this fault grows by 1, modulo 2^64; the others stay.
+        ensures { self.new ≡ statistics.with_safe_fault fault self.old }
+    {
+        match fault {
+            SafeFault::Short => self.short = self.short.wrapping_add(1),
+            SafeFault::Length => self.length = self.length.wrapping_add(1),
+            SafeFault::Code => self.code = self.code.wrapping_add(1),
+            SafeFault::BadType => self.bad_type = self.bad_type.wrapping_add(1),
+            SafeFault::Body => self.body = self.body.wrapping_add(1),
+        }
+    }
+}
+
 /// The parts that have gone up to the safety machine since the opening, by what it did with them; each count is modulo
 /// 2^64. A part that ends the connection, or comes to a closed end, is not counted.
 #[derive(Clone, Copy, Debug, PartialEq, Eq)]
@@ -86,8 +144,8 @@ pub struct PartCounts {
     pub taken: u64,
     /// PDUs that revealed a gap, so that a retransmission was requested.
     pub gaps: u64,
-    /// Dropped: no safety PDU with a valid safety code.
-    pub damaged: u64,
+    /// Dropped: no safety PDU with a valid safety code, by fault.
+    pub damaged: SafeFaultCounts,
     /// Dropped: of another receiver or sender.
     pub strangers: u64,
     /// Dropped: no ConnReq, while the end waits for one.
@@ -116,7 +174,7 @@ impl PartCounts {
         PartCounts {
             taken: 0,
             gaps: 0,
-            damaged: 0,
+            damaged: SafeFaultCounts::none(),
             strangers: 0,
             unopened: 0,
             far: 0,
@@ -164,13 +222,60 @@ impl PartCounts {
         ensures { self.new ≡ statistics.with_dropped cause self.old }
     {
         match cause {
-            DropCause::Fault(_) => self.damaged = self.damaged.wrapping_add(1),
+            DropCause::Fault(fault) => self.damaged.count_fault(fault),
             DropCause::Stranger => self.strangers = self.strangers.wrapping_add(1),
             DropCause::NotOpened => self.unopened = self.unopened.wrapping_add(1),
             DropCause::Number => self.far = self.far.wrapping_add(1),
             DropCause::Request => self.unrequested = self.unrequested.wrapping_add(1),
             DropCause::Answered => self.answered = self.answered.wrapping_add(1),
             DropCause::Below => self.below = self.below.wrapping_add(1),
+        }
+    }
+}
+
+/// The datagrams of a channel that are no redundancy PDU, by fault; each count is modulo 2^64.
+#[derive(Clone, Copy, Debug, PartialEq, Eq)]
+pub struct RedFaultCounts {
+    /// Those with fewer bytes than a header.
+    pub short: u64,
+    /// Those whose length field differs from the number of bytes, or that are too long.
+    pub length: u64,
+    /// Those whose reserve is not zero.
+    pub reserve: u64,
+}
+
+impl RedFaultCounts {
+    /// Returns the counts of a channel on which no such datagram has come.
+    pub fn none() -> Self
+        // Every count is 0.
+        ensures { result ≡ statistics.no_red_faults }
+    {
+        RedFaultCounts {
+            short: 0,
+            length: 0,
+            reserve: 0,
+        }
+    }
+
+    /// Returns how many there are of all faults, modulo 2^64.
+    pub fn total(self) -> u64
+        // The result is the sum of the three counts, modulo 2^64.
+        ensures { result ≡ statistics.all_red_faults self }
+    {
+        self.short
+            .wrapping_add(self.length)
+            .wrapping_add(self.reserve)
+    }
+
+    /// Counts a fault.
+    fn count_fault(&mut self, fault: RedFault)
+        // The count of this fault grows by 1, modulo 2^64; the others stay.
+        ensures { self.new ≡ statistics.with_red_fault fault self.old }
+    {
+        match fault {
+            RedFault::Short => self.short = self.short.wrapping_add(1),
+            RedFault::Length => self.length = self.length.wrapping_add(1),
+            RedFault::Reserve => self.reserve = self.reserve.wrapping_add(1),
         }
     }
 }
@@ -193,8 +298,8 @@ pub struct ReceptionCounts {
     pub far: u64,
     /// Those that came early while every place was taken.
     pub full: u64,
-    /// Those that are no redundancy PDU.
-    pub damaged: u64,
+    /// Those that are no redundancy PDU, by fault.
+    pub damaged: RedFaultCounts,
     /// The own time of the last redundancy PDU that was not too far ahead, in milliseconds, or `None` if none came.
     pub last: Option<Milliseconds>,
 }
@@ -213,7 +318,7 @@ impl ReceptionCounts {
             repeated: 0,
             far: 0,
             full: 0,
-            damaged: 0,
+            damaged: RedFaultCounts::none(),
             last: None,
         }
     }
@@ -265,7 +370,7 @@ impl ReceptionCounts {
             RedEvent::Again => self.repeated = self.repeated.wrapping_add(1),
             RedEvent::Far => self.far = self.far.wrapping_add(1),
             RedEvent::Full => self.full = self.full.wrapping_add(1),
-            RedEvent::Fault(_) => self.damaged = self.damaged.wrapping_add(1),
+            RedEvent::Fault(fault) => self.damaged.count_fault(fault),
         }
     }
 }
@@ -286,11 +391,62 @@ pub(crate) fn count_reception(
     channels[channel - 1].count_event(event, now);
 }
 
+/// What an end counts of the datagrams that come, since its opening.
+#[derive(Clone, Copy, Debug, PartialEq, Eq)]
+pub(crate) struct DatagramCounts {
+    /// The datagrams by channel, that of number 1 first.
+    pub(crate) channels: [ReceptionCounts; CHANNELS_MAX],
+    /// How often T_seq passed while parts were deferred, modulo 2^64.
+    pub(crate) expired_deferrals: u64,
+}
+
+impl DatagramCounts {
+    /// Returns the counts of an end to which nothing has come.
+    pub(crate) fn none() -> Self
+        // Every count is 0, and there is no time.
+        ensures { result ≡ statistics.no_datagram_counts }
+    {
+        DatagramCounts {
+            channels: [ReceptionCounts::none(); CHANNELS_MAX],
+            expired_deferrals: 0,
+        }
+    }
+
+    /// Counts a datagram of a channel, numbered from 1, that came at `now`, by the redundancy layer's event, which is
+    /// `None` at a closed end. `due` says whether T_seq had passed for parts deferred before it.
+    pub(crate) fn count_datagram(
+        &mut self,
+        channel: usize,
+        event: Option<RedEvent>,
+        due: bool,
+        now: Milliseconds,
+    )
+        // The datagram is counted at its channel. If the redundancy layer processed it and was due, one deadline more
+        // has passed. All else stays.
+        ensures { self.new ≡ statistics.count_datagram channel event due now self.old }
+    {
+        count_reception(&mut self.channels, channel, event, now);
+        self.count_expired(event.is_some() && due);
+    }
+
+    /// Counts a deferral deadline if it has passed.
+    pub(crate) fn count_expired(&mut self, expired: bool)
+        // If the deadline has passed, its count grows by 1, modulo 2^64. All else stays.
+        ensures { self.new ≡ statistics.count_expired expired self.old }
+    {
+        if expired {
+            self.expired_deferrals = self.expired_deferrals.wrapping_add(1);
+        }
+    }
+}
+
 /// All that an end counts of its own work since its opening.
 #[derive(Clone, Copy, Debug, PartialEq, Eq)]
 pub struct Statistics {
     /// The datagrams that came, by channel, that of number 1 first.
     pub channels: [ReceptionCounts; CHANNELS_MAX],
+    /// How often T_seq passed while parts were deferred, modulo 2^64: what was missing before them was given up.
+    pub expired_deferrals: u64,
     /// The parts that went up to the safety machine.
     pub parts: PartCounts,
     /// The PDUs made.

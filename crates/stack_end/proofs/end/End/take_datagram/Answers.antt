@@ -6,7 +6,7 @@ use Rattle.stack_end.proofs.end.End.take_datagram.Goals as goal
 
 pub returns-clause-turns : goal.returns-clause-turns
 returns-clause-turns g c =
-    layers-turn g.C.Channels.told g.T.Taker.takes (arrival_turn c.args.now c.args.octets.now) c.self.inside.layers c.arrive-event.new.self c.self.inside.time c.args.now c.self.inside.receptions c.count_reception.new.channels
+    layers-turn g.C.Channels.told g.T.Taker.takes (arrival_turn c.args.now c.args.octets.now) c.self.inside.layers c.arrive-event.new.self c.self.inside.time c.args.now c.self.inside.receptions c.count_datagram.new.self
     c.args.self.now c.args.taker.now c.arrive-event.new.taker c.self.view_is c.arrive-event.ensures.does
 
 pub returns-clause-packs : goal.returns-clause-packs

@@ -1,5 +1,5 @@
-use Rattle.stack_end.proofs.Words.{upper_turn, ap, Datagram, turn_then, input_and_send_turn, guard_turn, inside_of, ◌∙◌}
-use Rattle.stack_end.proofs.CallParts.{above-went, alone-told, open-event, open-went, went-alone, went-then}
+use Rattle.stack_end.proofs.Words.{upper_turn, ap, Datagram, turn_then, input_and_send_turn, guard_turn, inside_of, None, ◌∙◌}
+use Rattle.stack_end.proofs.CallParts.{above-went, alone-told, open-answer, open-went, went-alone, went-then}
 use Rattle.stack_end.specs.Turns.{red_event}
 use Rattle.stack_end.proofs.layers.Layers.arrive.Goals as goal
 
@@ -22,4 +22,4 @@ returns-in_default-clause-event g c =
     let v = inside_of c.args.self.now in
     c.deliver.ensures.event
     ∙ (ap (λ w. red_event now octets (record { red = v.red; upper = w })) c.guard.ensures.does.left
-    ∙ open-event v c.state.result _ c.state.ensures.state c.in_default.not-Closed)
+    ∙ open-answer None _ v c.state.result c.state.ensures.state c.in_default.not-Closed)

@@ -1,5 +1,5 @@
-use Rattle.stack_end.proofs.Words.{upper_turn, ap, Datagram, fields_of, turn_then, inside_of, input_turn, send_turn, Some, ◌∙◌}
-use Rattle.stack_end.proofs.CallParts.{above-went, open-event, open-went, receives-went, went-alone, went-then}
+use Rattle.stack_end.proofs.Words.{upper_turn, ap, Datagram, fields_of, turn_then, inside_of, input_turn, None, send_turn, Some, ◌∙◌}
+use Rattle.stack_end.proofs.CallParts.{above-went, open-answer, open-went, receives-went, went-alone, went-then}
 use Rattle.stack_end.proofs.layers.Layers.deliver.Goals as goal
 
 pub returns-in_default-clause-does : goal.returns-in_default-clause-does
@@ -18,4 +18,4 @@ returns-in_default-clause-does g c =
 pub returns-in_default-clause-event : goal.returns-in_default-clause-event
 returns-in_default-clause-event g c =
     ap Some c.receive-event.ensures.event
-    ∙ open-event (inside_of c.args.self.now) c.state.result _ c.state.ensures.state c.in_default.not-Closed
+    ∙ open-answer None _ (inside_of c.args.self.now) c.state.result c.state.ensures.state c.in_default.not-Closed
