@@ -130,7 +130,7 @@ fn plain_receptions(counts: ReceptionCounts) -> PlainReceptions
 
 /// Returns the counts of a channel's damaged datagrams in numbers.
 fn plain_red_faults(counts: RedFaultCounts) -> PlainRedFaults
-    // Each number is the count of its name.
+    // Each number is the count of the datagrams with this fault.
     ensures { result ≡ plain.red_faults_of counts }
 {
     PlainRedFaults {
@@ -142,7 +142,7 @@ fn plain_red_faults(counts: RedFaultCounts) -> PlainRedFaults
 
 /// Returns the counts of damaged parts in numbers.
 fn plain_safe_faults(counts: SafeFaultCounts) -> PlainSafeFaults
-    // Each number is the count of its name.
+    // Each number is the count of the parts with this fault.
     ensures { result ≡ plain.safe_faults_of counts }
 {
     PlainSafeFaults {

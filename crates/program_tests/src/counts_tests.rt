@@ -49,6 +49,7 @@ fn statistics(count: u64, age: u64) -> Statistics {
             receptions,
             ReceptionCounts::none(),
         ],
+        expired_deferrals: count,
         parts: PartCounts {
             taken: count,
             below: count,
@@ -120,7 +121,7 @@ fn adds_the_counts_of_openings(rt: HostRuntime) -> Result<(), Fail> {
     assert_equal(&rt, sums.channels[2].last, Some(40));
     assert_equal(
         &rt,
-        (sums.parts.taken, sums.parts.below, sums.parts.gaps),
+        (sums.parts.taken, sums.expired_deferrals, sums.parts.gaps),
         (2, 2, 0),
     );
     assert_equal(&rt, sums.parts.oldest, 70);

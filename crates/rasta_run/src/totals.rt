@@ -93,7 +93,7 @@ fn receptions(first: ReceptionCounts, second: ReceptionCounts) -> ReceptionCount
 
 /// Adds the counts of damaged datagrams, by fault.
 fn red_faults(first: RedFaultCounts, second: RedFaultCounts) -> RedFaultCounts
-    // Each count is the sum of both.
+    // Of each fault there are the datagrams of both.
     ensures { result ≡ totals.add_red_faults first second }
 {
     RedFaultCounts {
@@ -105,7 +105,7 @@ fn red_faults(first: RedFaultCounts, second: RedFaultCounts) -> RedFaultCounts
 
 /// Adds the counts of damaged parts, by fault.
 fn safe_faults(first: SafeFaultCounts, second: SafeFaultCounts) -> SafeFaultCounts
-    // Each count is the sum of both.
+    // Of each fault there are the parts of both.
     ensures { result ≡ totals.add_safe_faults first second }
 {
     SafeFaultCounts {

@@ -97,7 +97,7 @@ pub struct SafeFaultCounts {
 impl SafeFaultCounts {
     /// Returns the counts of an end to which no such part has gone up.
     pub fn none() -> Self
-        // Every count is 0.
+        // There is no part of any fault.
         ensures { result ≡ statistics.no_safe_faults }
     {
         SafeFaultCounts {
@@ -123,7 +123,7 @@ impl SafeFaultCounts {
 
     /// Counts a fault.
     fn count_fault(&mut self, fault: SafeFault)
-        // The count of this fault grows by 1, modulo 2^64; the others stay.
+        // Of the parts with this fault there is one more, modulo 2^64; the other counts stay.
         ensures { self.new ≡ statistics.with_safe_fault fault self.old }
     {
         match fault {
@@ -247,7 +247,7 @@ pub struct RedFaultCounts {
 impl RedFaultCounts {
     /// Returns the counts of a channel on which no such datagram has come.
     pub fn none() -> Self
-        // Every count is 0.
+        // There is no datagram of any fault.
         ensures { result ≡ statistics.no_red_faults }
     {
         RedFaultCounts {
@@ -269,7 +269,7 @@ impl RedFaultCounts {
 
     /// Counts a fault.
     fn count_fault(&mut self, fault: RedFault)
-        // The count of this fault grows by 1, modulo 2^64; the others stay.
+        // Of the datagrams with this fault there is one more, modulo 2^64; the other counts stay.
         ensures { self.new ≡ statistics.with_red_fault fault self.old }
     {
         match fault {
@@ -403,7 +403,7 @@ pub(crate) struct DatagramCounts {
 impl DatagramCounts {
     /// Returns the counts of an end to which nothing has come.
     pub(crate) fn none() -> Self
-        // Every count is 0, and there is no time.
+        // No channel has counted anything, and no deadline has passed.
         ensures { result ≡ statistics.no_datagram_counts }
     {
         DatagramCounts {
