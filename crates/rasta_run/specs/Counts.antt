@@ -6,7 +6,7 @@ use Rattle.end_settings.specs.declared.Side.{Side}
 use Rattle.rasta_run.specs.declared.counts.ChannelCounts.{ChannelCounts}
 use Rattle.rasta_run.specs.declared.counts.RunCounts.{RunCounts}
 use Rattle.rasta_run.specs.declared.counts_text.CountsPrinter.{CountsPrinter}
-use Rattle.rasta_run.specs.declared.log.ChannelSilence.{ChannelSilence}
+use Rattle.rasta_run.specs.declared.silence.ChannelSilence.{ChannelSilence}
 use Rattle.rasta_run.specs.Counters.{accepted_count, dropped_count, failures_in, no_datagrams, oldest}
 use Rattle.rasta_run.specs.Silence.{all_silences}
 use Rattle.stack_end.specs.Statistics.{all_red_faults, no_reception_counts, sum}

@@ -13,7 +13,7 @@ use Rattle.rasta_run.specs.Silence.{silence_event}
 use Rattle.rasta_run.specs.LogEvents.{is_off}
 use Rattle.rasta_run.specs.declared.calendar.Date.{Date}
 use Rattle.rasta_run.specs.declared.log.Log.{Log}
-use Rattle.rasta_run.specs.declared.log.SilenceChange.{SilenceChange}
+use Rattle.rasta_run.specs.declared.silence.SilenceChange.{SilenceChange}
 use Rattle.rasta_run.specs.declared.notices.Notice.{Notice}
 use Rattle.rasta_run.specs.declared.line_times.Stamp.{Stamp}
 use Rattle.rasta_words.specs.declared.status.LogTime.{LogTime}

@@ -1,8 +1,8 @@
 -- When a channel is logged as silent, and when it receives again.
 use Rattle.std.specs.Prelude.{ℕ, ◌+◌, ◌-◌, nat_eq, nat_le, nat_lt, Bool, true, false, List, slice_index_or, slice_set, Option, Some, None, if◌then◌else◌}
-use Rattle.rasta_run.specs.declared.log.ChannelSilence.{ChannelSilence}
-use Rattle.rasta_run.specs.declared.log.SilenceChange.{SilenceChange}
-use Rattle.rasta_run.specs.declared.log.SilenceChange.TheVariants.{Nothing, Silent, Heard}
+use Rattle.rasta_run.specs.declared.silence.ChannelSilence.{ChannelSilence}
+use Rattle.rasta_run.specs.declared.silence.SilenceChange.{SilenceChange}
+use Rattle.rasta_run.specs.declared.silence.SilenceChange.TheVariants.{Nothing, Silent, Heard}
 use Rattle.pdu_text.specs.declared.lines.EndEvent.{EndEvent}
 use Rattle.pdu_text.specs.declared.lines.EndEvent.TheVariants as happening
 use Rattle.stack_end.specs.Statistics.{no_reception_counts}

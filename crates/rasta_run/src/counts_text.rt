@@ -10,8 +10,8 @@ ghost use Rattle.rasta_run.specs.Counters as counting;
 ghost use Rattle.rasta_run.specs.Counts as counts;
 ghost use Rattle.rasta_run.specs.Silence.{silences_at, new_silence};
 
-use crate::log::ChannelSilence;
 use crate::metrics::Sample;
+use crate::silence::ChannelSilence;
 use crate::{ChannelCounts, RunCounts};
 use end_settings::Side;
 use octets::Milliseconds;

@@ -38,6 +38,7 @@ mod runner;
 mod scripts;
 mod settings;
 mod show;
+mod silence;
 mod streams;
 mod telegram_puts;
 mod totals;

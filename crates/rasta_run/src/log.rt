@@ -6,7 +6,7 @@
 ghost use Rattle.std.specs.Prelude.{◌≡◌, ◌+◌, ◌<◌, ◌&&◌, ◌||◌, not, Bool, None, Some, false, nat_le, slice_index_or, slice_set, true, OnOk, if◌then◌else◌};
 ghost use Rattle.octets.specs.declared.limits.TheConstants.{CHANNELS_MAX};
 ghost use Rattle.std.specs.Io.KnownBytes.{Appends};
-ghost use Rattle.rasta_run.specs.Silence.{silence_now, look_at_channel, all_silences, silences_at, silence_change_of, new_silence};
+ghost use Rattle.rasta_run.specs.Silence.{silence_now, all_silences, silence_change_of, silences_at, new_silence};
 ghost use Rattle.rasta_run.specs.LineTimes.{LogsLine, LogsChange, LogsEvent, LogsNotice, stamp_of};
 ghost use Rattle.pdu_text.specs.LastLines.{final_state_text};
 ghost use Rattle.pdu_text.specs.LogLines.{channel_text, missing_lines_text};
@@ -29,6 +29,7 @@ use crate::notices::{
     Notice, are_drops_due, asked_by, drops_notice, is_wrong_request, request_notice,
     version_notice, write_notice, wrong_request_notice,
 };
+use crate::silence::{ChannelSilence, SilenceChange};
 use crate::{Recorder, RunCounts};
 use arrayvec::ArrayVec;
 use channels::Channels;
@@ -55,56 +56,6 @@ type LogLine = ArrayVec<u8, 1_024>;
 
 /// The greatest number of causes for dropping that are logged once at the level of states.
 const CAUSES_MAX: usize = 16;
-
-/// When a channel last received something.
-#[derive(Clone, Copy, Debug, PartialEq, Eq)]
-pub struct ChannelSilence {
-    /// How many datagrams it had received then.
-    pub came: u64,
-    /// When it received the last one, in milliseconds.
-    pub at: Milliseconds,
-    /// Whether it was logged as silent.
-    pub silent: bool,
-}
-
-/// The change of a channel that is logged.
-#[derive(Clone, Copy, Debug, PartialEq, Eq)]
-pub enum SilenceChange {
-    /// None.
-    Nothing,
-    /// It became silent.
-    Silent,
-    /// It receives again.
-    Heard,
-}
-
-impl ChannelSilence {
-    /// Compares the number of datagrams received so far, and returns the change to be logged.
-    pub fn look(&mut self, came: u64, now: Milliseconds, t_max: Milliseconds) -> SilenceChange
-        // After `look` a channel with a new datagram is not silent, and one without any for longer than T_max is
-        // silent.
-        ensures left { self.new ≡ look_at_channel self.old came now t_max }
-        // `look` returns `Silent` if the channel has become silent, `Heard` if it no longer is, and else
-        // `Nothing`.
-        ensures said { result ≡ silence_change_of self.old self.new }
-    {
-        let was_silent = self.silent;
-        if came != self.came {
-            *self = ChannelSilence {
-                came,
-                at: now,
-                silent: false,
-            };
-        } else if now.saturating_sub(self.at) > t_max {
-            self.silent = true;
-        }
-        match (was_silent, self.silent) {
-            (false, true) => SilenceChange::Silent,
-            (true, false) => SilenceChange::Heard,
-            _ => SilenceChange::Nothing,
-        }
-    }
-}
 
 /// The log of an end. A failing output is ignored: the run goes on.
 #[derive(Clone, Copy, Debug)]
