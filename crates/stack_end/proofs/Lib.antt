@@ -8,3 +8,4 @@ pub mod Takes
 pub mod Timely
 pub mod Stale
 pub mod Again
+pub mod StatisticsLaw

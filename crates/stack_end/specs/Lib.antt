@@ -22,3 +22,4 @@ pub mod Statistics
 pub mod LentChannels
 pub mod Outstanding
 pub mod Reopening
+pub mod StatisticsLaw

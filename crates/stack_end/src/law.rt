@@ -2,6 +2,7 @@
 
 ghost use Rattle.stack_end.specs.Reopening.{AgainLaw};
 ghost use Rattle.stack_end.specs.Stale.{FreshLaw, TakesRequestLaw};
+ghost use Rattle.stack_end.specs.StatisticsLaw.{DatagramLaw, ExpiryLaw, PartLaw};
 ghost use Rattle.stack_end.specs.Timely.{TimelyLaw};
 ghost use Rattle.stack_end.specs.TurnLaws.{AnyChannelLaw, LastLaw, DeterminesLaw, TurnsLaw};
 
@@ -42,4 +43,17 @@ pub fn timely_law()
     // If anything is taken at a call's time, the own time last confirmed is less than T_max old after the call. It stays so
     // in further calls at that time, so this holds of a poll, too.
     ensures timely { TimelyLaw }
+{}
+
+/// The laws of the counts of an end. A call does nothing.
+pub fn statistics_law()
+    // Each count of a channel is the number of its datagrams since the opening with that event, modulo 2^64, whatever
+    // came on the other channels.
+    ensures datagrams { DatagramLaw }
+    // The count of expired deferrals is the number of deferral deadlines that passed, at datagrams and at ticks, modulo
+    // 2^64.
+    ensures deadlines { ExpiryLaw }
+    // Each count of parts is the number of those since the opening with that step of the machine, modulo 2^64. The
+    // greatest age and the longest wait are those of the parts that were taken.
+    ensures parts { PartLaw }
 {}
