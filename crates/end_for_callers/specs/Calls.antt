@@ -1,5 +1,5 @@
 -- Why a call of a station is refused, and what it does to the end and to the queues.
-use Rattle.std.specs.Prelude.{◌≡◌, ◌==◌, ℕ, ◌+◌, ◌*◌, ◌^◌, ◌≤◌, Bool, true, false, not, ◌&&◌, nat_le, Option, Some, None}
+use Rattle.std.specs.Prelude.{◌≡◌, ◌==◌, ℕ, ◌+◌, ◌*◌, ◌≤◌, Bool, true, false, not, ◌&&◌, nat_le, Option, Some, None}
 use Rattle.std.specs.Prelude.{option_map, List, length, if◌then◌else◌}
 use Rattle.octets.specs.declared.limits.TheConstants.{PAYLOAD_MAX, Q_MAX, RED_PDU_MAX, WINDOW_MAX, TIME_MAX}
 use Rattle.stack_end.specs.Ends.{Call, time_of}

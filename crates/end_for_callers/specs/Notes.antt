@@ -1,5 +1,5 @@
 -- The notes of an end that wait for the caller.
-use Rattle.std.specs.Prelude.{ℕ, ◌+◌, ◌==◌, ◌&&◌, Bool, false, not, nat_lt, Option, Some, None, List, [], ◌∷◌, ◌++◌, length, if◌then◌else◌}
+use Rattle.std.specs.Prelude.{ℕ, ◌==◌, ◌&&◌, Bool, false, not, nat_lt, Option, Some, None, List, [], ◌∷◌, ◌++◌, length, if◌then◌else◌}
 use Rattle.channels.specs.ChannelHistory.{count_failure}
 use Rattle.channels.specs.declared.note.Note.{Note}
 use Rattle.channels.specs.declared.note.Note.TheVariants as note

@@ -1,4 +1,7 @@
-use Rattle.std.proofs.Common.{ap, refl, rules, sym, ◌∙◌, ◌≡◌}
+use Rattle.std.proofs.Common.{ap, arith, refl, sym, ◌∙◌, ◌≡◌}
+use Rattle.std.proofs.lemmas.Bool.{and_parts, leb-true}
+use Rattle.std.specs.Prelude.{nat_le}
+use Rattle.octets.specs.declared.limits.TheConstants.{TIME_MAX}
 use Rattle.std.specs.Global.{Global}
 use Rattle.stack_end.specs.Ends.Call.{Tick}
 use Rattle.stack_end.specs.EndValue.{EndValue, inside}
@@ -34,4 +37,5 @@ invariant_of-self c =
     let is : inside c.tick.new.self ≡ (turn call (inside c.self.inside.end)).left =
     c.tick.ensures.turns.left ∙ ap (λ (e : EndValue DatagramQueue Global). (turn call (inside e)).left) c.set_aside.ensures.same in
     let ready = turned-ready c.self.inside.reserve call (inside c.self.inside.end) (inside c.tick.new.self) is c.self.invariant.3 in
-    (search rules, search rules, search rules, ready)
+    let late = (and_parts (nat_le c.args.self.now.time c.args.now) (nat_le c.args.now TIME_MAX) c.in_ok-may_hear.ensures.time).1 in
+    (omega (arith, c.tick.ensures.time), leb-true c.args.now TIME_MAX late, c.self.invariant.2, ready)
