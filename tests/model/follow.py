@@ -550,6 +550,8 @@ class Follower:
             yield 'sum passed over: other ports %d other times %d no IP 0 no UDP 0 tunnels 0 fragments 0 truncated 0 lengths 0 links 0' % tuple(self.others)
         yield 'sum all datagrams %d PDUs %d missing %d repeats %d late %d differs %d stale %d damaged %d forgotten %d unreadable %d' % (
             self.datagrams, *counts, self.damaged, self.forgotten, self.unreadable)
+        if choose and not self.connections:
+            yield 'choose nothing: no PDU of RaSTA was recorded; record both ends, and look at --ports and --code'
         for connection in self.connections if choose else []:
             yield from Choice(connection).lines()
 
