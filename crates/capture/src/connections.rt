@@ -7,6 +7,7 @@
 
 ghost use Rattle.std.specs.Prelude.{◌≡◌, ◌+◌, ◌<◌, ◌≤◌, ◌==◌, ◌&&◌, ◌++◌, ◌∷◌, [], length, IfOk, IfSome, reverse, slice_index_or, vec_capacity, vec_len};
 ghost use Rattle.std.specs.List.{position, remove};
+ghost use Rattle.std.specs.Str.{bytes_eq};
 ghost use Rattle.capture.specs.WholeCapture.{forgets_connection};
 ghost use Rattle.capture.specs.Connections.{place_from_end, behind_of, channel_of, connection_after, count_connection_damage, connection_remarks, count_damaged_datagram, count_damage_at, ends_of, forgotten_place, connection_place, has_channel, has_ends, is_between, is_closed, is_continued, is_from_low, is_held, is_known, is_same_address, is_same_host, is_source_low, known_place_of, other_connections, new_connection, with_room, route_from, route_place_of, routes_after, step, step_remarks, connection_of, follow_way_pdu, way_remarks};
 
@@ -694,8 +695,16 @@ fn is_host(one: Host, other: Host) -> bool
     ensures { result ≡ is_same_host one other }
 {
     match (one, other) {
-        (Host::V4(one), Host::V4(other)) => one.as_slice() == other.as_slice(),
+        (Host::V4(one), Host::V4(other)) => is_four(one, other),
         (Host::V6(one), Host::V6(other)) => one.as_slice() == other.as_slice(),
         _ => false,
     }
+}
+
+/// Compares four bytes with four others.
+fn is_four(one: [u8; 4], other: [u8; 4]) -> bool
+    // All four bytes are compared.
+    ensures { result ≡ bytes_eq one other }
+{
+    one[0] == other[0] && one[1] == other[1] && one[2] == other[2] && one[3] == other[3]
 }
