@@ -100,8 +100,10 @@ pub fn spell(octets: &[u8]) -> u64
     let mut fingerprint = 1;
     let mut rest = octets;
     for _ in 0..octets.len() / 4 {
-        fingerprint = join_digit(fingerprint, LittleEndian::read_u32(rest));
-        rest = &rest[4..];
+        if let [a, b, c, d, more @ ..] = rest {
+            fingerprint = join_digit(fingerprint, LittleEndian::read_u32(&[*a, *b, *c, *d]));
+            rest = more;
+        }
     }
     rest.iter().fold(
         fingerprint,
