@@ -703,7 +703,7 @@ fn is_host(one: Host, other: Host) -> bool
 
 /// Compares four bytes with four others.
 fn is_four(one: [u8; 4], other: [u8; 4]) -> bool
-    // All four bytes are compared.
+    // The result is true exactly if each byte is equal to the one at its place.
     ensures { result ≡ bytes_eq one other }
 {
     one[0] == other[0] && one[1] == other[1] && one[2] == other[2] && one[3] == other[3]

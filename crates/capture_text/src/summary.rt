@@ -141,7 +141,7 @@ fn is_ambiguous(connections: &[Entry], connection: &Connection) -> bool
 
 /// Returns `true` if a connection has these identifiers.
 fn has_identifiers(connection: &Connection, low: u32, high: u32) -> bool
-    // Both identifiers are compared.
+    // The result is true exactly if `low` and `high` are the identifiers of the `connection`, in this order.
     ensures { result ≡ has_identifiers low high connection.now }
 {
     connection.low == low && connection.high == high

@@ -138,7 +138,7 @@ fn write_any_place<W: Write>(writer: &mut W, at: Option<Route>) -> io::Result<()
 /// Writes the addresses of a connection.
 #[tactic(auto, unfolding(crate::specs::TableText::at_text))]
 fn write_place<W: Write>(writer: &mut W, route: Route) -> io::Result<()>
-    // On success the lower end's and the other end's address are appended, with a hyphen between them.
+    // On success both addresses of the `route` are appended after a word, the lower end's first (`at_text`).
     ensures { OnOk result (Appends (W.contents writer.old) (W.contents writer.new) (at_text route)) }
 {
     write_text(writer, " at ")?;
