@@ -108,10 +108,25 @@ fn write_connections<W: Write>(
         (connections_text scale connections.now connections.now)) }
 {
     for entry in connections {
-        let at = telling_route(connections, &entry.connection);
-        write_connection(writer, scale, at, &entry.connection)?;
+        write_listed(writer, scale, connections, &entry.connection)?;
     }
     Ok(())
+}
+
+/// Writes the lines of one of these connections.
+fn write_listed<W: Write>(
+    writer: &mut W,
+    scale: Scale,
+    connections: &[Entry],
+    connection: &Connection,
+) -> io::Result<()>
+    // On success the lines of this `connection` are appended, with addresses if its identifiers are ambiguous among
+    // the `connections`.
+    ensures { OnOk result (Appends (W.contents writer.old) (W.contents writer.new)
+        (connection_text scale (telling_route connections.now connection.now) connection.now)) }
+{
+    let at = telling_route(connections, connection);
+    write_connection(writer, scale, at, connection)
 }
 
 /// Returns the addresses of a connection's first channel, if several connections have its identifiers.
