@@ -245,11 +245,11 @@ class Session:
     def is_timeout(self):
         return any(side.left and side.left[1] == TIMEOUT for side in self.sides)
 
-    def line(self, ends, first):
+    def line(self, ends, route, first):
         def at(time):
             return first.said(time)
 
-        words = ['session %d of %d-%d' % (self.number, *ends),
+        words = ['session %d of %d-%d' % (self.number, *ends) + (' at %s-%s' % route if route else ''),
                  '%d asked at %s' % (ends[self.asked[1]], at(self.asked[0])) if self.asked else 'its ConnReq was not recorded',
                  'came up at ' + at(self.up) if self.up is not None else 'nobody answered' if self.is_unanswered() else 'was not seen to come up']
         left = ['%d left at %s %s %s' % (end, at(side.left[0]), 'after the other' if side.left[3] else 'by itself', leaving(*side.left[1:3]))
@@ -449,7 +449,7 @@ class Connection:
         return {'low': self.ends[0], 'high': self.ends[1], 'up': self.up(), 'last': self.last, 'lost_on_every_channel': everywhere, 'lost_on_one_channel': alone,
                 **{name: max(direction[name] for direction in directions) for name in ('age', 'waits')}, 'sessions': sessions, 'directions': directions}
 
-    def sums(self, first, t_max):
+    def sums(self, first, t_max, is_ambiguous):
         for (sender, receiver), direction in zip((self.ends, self.ends[::-1]), self.directions):
             yield 'sum %d->%d %s' % (sender, receiver, direction.sums(first, t_max, self.last))
             for place, route in enumerate(self.routes):
@@ -458,7 +458,7 @@ class Connection:
                     sender, receiver, place + 1, *route, sum(n.counts()) - n.missing + direction.damaged[place], n.sums(),
                     direction.damaged[place])
         for one in self.sessions[-SESSIONS - 1:]:
-            yield one.line(self.ends, first)
+            yield one.line(self.ends, tuple(self.routes[0]) if is_ambiguous else None, first)
         yield self.sentence(first, t_max)
 
     def counts(self):
@@ -543,13 +543,15 @@ class Follower:
         if first.first:
             yield 'sum first datagram at ' + utc(first.first)
         for connection in self.connections:
-            yield from connection.sums(first, t_max)
+            yield from connection.sums(first, t_max, sum(connection.ends == other.ends for other in self.connections) > 1)
         counts = [sum(column) for column in zip(self.gone, *(connection.counts() for connection in self.connections))]
         assert sum(counts) - counts[1] + self.damaged == self.datagrams
         if any(self.others):
             yield 'sum passed over: other ports %d other times %d no IP 0 no UDP 0 tunnels 0 fragments 0 truncated 0 lengths 0 links 0' % tuple(self.others)
         yield 'sum all datagrams %d PDUs %d missing %d repeats %d late %d differs %d stale %d damaged %d forgotten %d unreadable %d' % (
             self.datagrams, *counts, self.damaged, self.forgotten, self.unreadable)
+        if choose and not self.connections:
+            yield 'choose nothing: no PDU of RaSTA was recorded; record both ends, and look at --ports and --code'
         for connection in self.connections if choose else []:
             yield from Choice(connection).lines()
 

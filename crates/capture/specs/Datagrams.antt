@@ -1,5 +1,6 @@
 -- A decoded datagram, by the definitions of its decoders.
-use Rattle.std.specs.Prelude.{ℕ, ◌+◌, ◌*◌, ◌%◌, ◌^◌, List, fold, Option, Some, None, Result, Ok, Err}
+use Rattle.byteorder.specs.Endian.{little_number}
+use Rattle.std.specs.Prelude.{ℕ, ◌+◌, ◌*◌, ◌%◌, ◌^◌, List, [], ◌∷◌, fold, Option, Some, None, Result, Ok, Err}
 use Rattle.red_layer.specs.declared.pdu.RedFault.{RedFault}
 use Rattle.red_layer.specs.pdu.RedText.{red_seen}
 use Rattle.safe_pdu.specs.declared.CodeRule.{CodeRule}
@@ -20,13 +21,18 @@ abbrev pub leaving_of : Kind → List ℕ → Option Leaving
 leaving_of DiscReq body = Some (record { detail = detail_of body; reason = reason_of body })
 leaving_of _ body = None
 
--- The fingerprint with one more byte, modulo 2^64.
-abbrev pub with_octet : ℕ → ℕ → ℕ
-with_octet fingerprint octet = (fingerprint * FINGERPRINT_BASE % 2 ^ 64 + octet) % 2 ^ 64
+-- The digits of bytes: each four bytes are one number, least significant byte first; each of the up to three bytes that are left is one.
+abbrev pub digits_of : List ℕ → List ℕ
+digits_of (a ∷ b ∷ c ∷ d ∷ more) = little_number 4 (a ∷ b ∷ c ∷ d ∷ []) ∷ digits_of more
+digits_of rest = rest
 
--- The fingerprint of bytes: the number that they spell to a large base, after a leading 1 and modulo 2^64.
+-- The fingerprint with one more digit, modulo 2^64.
+abbrev pub with_digit : ℕ → ℕ → ℕ
+with_digit fingerprint digit = (fingerprint * FINGERPRINT_BASE % 2 ^ 64 + digit) % 2 ^ 64
+
+-- The fingerprint of bytes: the number that their digits spell to a large base, after a leading 1 and modulo 2^64.
 abbrev pub fingerprint_of : List ℕ → ℕ
-fingerprint_of octets = fold with_octet 1 octets
+fingerprint_of octets = fold with_digit 1 (digits_of octets)
 
 -- The header fields of a safety PDU, with this fingerprint.
 abbrev pub header_of : Pdu → ℕ → Header

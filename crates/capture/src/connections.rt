@@ -7,6 +7,7 @@
 
 ghost use Rattle.std.specs.Prelude.{◌≡◌, ◌+◌, ◌<◌, ◌≤◌, ◌==◌, ◌&&◌, ◌++◌, ◌∷◌, [], length, IfOk, IfSome, reverse, slice_index_or, vec_capacity, vec_len};
 ghost use Rattle.std.specs.List.{position, remove};
+ghost use Rattle.std.specs.Str.{bytes_eq};
 ghost use Rattle.capture.specs.WholeCapture.{forgets_connection};
 ghost use Rattle.capture.specs.Connections.{place_from_end, behind_of, channel_of, connection_after, count_connection_damage, connection_remarks, count_damaged_datagram, count_damage_at, ends_of, forgotten_place, connection_place, has_channel, has_ends, is_between, is_closed, is_continued, is_from_low, is_held, is_known, is_same_address, is_same_host, is_source_low, known_place_of, other_connections, new_connection, with_room, route_from, route_place_of, routes_after, step, step_remarks, connection_of, follow_way_pdu, way_remarks};
 
@@ -93,15 +94,17 @@ impl Entry {
 
 /// The connections that are kept; the last one has the latest PDU. Contracts see the list of them.
 ///
-/// The memory for all of them is there from the beginning, so no PDU needs more.
+/// At most `CONNECTIONS` are kept, and one spare entry beside them. A PDU that begins a connection brings the entry for
+/// it (`take_spare`); the entry of a forgotten connection becomes the spare one.
 #[derive(Drop)]
 pub struct Connections {
     list: Vec<Entry>,
-    spare: Vec<Entry>,
+    spare: Option<Entry>,
+    alloc: Global,
 }
 
 impl Model for Connections {
-    ghost use Rattle.std.specs.Prelude.{◌≡◌, ◌+◌, ◌≤◌, List, vec_capacity, vec_len};
+    ghost use Rattle.std.specs.Prelude.{◌≤◌, List, vec_capacity, vec_len};
     ghost use Rattle.capture.specs.declared.connections.Connection.{Connection as Inner};
     ghost use Rattle.capture.specs.declared.connections.TheConstants.{CONNECTIONS as MOST};
 
@@ -109,11 +112,11 @@ impl Model for Connections {
 
     ghost view = { λ all. all.list.items };
 
-    ghost invariant = { λ all. (vec_len all.list + vec_len all.spare ≡ MOST) × (MOST ≤ vec_capacity all.list) };
+    ghost invariant = { λ all. (vec_len all.list ≤ MOST) × (MOST ≤ vec_capacity all.list) };
 }
 
 impl Connections {
-    /// Returns a list without connections, and the memory for all that it may have.
+    /// Returns a list without connections. It takes no memory for a connection yet.
     ///
     /// # Errors
     ///
@@ -124,8 +127,32 @@ impl Connections {
     {
         Ok(Connections {
             list: Vec::with_capacity(alloc, CONNECTIONS)?,
-            spare: spare_entries(alloc)?,
+            spare: None,
+            alloc,
         })
+    }
+
+    /// Returns an entry for a connection that the next datagram may begin: the spare one, or one in new memory.
+    ///
+    /// # Errors
+    ///
+    /// `AllocError` if there is too little memory.
+    pub fn take_spare(&mut self) -> Result<Entry, AllocError>
+        // No connection is added, changed or forgotten, also if there is too little memory.
+        ensures { self.new ≡ self.old }
+    {
+        match self.spare.take() {
+            Some(entry) => Ok(entry),
+            None => new_entry(self.alloc),
+        }
+    }
+
+    /// Keeps an entry that no connection needed, for the next datagram.
+    pub fn keep_spare(&mut self, spare: Entry)
+        // The entry is not one of the connections: none is added, changed or forgotten.
+        ensures { self.new ≡ self.old }
+    {
+        self.spare = Some(spare);
     }
 
     /// Returns the connections in order.
@@ -137,29 +164,26 @@ impl Connections {
     }
 }
 
-/// Returns as many entries as connections are kept.
-fn spare_entries(alloc: Global) -> Result<Vec<Entry>, AllocError>
-    // Their number is `CONNECTIONS`.
-    ensures { IfOk result (λ spare. vec_len spare ≡ CONNECTIONS) }
+/// Returns an entry in new memory.
+fn new_entry(alloc: Global) -> Result<Entry, AllocError>
+    // The entry has a connection without PDUs.
+    ensures { IfOk result (λ entry. entry ≡ new_connection 0 0) }
 {
-    let mut spare = Vec::with_capacity(alloc, CONNECTIONS)?;
-    for _ in 0..CONNECTIONS {
-        let connection = Box::new(alloc, open(0, 0))?;
-        spare.push(Entry { connection })?;
-    }
-    Ok(spare)
+    let connection = Box::new(alloc, open(0, 0))?;
+    Ok(Entry { connection })
 }
 
 /// Adds a PDU on this line to its connection and returns what is remarkable in it.
 ///
 /// If it needs a further connection and there is no room, one is forgotten: of those that an end has left, the one
-/// silent longest; if there is none, the one silent longest of all.
+/// silent longest; if there is none, the one silent longest of all. A further connection is kept in the entry `spare`.
 pub fn follow(
     connections: &mut Connections,
     line: u64,
     record: &Record,
     seq: u32,
     header: &Header,
+    spare: Entry,
 ) -> Remarks
     // The remarks are those in the PDU's own connection, a new one if none has its identifiers and addresses and it
     // goes on with none (`step_remarks`, `connection_place`).
@@ -169,7 +193,7 @@ pub fn follow(
     // (`with_room`). A channel is a pair of addresses in either direction. A fifth channel of a connection is not distinguished (`routes_after`, `channel_of`).
     ensures step { connections.new ≡ step connections.old line record.now seq header.now }
 {
-    bring_to_end(connections, record, header);
+    bring_to_end(connections, record, header, spare);
     let last = connections.list.len() - 1;
     follow_entry(
         &mut connections.list.as_mut_slice()[last],
@@ -201,19 +225,21 @@ pub(crate) fn has_no_room(connections: &Connections, record: &Record, header: &H
     place(connections.list.as_slice(), record, header).is_none()
 }
 
-/// Moves the connection of a PDU to the end of the list, or adds a new one.
-fn bring_to_end(connections: &mut Connections, record: &Record, header: &Header)
+/// Moves the connection of a PDU to the end of the list, or adds a new one in the entry `spare`.
+fn bring_to_end(connections: &mut Connections, record: &Record, header: &Header, spare: Entry)
     // The list is the others that stay, in order, then the connection of the PDU, new if there was none (`other_connections`,
     // `connection_of`).
     ensures { connections.new ≡ other_connections header.now record.now connections.old ++ connection_of header.now record.now connections.old ∷ [] }
 {
     match place(connections.list.as_slice(), record, header) {
-        Some(place) => move_to_end(&mut connections.list, place),
+        Some(place) => {
+            move_to_end(&mut connections.list, place);
+            connections.spare = Some(spare);
+        }
         None => {
             let (low, high) = ends(header.sender, header.receiver);
-            let mut entry = free_entry(&mut connections.list, &mut connections.spare);
-            entry.reopen(low, high);
-            push(&mut connections.list, entry);
+            make_room(&mut connections.list, &mut connections.spare);
+            push(&mut connections.list, opened(spare, low, high));
         }
     }
 }
@@ -379,23 +405,30 @@ fn is_left(connection: &Connection) -> bool
         || connection.sessions.current.high.left.is_some()
 }
 
-/// Takes an entry for a further connection: a spare one, or that of the connection that is forgotten.
-fn free_entry(list: &mut Vec<Entry>, spare: &mut Vec<Entry>) -> Entry
-    requires { vec_len list.old + vec_len spare.old ≡ CONNECTIONS }
+/// Makes room for a further connection. The entry of the one that is forgotten, if any, becomes the spare one.
+fn make_room(list: &mut Vec<Entry>, spare: &mut Option<Entry>)
+    requires { vec_len list.old ≤ CONNECTIONS }
     // A full list loses the connection that is forgotten; any other list does not change.
     ensures left { list.new.items ≡ with_room list.old.items }
-    // The entry is missing in one of both lists.
-    ensures taken { vec_len list.new + vec_len spare.new + 1 ≡ CONNECTIONS }
-    // The list keeps its room.
+    // There is room for a connection.
+    ensures room { vec_len list.new < CONNECTIONS }
+    // The list keeps its capacity.
     ensures capacity { vec_capacity list.new ≡ vec_capacity list.old }
 {
-    match spare.pop() {
-        Some(entry) => entry,
-        None => {
-            let place = place_to_forget(list.as_slice());
-            list.remove(place)
-        }
+    if list.len() == CONNECTIONS {
+        let place = place_to_forget(list.as_slice());
+        *spare = Some(list.remove(place));
     }
+}
+
+/// Returns an entry with a connection between two ends without PDUs.
+fn opened(spare: Entry, low: u32, high: u32) -> Entry
+    // The connection is new, whatever the entry had before.
+    ensures { result ≡ new_connection low high }
+{
+    let mut entry = spare;
+    entry.reopen(low, high);
+    entry
 }
 
 /// Returns a connection between two ends without PDUs.
@@ -662,8 +695,16 @@ fn is_host(one: Host, other: Host) -> bool
     ensures { result ≡ is_same_host one other }
 {
     match (one, other) {
-        (Host::V4(one), Host::V4(other)) => one.as_slice() == other.as_slice(),
+        (Host::V4(one), Host::V4(other)) => is_four(one, other),
         (Host::V6(one), Host::V6(other)) => one.as_slice() == other.as_slice(),
         _ => false,
     }
+}
+
+/// Compares four bytes with four others.
+fn is_four(one: [u8; 4], other: [u8; 4]) -> bool
+    // The result is true exactly if each byte is equal to the one at its place.
+    ensures { result ≡ bytes_eq one other }
+{
+    one[0] == other[0] && one[1] == other[1] && one[2] == other[2] && one[3] == other[3]
 }

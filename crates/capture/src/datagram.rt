@@ -4,12 +4,13 @@ ghost use Rattle.std.specs.Prelude.{◌≡◌};
 ghost use Rattle.safe_pdu.specs.Bodies.{IsBody};
 ghost use Rattle.safe_pdu.specs.Pdu.{pdu_of};
 ghost use Rattle.safe_pdu.specs.Places.{safe_seen};
-ghost use Rattle.capture.specs.Datagrams.{fingerprint_of, header_of, datagram_of, datagram_above, leaving_of, with_octet};
+ghost use Rattle.capture.specs.Datagrams.{fingerprint_of, header_of, datagram_of, datagram_above, leaving_of, with_digit};
 
+use byteorder::{ByteOrder, LittleEndian};
 use red_layer::pdu::RedFault;
 use safe_pdu::{CodeRule, Identifier, Kind, Leaving, SafeFault, SafePdu, read_leaving};
 
-/// The base of fingerprints: odd, with its bits spread, so that each byte changes the high bits.
+/// The base of fingerprints: odd, with its bits spread, so that each digit changes the high bits.
 const FINGERPRINT_BASE: u64 = 11_400_714_819_323_198_485;
 
 /// A decoded datagram, or the fault of the layer that rejects it.
@@ -89,24 +90,35 @@ fn read_header(pdu: &SafePdu<'_>, octets: &[u8]) -> Header
     }
 }
 
-/// Computes the fingerprint: the number that the bytes spell to a large base, after a leading 1 and modulo 2^64.
+/// Computes the fingerprint: the number that the digits of the bytes spell to a large base, after a leading 1 and modulo
+/// 2^64. Four bytes are one digit.
 pub fn spell(octets: &[u8]) -> u64
-    // The fingerprint starts at 1 and takes in every byte in order (`fingerprint_of`).
+    // The fingerprint starts at 1 and takes in each four bytes in order, then the up to three that are left
+    // (`fingerprint_of`).
     ensures { result ≡ fingerprint_of octets.now }
 {
-    octets
-        .iter()
-        .fold(1, |fingerprint, octet| join_octet(fingerprint, *octet))
+    let mut fingerprint = 1;
+    let mut rest = octets;
+    for _ in 0..octets.len() / 4 {
+        if let [a, b, c, d, more @ ..] = rest {
+            fingerprint = join_digit(fingerprint, LittleEndian::read_u32(&[*a, *b, *c, *d]));
+            rest = more;
+        }
+    }
+    rest.iter().fold(
+        fingerprint,
+        |fingerprint, octet| join_digit(fingerprint, *octet as u32),
+    )
 }
 
-/// Adds a byte to a fingerprint.
-fn join_octet(fingerprint: u64, octet: u8) -> u64
-    // The result is the fingerprint times the base plus the byte, modulo 2^64.
-    ensures { result ≡ with_octet fingerprint octet }
+/// Adds a digit to a fingerprint.
+fn join_digit(fingerprint: u64, digit: u32) -> u64
+    // The result is the fingerprint times the base plus the digit, modulo 2^64.
+    ensures { result ≡ with_digit fingerprint digit }
 {
     fingerprint
         .wrapping_mul(FINGERPRINT_BASE)
-        .wrapping_add(octet as u64)
+        .wrapping_add(digit as u64)
 }
 
 /// Returns reason and detail of a DiscReq.

@@ -18,7 +18,7 @@ use red_layer::pdu::RedFault;
 use safe_pdu::SafeFault;
 use std::alloc::{AllocError, Global};
 
-/// The state of a capture, in memory of a fixed size that is there from the beginning.
+/// The state of a capture. Only a connection that begins takes more memory.
 #[derive(Drop)]
 pub struct Follower {
     /// The connections; the last one is the one with the latest PDU.
@@ -64,7 +64,7 @@ pub struct Totals {
 }
 
 impl Follower {
-    /// Returns the state before the first datagram, with the memory for all connections.
+    /// Returns the state before the first datagram.
     ///
     /// # Errors
     ///
@@ -93,8 +93,15 @@ impl Follower {
         })
     }
 
-    /// Adds a datagram on this line to the capture and returns what is remarkable in it.
-    pub fn hear(&mut self, line: u64, record: &Record, heard: &DecodedDatagram) -> Remark
+    /// Adds a datagram on this line to the capture and returns what is remarkable in it. A connection that it begins is
+    /// kept in the entry `spare`.
+    pub fn hear(
+        &mut self,
+        line: u64,
+        record: &Record,
+        heard: &DecodedDatagram,
+        spare: Entry,
+    ) -> Remark
         // For a PDU the remark has its number, its header and its remarks; for any other datagram, the fault of the
         // layer that rejects it.
         ensures remark { result ≡ remark_of self.old.connections line record.now heard.now }
@@ -126,10 +133,11 @@ impl Follower {
                 );
                 self.gone = sum_forgotten(self.gone, &self.connections, record, &header);
                 self.miscoded = None;
-                let remarks = follow(&mut self.connections, line, record, seq, &header);
+                let remarks = follow(&mut self.connections, line, record, seq, &header, spare);
                 Remark::Pdu(seq, header, remarks)
             }
             DecodedDatagram::NoSafe(seq, fault) => {
+                self.connections.keep_spare(spare);
                 self.damaged = self.damaged.saturating_add(1);
                 self.miscoded = count_miscoded(self.miscoded, fault);
                 let damage = Damage { number: seq, line };
@@ -137,6 +145,7 @@ impl Follower {
                 Remark::NoSafe(seq, fault)
             }
             DecodedDatagram::NoRed(fault) => {
+                self.connections.keep_spare(spare);
                 self.damaged = self.damaged.saturating_add(1);
                 note_damage(&mut self.connections, record, None);
                 Remark::NoRed(fault)

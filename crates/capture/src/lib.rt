@@ -1,7 +1,8 @@
 //! Reading of recorded connections: datagrams from a text or a pcap or pcapng file, and what is remarkable in them.
 //!
 //! A line of a text is what `tshark -T fields -e frame.time_epoch -e ip.src -e udp.srcport -e ip.dst -e udp.dstport
-//! -e udp.payload` prints for a datagram. Only `Following::new` allocates, and no call waits.
+//! -e udp.payload` prints for a datagram. Only `Follower::new` and `Connections::take_spare` allocate, and
+//! no call waits.
 //!
 //! The laws hold for fewer than 2^64 numbers and datagrams. Two datagrams with one fingerprint count as equal; that
 //! is not proved, since a fingerprint has only 64 bits.

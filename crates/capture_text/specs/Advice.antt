@@ -128,7 +128,16 @@ connection_text c =
 abbrev pub advices_text : List Connection → List ℕ
 advices_text cs = flat_map (λ c. connection_text c) cs
 
+-- That there is nothing to choose from, and how to proceed.
+abbrev pub nothing_text : List ℕ
+nothing_text = codes "choose nothing: no PDU of RaSTA was recorded; record both ends, and look at --ports and --code\n"
+
+-- The lines of all connections; without any, one line that says so.
+abbrev pub recording_advice_text : List Connection → List ℕ
+recording_advice_text [] = nothing_text
+recording_advice_text (c ∷ cs) = advices_text (c ∷ cs)
+
 -- The same, if they are asked for.
 abbrev pub advice_lines : Bool → List Connection → List ℕ
-advice_lines true cs = advices_text cs
+advice_lines true cs = recording_advice_text cs
 advice_lines false cs = []

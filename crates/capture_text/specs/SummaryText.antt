@@ -1,7 +1,7 @@
 -- The sums as lines.
-use Rattle.std.specs.Prelude.{ℕ, nat_eq, List, [], ◌∷◌, ◌++◌, codes, slice_index, slice_index_or, if◌then◌else◌, Option, Some, None}
+use Rattle.std.specs.Prelude.{ℕ, nat_eq, nat_lt, ◌==◌, ◌&&◌, Bool, List, [], ◌∷◌, ◌++◌, codes, slice_index, slice_index_or, if◌then◌else◌, Option, Some, None}
 use Rattle.std.specs.Fmt.{decimal}
-use Rattle.std.specs.List.{flat_map}
+use Rattle.std.specs.List.{count_by, flat_map}
 use Rattle.safe_pdu.specs.declared.Leaving.{Leaving}
 use Rattle.safe_pdu.specs.Names.{kind_name}
 use Rattle.capture.specs.declared.connections.Connection.{Connection}
@@ -126,14 +126,27 @@ places_text from to routes d =
 unfoldable pub half_text : Scale → ℕ → ℕ → Connection → Direction → List ℕ
 half_text s from to c d = direction_text s c.last from to d ++ places_text from to c.routes d
 
--- The lines of a connection: both directions, then its sessions and its sentence.
-unfoldable pub connection_text : Scale → Connection → List ℕ
-connection_text s c =
-    half_text s c.low c.high c c.from_low ++ half_text s c.high c.low c c.from_high ++ sessions_text s.clock c.low c.high c.sessions ++ sentence_text s c
+-- The connection has these identifiers.
+abbrev pub has_identifiers : ℕ → ℕ → Connection → Bool
+has_identifiers low high c = (c.low == low) && (c.high == high)
 
--- The lines of all connections; the one with the latest PDU is the last.
-abbrev pub connections_text : Scale → List Connection → List ℕ
-connections_text s cs = flat_map (λ c. connection_text s c) cs
+-- Several of these connections have the identifiers of this one.
+abbrev pub is_ambiguous : List Connection → Connection → Bool
+is_ambiguous cs c = nat_lt 1 (count_by (λ x. has_identifiers c.low c.high x) cs)
+
+-- The addresses by which a connection is told apart: those of its first channel, if its identifiers are ambiguous.
+abbrev pub telling_route : List Connection → Connection → Option Route
+telling_route cs c = if is_ambiguous cs c then slice_index_or c.routes 0 None else None
+
+-- The lines of a connection: both directions, then its sessions, with its addresses if they are needed, and its sentence.
+unfoldable pub connection_text : Scale → Option Route → Connection → List ℕ
+connection_text s at c =
+    half_text s c.low c.high c c.from_low ++ half_text s c.high c.low c c.from_high ++ sessions_text s.clock c.low c.high at c.sessions
+    ++ sentence_text s c
+
+-- The lines of some of all connections; the one with the latest PDU is the last.
+abbrev pub connections_text : Scale → List Connection → List Connection → List ℕ
+connections_text s all cs = flat_map (λ c. connection_text s (telling_route all c) c) cs
 
 -- The number of datagrams in the whole capture.
 unfoldable pub datagram_count_text : ℕ → List ℕ
@@ -169,4 +182,4 @@ first_lines first = if nat_eq first 0 then [] else date_text first
 
 -- All lines of the sums.
 abbrev pub summary_text : Scale → List Connection → Totals → CaptureCounts → List ℕ
-summary_text s cs t c = first_lines s.clock.first ++ connections_text s cs ++ skips_lines c.passed ++ all_text t c
+summary_text s cs t c = first_lines s.clock.first ++ connections_text s cs cs ++ skips_lines c.passed ++ all_text t c

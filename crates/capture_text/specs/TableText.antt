@@ -2,6 +2,7 @@
 use Rattle.std.specs.Prelude.{ℕ, ◌%◌, ◌&&◌, Bool, true, false, List, [], ◌∷◌, ◌++◌, codes, drop, take, if◌then◌else◌, Option, Some, None, is_none}
 use Rattle.std.specs.Fmt.{decimal}
 use Rattle.std.specs.List.{flat_map}
+use Rattle.capture.specs.declared.connections.Route.{Route}
 use Rattle.capture.specs.declared.sessions.TheConstants.{SESSIONS}
 use Rattle.capture.specs.declared.sessions.SessionRequest.{SessionRequest}
 use Rattle.capture.specs.declared.sessions.Disconnection.{Disconnection}
@@ -11,13 +12,22 @@ use Rattle.capture.specs.Numbers.{limited_sum}
 use Rattle.capture.specs.Sessions.{alone_in, is_unanswered_in, lost_in_session}
 use Rattle.pdu_text.specs.Lines.{join_pieces}
 use Rattle.capture_text.specs.declared.pieces.Clock.{Clock}
-use Rattle.capture_text.specs.Pieces.{since_text}
+use Rattle.capture_text.specs.Pieces.{address_text, since_text}
 use Rattle.capture_text.specs.Reasons.{leaving_words}
 
 -- The number of a session, and its connection.
 unfoldable pub number_text : ℕ → ℕ → ℕ → List ℕ
 number_text number low high =
     join_pieces (codes "session " ∷ decimal number ∷ codes " of " ∷ decimal low ∷ codes "-" ∷ decimal high ∷ [])
+
+-- The addresses of a connection, the lower end's first.
+unfoldable pub at_text : Route → List ℕ
+at_text route = join_pieces (codes " at " ∷ address_text route.low ∷ codes "-" ∷ address_text route.high ∷ [])
+
+-- The addresses of a connection, if it needs them to be told apart.
+abbrev pub maybe_at_text : Option Route → List ℕ
+maybe_at_text None = []
+maybe_at_text (Some route) = at_text route
 
 -- The end that asked for a session.
 abbrev pub asker_of : ℕ → ℕ → SessionRequest → ℕ
@@ -46,10 +56,10 @@ abbrev pub outcome_text : Clock → Option ℕ → Bool → List ℕ
 outcome_text clock (Some time) unanswered = up_text clock time
 outcome_text clock None unanswered = down_text unanswered
 
--- How a session began: number, ConnReq, ConnResp.
-unfoldable pub start_text : Clock → ℕ → ℕ → Session → List ℕ
-start_text clock low high x =
-    number_text x.number low high ++ maybe_request_text clock low high x.asked ++ outcome_text clock x.up (is_unanswered_in x)
+-- How a session began: number, addresses if they are needed, ConnReq, ConnResp.
+unfoldable pub start_text : Clock → ℕ → ℕ → Option Route → Session → List ℕ
+start_text clock low high at x =
+    number_text x.number low high ++ maybe_at_text at ++ maybe_request_text clock low high x.asked ++ outcome_text clock x.up (is_unanswered_in x)
 
 -- Whose leaving was the first.
 abbrev pub own_text : Bool → List ℕ
@@ -110,21 +120,21 @@ session_events_text low high x =
     waits_text low high x.low.longest x.high.longest ++ session_losses_text (lost_in_session x) (alone_in x) ++ again_text (resent_in x) (repeats_in x)
 
 -- The line of a session.
-unfoldable pub session_text : Clock → ℕ → ℕ → Session → List ℕ
-session_text clock low high x =
-    start_text clock low high x ++ end_text clock low high x ++ session_events_text low high x
+unfoldable pub session_text : Clock → ℕ → ℕ → Option Route → Session → List ℕ
+session_text clock low high at x =
+    start_text clock low high at x ++ end_text clock low high x ++ session_events_text low high x
 
 -- The line of a kept session, if the place has one.
-abbrev pub slot_text : Clock → ℕ → ℕ → Option Session → List ℕ
-slot_text clock low high None = []
-slot_text clock low high (Some x) = session_text clock low high x
+abbrev pub slot_text : Clock → ℕ → ℕ → Option Route → Option Session → List ℕ
+slot_text clock low high at None = []
+slot_text clock low high at (Some x) = session_text clock low high at x
 
 -- The lines of kept sessions.
-abbrev pub slots_text : Clock → ℕ → ℕ → List (Option Session) → List ℕ
-slots_text clock low high xs = flat_map (λ x. slot_text clock low high x) xs
+abbrev pub slots_text : Clock → ℕ → ℕ → Option Route → List (Option Session) → List ℕ
+slots_text clock low high at xs = flat_map (λ x. slot_text clock low high at x) xs
 
 -- The lines of all kept sessions of a connection, the oldest one first, then that of the current one.
-unfoldable pub sessions_text : Clock → ℕ → ℕ → Sessions → List ℕ
-sessions_text clock low high ss =
-    slots_text clock low high (drop (ss.current.number % SESSIONS) ss.past) ++ slots_text clock low high (take (ss.current.number % SESSIONS) ss.past)
-    ++ session_text clock low high ss.current
+unfoldable pub sessions_text : Clock → ℕ → ℕ → Option Route → Sessions → List ℕ
+sessions_text clock low high at ss =
+    slots_text clock low high at (drop (ss.current.number % SESSIONS) ss.past) ++ slots_text clock low high at (take (ss.current.number % SESSIONS) ss.past)
+    ++ session_text clock low high at ss.current

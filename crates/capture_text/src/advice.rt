@@ -2,7 +2,7 @@
 
 ghost use Rattle.std.specs.Prelude.{◌≡◌, OnOk};
 ghost use Rattle.std.specs.Io.KnownBytes.{Appends};
-ghost use Rattle.capture_text.specs.Advice.{advice_lines, advice_text, advices_text, connection_text, delay_reason, delay_text, difference_reason, difference_text, few_word, from_text, load_text, advice_front, none_text, rule_text, settings_lines, settings_text, t_h_text, t_max_text, t_seq_text, three_text, units_text, units_word, window_text, within_delay};
+ghost use Rattle.capture_text.specs.Advice.{advice_lines, advice_text, advices_text, recording_advice_text, connection_text, delay_reason, delay_text, difference_reason, difference_text, few_word, from_text, load_text, advice_front, none_text, nothing_text, rule_text, settings_lines, settings_text, t_h_text, t_max_text, t_seq_text, three_text, units_text, units_word, window_text, within_delay};
 
 use crate::distributions::write_measured;
 use crate::settings_rule::{ChosenSettings, Delays, Network, choose, find_delays, observe};
@@ -29,9 +29,33 @@ pub(crate) fn write_advice<W: Write>(
         (advice_lines asked connections.now)) }
 {
     if asked {
-        return write_all(writer, connections);
+        return write_any(writer, connections);
     }
     Ok(())
+}
+
+/// Writes the lines of all connections, or that there are none.
+fn write_any<W: Write>(writer: &mut W, connections: &[Entry]) -> io::Result<()>
+    // On success the lines of all `connections` are appended; without any, one line says how to proceed
+    // (`recording_advice_text`).
+    ensures { OnOk result (Appends (W.contents writer.old) (W.contents writer.new)
+        (recording_advice_text connections.now)) }
+{
+    match connections {
+        [] => write_nothing(writer),
+        [_, ..] => write_all(writer, connections),
+    }
+}
+
+/// Writes that there is nothing to choose from.
+fn write_nothing<W: Write>(writer: &mut W) -> io::Result<()>
+    // On success one line is appended, with how to proceed.
+    ensures { OnOk result (Appends (W.contents writer.old) (W.contents writer.new) nothing_text) }
+{
+    write_text(
+        writer,
+        "choose nothing: no PDU of RaSTA was recorded; record both ends, and look at --ports and --code\n",
+    )
 }
 
 /// Writes the lines of all connections.

@@ -4,7 +4,7 @@
 //! the reader under a `Take` holds afterwards. No clause says when a run stops with a fault. `tests/compare/compare_follow`
 //! has a capture of 200,000 lines.
 
-ghost use Rattle.std.specs.Prelude.{◌≡◌, ◌≤◌, ◌<◌, ◌^◌, [], length, is_ok, OnOk, IfOk, IfSome, vec_len};
+ghost use Rattle.std.specs.Prelude.{◌≡◌, ◌≤◌, ◌<◌, ◌^◌, [], length, is_ok, OnOk, IfErr, IfOk, IfSome, vec_len};
 ghost use Rattle.std.specs.Io.Buffered.{reader_remaining};
 ghost use Rattle.std.specs.Io.BufRead.{DropsThrough, take_through};
 ghost use Rattle.std.specs.Io.KnownBytes.{Appends};
@@ -22,7 +22,8 @@ use crate::course::{CaptureReading, FollowOptions, write_fault};
 use crate::frames::{FrameFault, write_frame_fault};
 use crate::line_reader::{LINE_MAX, take_line};
 use capture::{
-    BlockContent, BlockFrame, Buffer, FileFault, FilePart, LineFault, PAYLOAD_ROOM, Recording,
+    BlockContent, BlockFrame, Buffer, Entry, FileFault, FilePart, LineFault, PAYLOAD_ROOM,
+    Recording,
 };
 use std::alloc::{Allocator, Global};
 use std::io;
@@ -338,9 +339,23 @@ fn follow_line<W: Write, E: Write>(
     ensures told { OnOk result (Appends (E.contents err.old) (E.contents err.new)
         (line_fault asked.now (state_of course.old) line.now)) }
 {
-    take_any(course, asked, line, buffer, writer, err)?;
+    let spare = take_spare(course)?;
+    take_any(course, asked, line, buffer, spare, writer, err)?;
     write_due(course, asked, writer)?;
     Ok(())
+}
+
+/// Takes an entry for a connection that the next line or frame may begin.
+fn take_spare(course: &mut CaptureReading) -> Result<Entry, Stop>
+    // Nothing is read: every count and connection stays, also if there is too little memory.
+    ensures state { state_of course.new ≡ state_of course.old }
+    // Too little memory stops the run with `Memory`.
+    ensures refused { IfErr result (λ why. why ≡ Stop.Memory) }
+{
+    match course.take_spare() {
+        Ok(spare) => Ok(spare),
+        Err(_) => Err(Stop::Memory),
+    }
 }
 
 /// Prints the sums if they are due.
@@ -367,6 +382,7 @@ fn take_any<W: Write, E: Write>(
     asked: &FollowOptions,
     line: &[u8],
     buffer: &mut Buffer,
+    spare: Entry,
     writer: &mut W,
     err: &mut E,
 ) -> Result<(), Stop>
@@ -381,9 +397,17 @@ fn take_any<W: Write, E: Write>(
         (line_fault asked.now (state_of course.old) line.now)) }
 {
     if line.len() > LINE_MAX {
-        return take_long(course, err);
+        return take_long(course, spare, err);
     }
-    take_text(course, asked, without_feed(line), buffer, writer, err)
+    take_text(
+        course,
+        asked,
+        without_feed(line),
+        buffer,
+        spare,
+        writer,
+        err,
+    )
 }
 
 /// Follows the blocks of a recording to its end or its first fault.
@@ -475,6 +499,7 @@ fn take_text<W: Write, E: Write>(
     asked: &FollowOptions,
     line: &[u8],
     buffer: &mut Buffer,
+    spare: Entry,
     writer: &mut W,
     err: &mut E,
 ) -> Result<(), Stop>
@@ -487,7 +512,7 @@ fn take_text<W: Write, E: Write>(
     ensures told { OnOk result (Appends (E.contents err.old) (E.contents err.new)
         (text_fault asked.now (state_of course.old) line.now)) }
 {
-    match course.take_line(asked, line, buffer, writer) {
+    match course.take_line(asked, line, buffer, spare, writer) {
         Ok(None) => Ok(()),
         Ok(Some(fault)) => tell(err, course.lines, fault),
         Err(error) => Err(stop_at_output(&error)),
@@ -495,13 +520,14 @@ fn take_text<W: Write, E: Write>(
 }
 
 /// Adds a line that is too long to be kept.
-fn take_long<E: Write>(course: &mut CaptureReading, err: &mut E) -> Result<(), Stop>
+fn take_long<E: Write>(course: &mut CaptureReading, spare: Entry, err: &mut E) -> Result<(), Stop>
     // Both the lines and the unreadable lines grow by 1; nothing else changes (`with_long`).
     ensures read { state_of course.new ≡ with_long (state_of course.old) }
     // On success the fault for a long line is appended to `err`, with the number of the line.
     ensures told { OnOk result (Appends (E.contents err.old) (E.contents err.new)
         (fault_text (limited_sum course.old.lines 1) LineFault.Long)) }
 {
+    course.following.connections.keep_spare(spare);
     course.pass_long();
     tell(err, course.lines, LineFault::Long)
 }
@@ -612,7 +638,8 @@ fn take_shown<W: Write, E: Write>(
         (frame_fault asked.now (state_of course.old) framed.now.link framed.now.time
         (payload_at framed.now.start framed.now.end block.now))) }
 {
-    take_framed(course, asked, framed, block, writer, err)?;
+    let spare = take_spare(course)?;
+    take_framed(course, asked, framed, block, spare, writer, err)?;
     write_due(course, asked, writer)?;
     Ok(())
 }
@@ -623,6 +650,7 @@ fn take_framed<W: Write, E: Write>(
     asked: &FollowOptions,
     framed: &BlockFrame,
     block: &[u8],
+    spare: Entry,
     writer: &mut W,
     err: &mut E,
 ) -> Result<(), Stop>
@@ -643,7 +671,7 @@ fn take_framed<W: Write, E: Write>(
         (payload_at framed.now.start framed.now.end block.now))) }
 {
     let octets = &block[framed.start..framed.end];
-    match course.take_frame(asked, framed.link, framed.time, octets, writer) {
+    match course.take_frame(asked, framed.link, framed.time, octets, spare, writer) {
         Ok(None) => Ok(()),
         Ok(Some(fault)) => tell_frame(err, course.lines, fault),
         Err(error) => Err(stop_at_output(&error)),

@@ -21,8 +21,8 @@ use crate::skips::SkipCounts;
 use crate::summary::{CaptureCounts, Scale, write_summary};
 use crate::telegrams::write_telegrams;
 use capture::{
-    Buffer, DecodedDatagram, Follower, LineFault, PAYLOAD_ROOM, Ports, Record, Remark, Span, hear,
-    read_line,
+    Buffer, DecodedDatagram, Entry, Follower, LineFault, PAYLOAD_ROOM, Ports, Record, Remark, Span,
+    hear, read_line,
 };
 use safe_pdu::CodeRule;
 use std::alloc::{AllocError, Global};
@@ -94,7 +94,7 @@ pub struct CaptureReading {
 }
 
 impl CaptureReading {
-    /// Returns the state before the first line, with the memory for all connections.
+    /// Returns the state before the first line.
     ///
     /// # Errors
     ///
@@ -139,7 +139,8 @@ impl CaptureReading {
     /// Adds a line without its line feed, and writes what is printed of it. Returns the fault of a line that is not a
     /// datagram.
     ///
-    /// A datagram that is passed over counts only as a line and by its kind. `buffer` is for the payload.
+    /// A datagram that is passed over counts only as a line and by its kind. `buffer` is for the payload, and `spare` for
+    /// a connection that begins (`take_spare`).
     ///
     /// # Errors
     ///
@@ -149,6 +150,7 @@ impl CaptureReading {
         asked: &FollowOptions,
         line: &[u8],
         buffer: &mut Buffer,
+        spare: Entry,
         writer: &mut W,
     ) -> io::Result<Option<LineFault>>
         // The count of lines grows by 1 for every line.
@@ -208,8 +210,20 @@ impl CaptureReading {
         self.lines = self.lines.saturating_add(1);
         let (size, heard) = hear_line(asked, self.first, line, buffer);
         pass_line(&mut self.passed, &heard);
-        let found = follow(&mut self.following, self.lines, heard);
+        let found = follow(&mut self.following, self.lines, heard, spare);
         self.tell(asked, found, &buffer[..size], writer)
+    }
+
+    /// Returns an entry for a connection that the next line or frame may begin.
+    ///
+    /// # Errors
+    ///
+    /// `AllocError` if there is too little memory.
+    pub fn take_spare(&mut self) -> Result<Entry, AllocError>
+        // Nothing is counted, and no connection changes, also if there is too little memory.
+        ensures { self.new ≡ self.old }
+    {
+        self.following.connections.take_spare()
     }
 
     /// Adds a line that was too long to be kept.
@@ -455,6 +469,7 @@ fn follow(
     following: &mut Follower,
     number: u64,
     heard: Result<(Record, DecodedDatagram), SkipCause>,
+    spare: Entry,
 ) -> Result<(Record, Remark), SkipCause>
     // The result is the remark on a datagram that is followed; the reason for any other stays (`line_remark`).
     ensures found { result ≡ line_remark following.old.connections number heard }
@@ -476,10 +491,13 @@ fn follow(
 {
     match heard {
         Ok((record, heard)) => {
-            let remark = following.hear(number, &record, &heard);
+            let remark = following.hear(number, &record, &heard, spare);
             Ok((record, remark))
         }
-        Err(why) => Err(why),
+        Err(why) => {
+            following.connections.keep_spare(spare);
+            Err(why)
+        }
     }
 }
 

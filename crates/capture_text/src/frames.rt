@@ -13,7 +13,8 @@ ghost use Rattle.capture_text.specs.Steps.{first_of, first_skipped, skip_reason,
 
 use crate::course::{CaptureReading, FollowOptions, start, write_wanted};
 use capture::{
-    FoundDatagram, Link, NoDatagramCause, Record, find_datagram, hear, is_between, is_followed,
+    Entry, FoundDatagram, Link, NoDatagramCause, Record, find_datagram, hear, is_between,
+    is_followed,
 };
 use std::io;
 use std::io::Write;
@@ -60,7 +61,7 @@ pub(crate) enum FrameContent {
 impl CaptureReading {
     /// Adds a frame of a recording, and writes what is printed of its datagram. Returns why a datagram is not read.
     ///
-    /// Each frame counts as a line, even if it carries something else.
+    /// Each frame counts as a line, even if it carries something else. `spare` is for a connection that begins.
     ///
     /// # Errors
     ///
@@ -71,6 +72,7 @@ impl CaptureReading {
         link: Option<Link>,
         time: u64,
         octets: &[u8],
+        spare: Entry,
         writer: &mut W,
     ) -> io::Result<Option<FrameFault>>
         requires { length octets.now < 2 ^ 32 }
@@ -126,15 +128,17 @@ impl CaptureReading {
         self.passed.count_frame(&seen);
         match seen {
             FrameContent::Other(why) => {
+                self.following.connections.keep_spare(spare);
                 self.first = first_with(self.first, why);
                 Ok(None)
             }
             FrameContent::Unread(fault) => {
+                self.following.connections.keep_spare(spare);
                 self.unreadable = self.unreadable.saturating_add(1);
                 Ok(Some(fault))
             }
             FrameContent::Datagram(record, start, end) => {
-                self.take_datagram(asked, &record, &octets[start..end], writer)?;
+                self.take_datagram(asked, &record, &octets[start..end], spare, writer)?;
                 Ok(None)
             }
         }
@@ -146,6 +150,7 @@ impl CaptureReading {
         asked: &FollowOptions,
         record: &Record,
         payload: &[u8],
+        spare: Entry,
         writer: &mut W,
     ) -> io::Result<()>
         // The datagram itself is not counted as a line.
@@ -188,7 +193,7 @@ impl CaptureReading {
     {
         let number = self.lines;
         let heard = hear(payload, &asked.rule);
-        let remark = self.following.hear(number, record, &heard);
+        let remark = self.following.hear(number, record, &heard, spare);
         let first = start(self.first, record.time);
         self.first = Some(first);
         self.latest = record.time;

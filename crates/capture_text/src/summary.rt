@@ -3,7 +3,7 @@
 ghost use Rattle.std.specs.Prelude.{◌≡◌, ◌<◌, OnOk};
 ghost use Rattle.std.specs.Io.KnownBytes.{Appends};
 ghost use Rattle.capture.specs.WholeCapture.{totals_of};
-ghost use Rattle.capture_text.specs.SummaryText.{all_text, datagram_count_text, connection_text, connections_text, counts_text, damaged_count_text, date_text, datagrams_of, datagrams_text, direction_text, disconnect_text, first_lines, half_text, kinds_text, known_channel_text, last_text, longest_text, maybe_channel_text, numbers_text, oldest_text, opening_text, other_totals_text, others_text, place_text, places_text, route_text, silence_text, sum_text, summary_text, tally_text, totals_text};
+ghost use Rattle.capture_text.specs.SummaryText.{all_text, datagram_count_text, connection_text, connections_text, has_identifiers, is_ambiguous, telling_route, counts_text, damaged_count_text, date_text, datagrams_of, datagrams_text, direction_text, disconnect_text, first_lines, half_text, kinds_text, known_channel_text, last_text, longest_text, maybe_channel_text, numbers_text, oldest_text, opening_text, other_totals_text, others_text, place_text, places_text, route_text, silence_text, sum_text, summary_text, tally_text, totals_text};
 
 use crate::pieces::{
     Clock, channel_name, remark_on_limit, write_address, write_duration, write_ends, write_since,
@@ -105,12 +105,61 @@ fn write_connections<W: Write>(
 ) -> io::Result<()>
     // On success the lines of each of the `connections` are appended, in order.
     ensures { OnOk result (Appends (W.contents writer.old) (W.contents writer.new)
-        (connections_text scale connections.now)) }
+        (connections_text scale connections.now connections.now)) }
 {
     for entry in connections {
-        write_connection(writer, scale, &entry.connection)?;
+        write_listed(writer, scale, connections, &entry.connection)?;
     }
     Ok(())
+}
+
+/// Writes the lines of one of these connections.
+fn write_listed<W: Write>(
+    writer: &mut W,
+    scale: Scale,
+    connections: &[Entry],
+    connection: &Connection,
+) -> io::Result<()>
+    // On success the lines of this `connection` are appended, with addresses if its identifiers are ambiguous among
+    // the `connections`.
+    ensures { OnOk result (Appends (W.contents writer.old) (W.contents writer.new)
+        (connection_text scale (telling_route connections.now connection.now) connection.now)) }
+{
+    let at = telling_route(connections, connection);
+    write_connection(writer, scale, at, connection)
+}
+
+/// Returns the addresses of a connection's first channel, if several connections have its identifiers.
+fn telling_route(connections: &[Entry], connection: &Connection) -> Option<Route>
+    // Without another connection of the same identifiers there are none (`telling_route`).
+    ensures { result ≡ telling_route connections.now connection.now }
+{
+    if is_ambiguous(connections, connection) {
+        return connection.routes[0];
+    }
+    None
+}
+
+/// Returns `true` if several connections have the identifiers of this one.
+fn is_ambiguous(connections: &[Entry], connection: &Connection) -> bool
+    // The connections with both identifiers are counted.
+    ensures { result ≡ is_ambiguous connections.now connection.now }
+{
+    let low = connection.low;
+    let high = connection.high;
+    let same = connections
+        .iter()
+        .filter(|entry| has_identifiers(&entry.connection, low, high))
+        .count();
+    same > 1
+}
+
+/// Returns `true` if a connection has these identifiers.
+fn has_identifiers(connection: &Connection, low: u32, high: u32) -> bool
+    // The result is true exactly if `low` and `high` are the identifiers of the `connection`, in this order.
+    ensures { result ≡ has_identifiers low high connection.now }
+{
+    connection.low == low && connection.high == high
 }
 
 /// Writes the lines of a connection.
@@ -118,17 +167,19 @@ fn write_connections<W: Write>(
 fn write_connection<W: Write>(
     writer: &mut W,
     scale: Scale,
+    at: Option<Route>,
     connection: &Connection,
 ) -> io::Result<()>
-    // On success the lines of the lower end, of the other end, and of the sessions, and the sentence are appended.
+    // On success the lines of the lower end, of the other end, and of the sessions with the addresses in `at`, and the
+    // sentence are appended.
     ensures { OnOk result (Appends (W.contents writer.old) (W.contents writer.new)
-        (connection_text scale connection.now)) }
+        (connection_text scale at connection.now)) }
 {
     let ends = (connection.low, connection.high);
     let back = (connection.high, connection.low);
     write_half(writer, scale, ends, connection, &connection.from_low)?;
     write_half(writer, scale, back, connection, &connection.from_high)?;
-    write_sessions(writer, scale.clock, ends, &connection.sessions)?;
+    write_sessions(writer, scale.clock, ends, at, &connection.sessions)?;
     write_sentence(writer, scale, connection)?;
     Ok(())
 }

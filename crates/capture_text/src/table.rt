@@ -2,34 +2,37 @@
 
 ghost use Rattle.std.specs.Prelude.{◌≡◌, OnOk, None, Some};
 ghost use Rattle.std.specs.Io.KnownBytes.{Appends};
-ghost use Rattle.capture_text.specs.TableText.{again_text, maybe_request_text, asker_of, request_text, start_text, up_text, down_text, end_text, session_events_text, is_kept, no_disconnect_text, disconnect_text, maybe_disconnect_text, session_losses_text, number_text, outcome_text, own_text, repeats_in, resent_in, session_text, sessions_text, slot_text, slots_text, waits_text};
+ghost use Rattle.capture_text.specs.TableText.{again_text, maybe_request_text, maybe_at_text, at_text, asker_of, request_text, start_text, up_text, down_text, end_text, session_events_text, is_kept, no_disconnect_text, disconnect_text, maybe_disconnect_text, session_losses_text, number_text, outcome_text, own_text, repeats_in, resent_in, session_text, sessions_text, slot_text, slots_text, waits_text};
 
-use crate::pieces::{Clock, write_since};
+use crate::pieces::{Clock, write_address, write_since};
 use crate::reasons::write_reasons;
 use capture::{
-    Disconnection, Session, SessionRequest, Sessions, is_unanswered, lost_alone, lost_everywhere,
+    Disconnection, Route, Session, SessionRequest, Sessions, is_unanswered, lost_alone,
+    lost_everywhere,
 };
 use pdu_text::write_text;
 use std::io;
 use std::io::Write;
 
-/// Writes a line for each session of a connection, the oldest kept one first. `ends` are its identifiers.
+/// Writes a line for each session of a connection, the oldest kept one first. `ends` are its identifiers, and `at` its
+/// addresses if it needs them to be told apart.
 #[tactic(auto, unfolding(crate::specs::TableText::sessions_text))]
 pub(crate) fn write_sessions<W: Write>(
     writer: &mut W,
     clock: Clock,
     ends: (u32, u32),
+    at: Option<Route>,
     sessions: &Sessions,
 ) -> io::Result<()>
     // On success the lines of the kept sessions are appended in order of their numbers, then that of the current one
     // (`sessions_text`).
     ensures { OnOk result (Appends (W.contents writer.old) (W.contents writer.new)
-        (sessions_text clock ends.0 ends.1 sessions.now)) }
+        (sessions_text clock ends.0 ends.1 at sessions.now)) }
 {
     let oldest = (sessions.current.number % 64) as usize;
-    write_slots(writer, clock, ends, &sessions.past[oldest..])?;
-    write_slots(writer, clock, ends, &sessions.past[..oldest])?;
-    write_session(writer, clock, ends, &sessions.current)?;
+    write_slots(writer, clock, ends, at, &sessions.past[oldest..])?;
+    write_slots(writer, clock, ends, at, &sessions.past[..oldest])?;
+    write_session(writer, clock, ends, at, &sessions.current)?;
     Ok(())
 }
 
@@ -38,14 +41,15 @@ fn write_slots<W: Write>(
     writer: &mut W,
     clock: Clock,
     ends: (u32, u32),
+    at: Option<Route>,
     slots: &[Option<Session>],
 ) -> io::Result<()>
     // On success the line of each place that has a session is appended, in the order of `slots`.
     ensures { OnOk result (Appends (W.contents writer.old) (W.contents writer.new)
-        (slots_text clock ends.0 ends.1 slots.now)) }
+        (slots_text clock ends.0 ends.1 at slots.now)) }
 {
     for slot in slots {
-        write_slot(writer, clock, ends, slot)?;
+        write_slot(writer, clock, ends, at, slot)?;
     }
     Ok(())
 }
@@ -55,15 +59,16 @@ fn write_slot<W: Write>(
     writer: &mut W,
     clock: Clock,
     ends: (u32, u32),
+    at: Option<Route>,
     slot: &Option<Session>,
 ) -> io::Result<()>
     // On success the line is appended if there is a session in this `slot`.
     ensures { OnOk result (Appends (W.contents writer.old) (W.contents writer.new)
-        (slot_text clock ends.0 ends.1 slot.now)) }
+        (slot_text clock ends.0 ends.1 at slot.now)) }
 {
     match slot {
         None => Ok(()),
-        Some(session) => write_session(writer, clock, ends, session),
+        Some(session) => write_session(writer, clock, ends, at, session),
     }
 }
 
@@ -73,13 +78,14 @@ fn write_session<W: Write>(
     writer: &mut W,
     clock: Clock,
     ends: (u32, u32),
+    at: Option<Route>,
     session: &Session,
 ) -> io::Result<()>
     // On success the line is appended: how the session began, how it ended, and what happened in it.
     ensures { OnOk result (Appends (W.contents writer.old) (W.contents writer.new)
-        (session_text clock ends.0 ends.1 session.now)) }
+        (session_text clock ends.0 ends.1 at session.now)) }
 {
-    write_beginning(writer, clock, ends, session)?;
+    write_beginning(writer, clock, ends, at, session)?;
     write_ended(writer, clock, ends, session)?;
     write_happened(writer, ends, session)?;
     Ok(())
@@ -91,14 +97,17 @@ fn write_beginning<W: Write>(
     writer: &mut W,
     clock: Clock,
     ends: (u32, u32),
+    at: Option<Route>,
     session: &Session,
 ) -> io::Result<()>
-    // On success its number, its ConnReq and its ConnResp are appended, or that they were not recorded.
+    // On success its number, its addresses if there are any in `at`, its ConnReq and its ConnResp are appended, or that
+    // they were not recorded.
     ensures { OnOk result (Appends (W.contents writer.old) (W.contents writer.new)
-        (start_text clock ends.0 ends.1 session.now)) }
+        (start_text clock ends.0 ends.1 at session.now)) }
 {
     let unanswered = is_unanswered(session);
     write_number(writer, session.number, ends)?;
+    write_any_place(writer, at)?;
     write_asked(writer, clock, ends, session.asked)?;
     write_outcome(writer, clock, session.up, unanswered)?;
     Ok(())
@@ -113,6 +122,29 @@ fn write_number<W: Write>(writer: &mut W, number: u64, ends: (u32, u32)) -> io::
 {
     let (low, high) = ends;
     write!(writer, "session {number} of {low}-{high}")
+}
+
+/// Writes the addresses of a connection, if it needs them.
+fn write_any_place<W: Write>(writer: &mut W, at: Option<Route>) -> io::Result<()>
+    // On success the addresses in `at` are appended, if there are any (`maybe_at_text`).
+    ensures { OnOk result (Appends (W.contents writer.old) (W.contents writer.new) (maybe_at_text at)) }
+{
+    match at {
+        None => Ok(()),
+        Some(route) => write_place(writer, route),
+    }
+}
+
+/// Writes the addresses of a connection.
+#[tactic(auto, unfolding(crate::specs::TableText::at_text))]
+fn write_place<W: Write>(writer: &mut W, route: Route) -> io::Result<()>
+    // On success both addresses of the `route` are appended after a word, the lower end's first (`at_text`).
+    ensures { OnOk result (Appends (W.contents writer.old) (W.contents writer.new) (at_text route)) }
+{
+    write_text(writer, " at ")?;
+    write_address(writer, route.low)?;
+    write_text(writer, "-")?;
+    write_address(writer, route.high)
 }
 
 /// Writes the ConnReq of a session.

@@ -8,6 +8,7 @@ use capture::{
 };
 use red_layer::pdu::RedFault;
 use safe_pdu::{CodeLength, CodeRule, Kind, Leaving, SafeFault};
+use std::alloc::Global;
 use std::test::Fail;
 
 const HEARTBEAT: &[u8] =
@@ -158,6 +159,32 @@ fn pdu(seq: u32, ends: (u32, u32), sn: u32, stamps: (u32, u32)) -> DecodedDatagr
     )
 }
 
+/// A capture in a test.
+#[derive(Drop)]
+struct CaptureTest {
+    following: Follower,
+}
+
+impl CaptureTest {
+    /// Returns a capture without datagrams.
+    fn new(alloc: Global) -> Result<Self, Fail> {
+        Ok(CaptureTest {
+            following: Follower::new(alloc)?,
+        })
+    }
+
+    /// Adds a datagram on this line.
+    fn hear(
+        &mut self,
+        line: u64,
+        record: &Record,
+        heard: &DecodedDatagram,
+    ) -> Result<Remark, Fail> {
+        let spare = self.following.connections.take_spare()?;
+        Ok(self.following.hear(line, record, heard, spare))
+    }
+}
+
 /// What is remarkable in a PDU.
 fn told(remark: Remark) -> Option<Remarks> {
     match remark {
@@ -192,16 +219,16 @@ fn remarks(
 // A damaged datagram whose good copy the receiver drops as old, and a RetrReq for a PDU that was recorded.
 #[test]
 fn names_damage_and_what_is_asked_for(rt: HostRuntime) -> Result<(), Fail> {
-    let mut all = Follower::new(rt.alloc())?;
-    let _first = all.hear(1, &record(1000, 0, false), &pdu(5, (1, 2), 10, (100, 0)));
-    let _copy = all.hear(2, &record(1010, 1, false), &pdu(5, (1, 2), 10, (100, 0)));
+    let mut all = CaptureTest::new(rt.alloc())?;
+    let _first = all.hear(1, &record(1000, 0, false), &pdu(5, (1, 2), 10, (100, 0)))?;
+    let _copy = all.hear(2, &record(1010, 1, false), &pdu(5, (1, 2), 10, (100, 0)))?;
     let damaged = DecodedDatagram::NoSafe(6, SafeFault::Code);
-    let _damaged = all.hear(3, &record(2000, 0, false), &damaged);
-    let late = told(all.hear(4, &record(2020, 1, false), &pdu(6, (1, 2), 11, (200, 0))));
+    let _damaged = all.hear(3, &record(2000, 0, false), &damaged)?;
+    let late = told(all.hear(4, &record(2020, 1, false), &pdu(6, (1, 2), 11, (200, 0)))?);
     assert_equal(&rt, late.map(|remarks| remarks.damaged), Some(Some(3)));
-    let again = told(all.hear(5, &record(2030, 0, false), &pdu(6, (1, 2), 11, (200, 0))));
+    let again = told(all.hear(5, &record(2030, 0, false), &pdu(6, (1, 2), 11, (200, 0)))?);
     assert_equal(&rt, again.map(|remarks| remarks.damaged), Some(None));
-    let next = told(all.hear(6, &record(2040, 1, false), &pdu(7, (1, 2), 12, (210, 0))));
+    let next = told(all.hear(6, &record(2040, 1, false), &pdu(7, (1, 2), 12, (210, 0)))?);
     assert_equal(&rt, next.map(|remarks| remarks.damaged), Some(None));
     let request = Header {
         kind: Kind::RetrReq,
@@ -214,16 +241,16 @@ fn names_damage_and_what_is_asked_for(rt: HostRuntime) -> Result<(), Fail> {
         fingerprint: 1,
         leaving: None,
     };
-    let asks = told(all.hear(7, &record(2100, 0, true), &DecodedDatagram::Pdu(0, request)));
+    let asks = told(all.hear(7, &record(2100, 0, true), &DecodedDatagram::Pdu(0, request))?);
     assert_equal(&rt, asks.map(|remarks| remarks.asks), Some(Some(4)));
-    let copy = told(all.hear(8, &record(2110, 1, true), &DecodedDatagram::Pdu(0, request)));
+    let copy = told(all.hear(8, &record(2110, 1, true), &DecodedDatagram::Pdu(0, request))?);
     assert_equal(&rt, copy.map(|remarks| remarks.asks), Some(None));
     let request = Header {
         sn: 901,
         cs: 12,
         ..request
     };
-    let asks = told(all.hear(9, &record(2200, 0, true), &DecodedDatagram::Pdu(1, request)));
+    let asks = told(all.hear(9, &record(2200, 0, true), &DecodedDatagram::Pdu(1, request))?);
     assert_equal(&rt, asks.map(|remarks| remarks.asks), Some(None));
     Ok(())
 }
@@ -231,8 +258,8 @@ fn names_damage_and_what_is_asked_for(rt: HostRuntime) -> Result<(), Fail> {
 // Two channels: a copy, a gap that is closed late on the other channel, an answer with its age, and a repeat.
 #[test]
 fn follows_two_channels(rt: HostRuntime) -> Result<(), Fail> {
-    let mut all = Follower::new(rt.alloc())?;
-    let first = told(all.hear(1, &record(1000, 0, false), &pdu(0, (1, 2), 10, (100, 0))));
+    let mut all = CaptureTest::new(rt.alloc())?;
+    let first = told(all.hear(1, &record(1000, 0, false), &pdu(0, (1, 2), 10, (100, 0)))?);
     assert_equal(
         &rt,
         first,
@@ -244,13 +271,13 @@ fn follows_two_channels(rt: HostRuntime) -> Result<(), Fail> {
             None,
         ),
     );
-    let copy = told(all.hear(2, &record(1001, 1, false), &pdu(0, (1, 2), 10, (100, 0))));
+    let copy = told(all.hear(2, &record(1001, 1, false), &pdu(0, (1, 2), 10, (100, 0)))?);
     assert_equal(
         &rt,
         copy,
         remarks(1, NumberOrder::First, NumberOrder::Repeat(1), None, None),
     );
-    let gap = told(all.hear(3, &record(4000, 0, false), &pdu(3, (1, 2), 13, (130, 0))));
+    let gap = told(all.hear(3, &record(4000, 0, false), &pdu(3, (1, 2), 13, (130, 0)))?);
     assert_equal(
         &rt,
         gap,
@@ -262,7 +289,7 @@ fn follows_two_channels(rt: HostRuntime) -> Result<(), Fail> {
             None,
         ),
     );
-    let late = told(all.hear(4, &record(4100, 1, false), &pdu(1, (1, 2), 11, (110, 0))));
+    let late = told(all.hear(4, &record(4100, 1, false), &pdu(1, (1, 2), 11, (110, 0)))?);
     assert_equal(
         &rt,
         late,
@@ -274,7 +301,7 @@ fn follows_two_channels(rt: HostRuntime) -> Result<(), Fail> {
             None,
         ),
     );
-    let answer = told(all.hear(5, &record(5000, 0, true), &pdu(7, (2, 1), 500, (9, 100))));
+    let answer = told(all.hear(5, &record(5000, 0, true), &pdu(7, (2, 1), 500, (9, 100)))?);
     assert_equal(
         &rt,
         answer,
@@ -286,7 +313,7 @@ fn follows_two_channels(rt: HostRuntime) -> Result<(), Fail> {
             Some(30),
         ),
     );
-    let again = told(all.hear(6, &record(6000, 0, false), &pdu(3, (1, 2), 13, (130, 0))));
+    let again = told(all.hear(6, &record(6000, 0, false), &pdu(3, (1, 2), 13, (130, 0)))?);
     assert_equal(
         &rt,
         again,
@@ -302,9 +329,9 @@ fn follows_two_channels(rt: HostRuntime) -> Result<(), Fail> {
         7,
         &record(7000, 0, false),
         &DecodedDatagram::NoRed(RedFault::Length),
-    );
+    )?;
     assert_equal(&rt, broken, Remark::NoRed(RedFault::Length));
-    assert_equal(&rt, all.damaged, 1);
+    assert_equal(&rt, all.following.damaged, 1);
     let wanted = Totals {
         heard: 3,
         missing: 1,
@@ -313,29 +340,36 @@ fn follows_two_channels(rt: HostRuntime) -> Result<(), Fail> {
         differing: 0,
         stale: 0,
     };
-    assert_equal(&rt, sum_up(all.gone, all.connections.as_slice()), wanted);
-    assert_equal(&rt, all.datagrams, 7);
+    assert_equal(
+        &rt,
+        sum_up(all.following.gone, all.following.connections.as_slice()),
+        wanted,
+    );
+    assert_equal(&rt, all.following.datagrams, 7);
     Ok(())
 }
 
 // One connection too many takes the place of the one that was silent longest.
 #[test]
 fn forgets_the_one_silent_longest(rt: HostRuntime) -> Result<(), Fail> {
-    let mut all = Follower::new(rt.alloc())?;
+    let mut all = CaptureTest::new(rt.alloc())?;
     for end in 1..258u32 {
         let _remark = all.hear(
             end as u64,
             &record(end as u64, 0, false),
             &pdu(0, (end, 100), 1, (1, 0)),
-        );
+        )?;
     }
-    let ends = all.connections.as_slice();
+    let ends = all.following.connections.as_slice();
     assert_equal(&rt, ends.len(), 256);
     assert_true(&rt, ends.iter().all(|entry| entry.connection.low != 1));
-    assert_equal(&rt, all.forgotten, 1);
+    assert_equal(&rt, all.following.forgotten, 1);
     assert_equal(
         &rt,
-        (all.gone.heard, sum_up(all.gone, ends).heard),
+        (
+            all.following.gone.heard,
+            sum_up(all.following.gone, ends).heard,
+        ),
         (1, 257),
     );
     Ok(())
@@ -344,13 +378,13 @@ fn forgets_the_one_silent_longest(rt: HostRuntime) -> Result<(), Fail> {
 // A connection that an end has left gives way first, even if it was heard last.
 #[test]
 fn forgets_the_one_that_was_left(rt: HostRuntime) -> Result<(), Fail> {
-    let mut all = Follower::new(rt.alloc())?;
+    let mut all = CaptureTest::new(rt.alloc())?;
     for end in 1..257u32 {
         let _remark = all.hear(
             end as u64,
             &record(end as u64, 0, false),
             &pdu(0, (end, 100), 1, (1, 0)),
-        );
+        )?;
     }
     let leaves = Header {
         kind: Kind::DiscReq,
@@ -370,12 +404,16 @@ fn forgets_the_one_that_was_left(rt: HostRuntime) -> Result<(), Fail> {
         257,
         &record(257, 0, false),
         &DecodedDatagram::Pdu(1, leaves),
-    );
-    let _further = all.hear(258, &record(258, 0, false), &pdu(0, (257, 100), 1, (1, 0)));
-    let ends = all.connections.as_slice();
+    )?;
+    let _further = all.hear(258, &record(258, 0, false), &pdu(0, (257, 100), 1, (1, 0)))?;
+    let ends = all.following.connections.as_slice();
     assert_equal(&rt, ends.len(), 256);
     assert_true(&rt, ends.iter().all(|entry| entry.connection.low != 30));
-    assert_equal(&rt, (all.forgotten, all.gone.heard), (1, 2));
+    assert_equal(
+        &rt,
+        (all.following.forgotten, all.following.gone.heard),
+        (1, 2),
+    );
     Ok(())
 }
 
@@ -432,21 +470,21 @@ fn opening(seq: u32, sn: u32, ts: u32) -> DecodedDatagram {
 // A process that was started anew begins with the same octets: behind another PDU of its end on that channel they open.
 #[test]
 fn opens_with_the_same_octets(rt: HostRuntime) -> Result<(), Fail> {
-    let mut all = Follower::new(rt.alloc())?;
+    let mut all = CaptureTest::new(rt.alloc())?;
     for line in [1, 3u64] {
-        let first = told(all.hear(line, &record(line, 0, false), &opening(0, 900, 7)));
+        let first = told(all.hear(line, &record(line, 0, false), &opening(0, 900, 7))?);
         assert_true(&rt, first.is_some_and(|remarks| remarks.opens));
         let beat = told(all.hear(
             line + 1,
             &record(line, 0, false),
             &pdu(1, (1, 2), 901, (9, 0)),
-        ));
+        )?);
         assert_true(
             &rt,
             beat.is_some_and(|remarks| remarks.together == NumberOrder::Next),
         );
     }
-    let copy = told(all.hear(5, &record(5, 1, false), &opening(0, 900, 7)));
+    let copy = told(all.hear(5, &record(5, 1, false), &opening(0, 900, 7))?);
     assert_true(
         &rt,
         copy.is_some_and(|remarks| !remarks.opens && remarks.together == NumberOrder::Repeat(3)),
@@ -457,18 +495,18 @@ fn opens_with_the_same_octets(rt: HostRuntime) -> Result<(), Fail> {
 // A copy more than 31 numbers late changes nothing; a new ConnReq begins all numbers, and a copy of it does not.
 #[test]
 fn opens_again(rt: HostRuntime) -> Result<(), Fail> {
-    let mut all = Follower::new(rt.alloc())?;
+    let mut all = CaptureTest::new(rt.alloc())?;
     for seq in 0..50u32 {
         let at = seq as u64 + 1;
-        let _remark = all.hear(at, &record(at, 0, false), &pdu(seq, (1, 2), seq, (100, 0)));
+        let _remark = all.hear(at, &record(at, 0, false), &pdu(seq, (1, 2), seq, (100, 0)))?;
     }
-    let stale = told(all.hear(51, &record(51, 1, false), &pdu(3, (1, 2), 3, (100, 0))));
+    let stale = told(all.hear(51, &record(51, 1, false), &pdu(3, (1, 2), 3, (100, 0)))?);
     assert_equal(
         &rt,
         stale,
         remarks(1, NumberOrder::First, NumberOrder::Stale, None, None),
     );
-    let next = told(all.hear(52, &record(52, 0, false), &pdu(50, (1, 2), 50, (150, 0))));
+    let next = told(all.hear(52, &record(52, 0, false), &pdu(50, (1, 2), 50, (150, 0)))?);
     assert_equal(
         &rt,
         next,
@@ -495,10 +533,10 @@ fn opens_again(rt: HostRuntime) -> Result<(), Fail> {
     };
     assert_equal(
         &rt,
-        told(all.hear(53, &record(53, 0, false), &opening(0, 900, 7))),
+        told(all.hear(53, &record(53, 0, false), &opening(0, 900, 7))?),
         Some(fresh),
     );
-    let copy = told(all.hear(54, &record(54, 1, false), &opening(0, 900, 7)));
+    let copy = told(all.hear(54, &record(54, 1, false), &opening(0, 900, 7))?);
     assert_equal(
         &rt,
         copy,
@@ -512,28 +550,32 @@ fn opens_again(rt: HostRuntime) -> Result<(), Fail> {
         differing: 0,
         stale: 1,
     };
-    assert_equal(&rt, sum_up(all.gone, all.connections.as_slice()), wanted);
+    assert_equal(
+        &rt,
+        sum_up(all.following.gone, all.following.connections.as_slice()),
+        wanted,
+    );
     Ok(())
 }
 
 // A client that heard nothing leaves directly behind its ConnReq and confirms nothing; a later DiscReq confirms.
 #[test]
 fn ages_no_goodbye_that_confirms_nothing(rt: HostRuntime) -> Result<(), Fail> {
-    let mut all = Follower::new(rt.alloc())?;
+    let mut all = CaptureTest::new(rt.alloc())?;
     let server = DecodedDatagram::Pdu(9, leaving((2, 1), u32::MAX, (1900, 0)));
-    let _remark = all.hear(1, &record(1, 0, true), &server);
-    let _remark = all.hear(2, &record(2, 0, false), &opening(0, u32::MAX, 1600));
+    let _remark = all.hear(1, &record(1, 0, true), &server)?;
+    let _remark = all.hear(2, &record(2, 0, false), &opening(0, u32::MAX, 1600))?;
     let unheard = told(all.hear(
         3,
         &record(3, 0, false),
         &DecodedDatagram::Pdu(1, leaving((1, 2), 0, (1950, 0))),
-    ));
+    )?);
     assert_true(&rt, unheard.is_some_and(|remarks| remarks.age.is_none()));
     let heard = told(all.hear(
         4,
         &record(4, 0, false),
         &DecodedDatagram::Pdu(2, leaving((1, 2), 1, (1960, 0))),
-    ));
+    )?);
     assert_true(&rt, heard.is_some_and(|remarks| remarks.age == Some(1900)));
     Ok(())
 }
@@ -559,19 +601,19 @@ fn leaving(ends: (u32, u32), sn: u32, stamps: (u32, u32)) -> Header {
 // channel the one heard last counts it, and on an unknown pair of addresses none does.
 #[test]
 fn counts_damage_by_channel(rt: HostRuntime) -> Result<(), Fail> {
-    let mut all = Follower::new(rt.alloc())?;
-    let _remark = all.hear(1, &record(1, 0, false), &pdu(0, (1, 2), 10, (100, 0)));
-    let _remark = all.hear(2, &record(2, 1, true), &pdu(0, (2, 1), 20, (200, 100)));
-    let _remark = all.hear(3, &record(3, 3, false), &pdu(1, (1, 2), 11, (110, 0)));
-    let _remark = all.hear(4, &record(4, 1, true), &pdu(0, (5, 4), 30, (300, 0)));
+    let mut all = CaptureTest::new(rt.alloc())?;
+    let _remark = all.hear(1, &record(1, 0, false), &pdu(0, (1, 2), 10, (100, 0)))?;
+    let _remark = all.hear(2, &record(2, 1, true), &pdu(0, (2, 1), 20, (200, 100)))?;
+    let _remark = all.hear(3, &record(3, 3, false), &pdu(1, (1, 2), 11, (110, 0)))?;
+    let _remark = all.hear(4, &record(4, 1, true), &pdu(0, (5, 4), 30, (300, 0)))?;
     let broken = DecodedDatagram::NoRed(RedFault::Length);
-    let _remark = all.hear(5, &record(5, 0, true), &broken);
-    let _remark = all.hear(6, &record(6, 1, false), &broken);
-    let _remark = all.hear(7, &record(7, 1, false), &broken);
-    let _remark = all.hear(8, &record(8, 2, false), &broken);
-    let _remark = all.hear(9, &record(9, 3, false), &broken);
-    assert_equal(&rt, all.damaged, 5);
-    match all.connections.as_slice() {
+    let _remark = all.hear(5, &record(5, 0, true), &broken)?;
+    let _remark = all.hear(6, &record(6, 1, false), &broken)?;
+    let _remark = all.hear(7, &record(7, 1, false), &broken)?;
+    let _remark = all.hear(8, &record(8, 2, false), &broken)?;
+    let _remark = all.hear(9, &record(9, 3, false), &broken)?;
+    assert_equal(&rt, all.following.damaged, 5);
+    match all.following.connections.as_slice() {
         [first, second] => {
             let (first, second) = (&first.connection, &second.connection);
             assert_equal(&rt, first.from_low.damaged, [0, 0, 1, 0]);
@@ -614,7 +656,7 @@ fn confirming(
 // not take does not count. A copy has no wait, and behind a new opening a timestamp from before it has no age.
 #[test]
 fn waits_for_a_confirmation(rt: HostRuntime) -> Result<(), Fail> {
-    let mut all = Follower::new(rt.alloc())?;
+    let mut all = CaptureTest::new(rt.alloc())?;
     let il = (1u32, 2u32);
     let fe = (2u32, 1u32);
     let cases = [
@@ -683,13 +725,13 @@ fn waits_for_a_confirmation(rt: HostRuntime) -> Result<(), Fail> {
     for (channel, heard, age, waits) in cases {
         let back = matches!(heard, DecodedDatagram::Pdu(_, header) if header.sender == 2);
         line = line.wrapping_add(1);
-        let remarks = told(all.hear(line, &record(line, channel, back), &heard));
+        let remarks = told(all.hear(line, &record(line, channel, back), &heard)?);
         assert_true(
             &rt,
             remarks.is_some_and(|remarks| remarks.age == age && remarks.waits == waits),
         );
     }
-    match all.connections.as_slice() {
+    match all.following.connections.as_slice() {
         [pair] => {
             let pair = &pair.connection;
             assert_equal(
