@@ -11,7 +11,8 @@ use Rattle.safe_pdu.specs.declared.reasons.Reason.{Reason}
 use Rattle.safe_pdu.specs.declared.reasons.Reason.TheVariants as reason
 use Rattle.safe_machine.specs.declared.Step.{Step}
 use Rattle.safe_machine.specs.declared.Step.TheVariants as step
-use Rattle.rasta_run.specs.Counters.{channel_under, closing_count_after, count_dropped_on, one_more, count_sent_on}
+use Rattle.rasta_run.specs.Counters.{channel_under, closing_count_after, count_dropped_on, count_sent_on}
+use Rattle.stack_end.specs.Statistics.{one_more}
 use Rattle.rasta_run.specs.Headers.{header_seen, kind_seen}
 use Rattle.rasta_run.specs.LogEvents.{drop_cause, event_cause, last_of, made_event}
 use Rattle.rasta_run.specs.declared.header.Header.{Header}
