@@ -220,9 +220,9 @@ static uint32_t any(uint32_t below) {
     return (random_ >> 16) % below;
 }
 
-/* The notes fetched so far: how many of each kind and value, and the last state and phase. */
+/* The notes fetched so far: how many of each kind and value, and of each fault; and the last state and phase. */
 typedef struct noted {
-    uint64_t count[8][16];
+    uint64_t count[8][16], fault[8][8];
     int last[8];
 } noted;
 
@@ -233,6 +233,8 @@ static void fetch_notes(bek_end *end, noted *n) {
         must(note.what >= BEK_NOTE_STATE && note.what <= BEK_NOTE_TAKE && note.count == 0 && (note.what == BEK_NOTE_TAKE || (note.value >= 0 && note.value < 16)));
         must(note.fault == 0 || (note.what == BEK_NOTE_DATAGRAM ? note.value == BEK_DATAGRAM_DAMAGED : note.what == BEK_NOTE_PDU && note.value == BEK_PDU_DAMAGED));
         n->count[note.what][note.what == BEK_NOTE_TAKE ? 0 : note.value]++;
+        must(note.fault < 8);
+        n->fault[note.what][note.fault]++;
         n->last[note.what] = note.value;
         must(bek_note_text(&note, text, sizeof text) > 5);
     }
@@ -257,6 +259,23 @@ static void disturb(bek_end *from, bek_end *to, noted *n, int loses_all) {
 
 static uint64_t sums[4];
 
+/* Tests that the notes of damage since `before` are what the end has counted since, fault by fault. */
+static void faults_are_counted(const bek_statistics *before, const bek_statistics *later, const noted *n) {
+    const uint64_t *datagrams = n->fault[BEK_NOTE_DATAGRAM], *pdus = n->fault[BEK_NOTE_PDU];
+    const bek_part_faults *a = &before->part_faults, *b = &later->part_faults;
+    uint64_t r[3] = {0};
+    uint32_t c;
+    for (c = 0; c < BEK_CHANNELS_MAX; c++) {
+        const bek_channel_faults *was = &before->channel_faults[c], *is = &later->channel_faults[c];
+        r[0] += is->too_short - was->too_short, r[1] += is->bad_length - was->bad_length, r[2] += is->reserve - was->reserve;
+        must(is->too_short + is->bad_length + is->reserve == later->channels[c].damaged);
+    }
+    for (c = 0; c < 3; c++) must(datagrams[c + 1] == r[c]);
+    must(pdus[1] == b->too_short - a->too_short && pdus[2] == b->bad_length - a->bad_length && pdus[3] == b->bad_code - a->bad_code);
+    must(pdus[4] == b->bad_type - a->bad_type && pdus[5] == b->bad_body - a->bad_body);
+    must(b->too_short + b->bad_length + b->bad_code + b->bad_type + b->bad_body == later->damaged);
+}
+
 /* Tests that the notes since `before` are what the end has counted since. */
 static void noted_is_counted(bek_end *end, const bek_statistics *before, const noted *n) {
     bek_statistics s;
@@ -276,6 +295,7 @@ static void noted_is_counted(bek_end *end, const bek_statistics *before, const n
     must(pdus[BEK_PDU_UNOPENED] == s.unopened - before->unopened && pdus[BEK_PDU_FAR] == s.far - before->far);
     must(pdus[BEK_PDU_UNREQUESTED] == s.unrequested - before->unrequested && pdus[BEK_PDU_ANSWERED] == s.answered - before->answered);
     must(pdus[BEK_PDU_BELOW] == s.below - before->below);
+    faults_are_counted(before, &s, n);
     must(n->count[BEK_NOTE_STATE][bek_state(end)] > 0 ? n->last[BEK_NOTE_STATE] == bek_state(end) : bek_state(end) == BEK_UP);
     sums[0] += r[BEK_DATAGRAM_DAMAGED], sums[1] += pdus[BEK_PDU_DAMAGED], sums[2] += pdus[BEK_PDU_GAP];
 }
