@@ -4,12 +4,26 @@ import re
 from functions import TOP, code_of, items_of, listed, read, words_of
 
 TYPE = re.compile(r'^pub (?:struct|enum|trait|type) (\w+)', re.M)
+STRUCT = re.compile(r'^pub struct (\w+)[^{;]*\{(.*?)^\}', re.M | re.S)
+FIELD = re.compile(r'^ +pub \w+: ([^,]*)', re.M)
 USE = re.compile(r'^ *(?:pub )?use ([^;]*);', re.M)
 EXPORTED = re.compile(r'^pub use (\w+)::(?:(\w+)|\{([^}]*)\});', re.M)
 DEFINED = re.compile(r'^(?:pub (?:record|data)|\w+ pub) (\w+)', re.M)
 GHOST_USE = re.compile(r'ghost use Rattle\.(\w+)\.specs\.([\w.]+?)(?:\.\{([^}]*)\}| as (\w+));')
 TRIED = ('wrong',)  # the folders whose edits are tried, by tests/gate/wrong_bodies
 EDIT = re.compile(r'^file: (.*)\nold: (.*)$', re.M)
+
+
+def types_of_fields(crate, types):
+    """Returns the structs that a caller reaches through the public fields of these types."""
+    structs = {name: body for path in listed('crates', crate, 'src', '**', '*.rt') for name, body in STRUCT.findall(code_of(read(path)))}
+    found, left = set(), list(types & structs.keys())
+    while left:
+        words = words_of(' '.join(FIELD.findall(structs[left.pop()])))
+        further = (words & structs.keys()) - types - found
+        found |= further
+        left += further
+    return found
 
 
 def mark_public(crate, items, traits):
@@ -20,6 +34,7 @@ def mark_public(crate, items, traits):
     heads = [root, *(code_of(read('crates', crate, 'src', f'{name}.rt')) for name in open_modules - {'lib'})]
     names = {name.strip() for head in heads for found in EXPORTED.findall(head) for name in (found[1] or found[2]).split(',')}
     types = {*names, *(name for head in heads for name in TYPE.findall(head))}
+    types |= types_of_fields(crate, types)
     for item in items:
         if item.trait:
             item.is_public = item.owner in types and item.trait in traits

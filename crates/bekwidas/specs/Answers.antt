@@ -27,11 +27,12 @@ use Rattle.bekwidas.specs.declared.handle.Slot.{Slot}
 abbrev pub StaysOpen : (StationValue → StationValue → Type 0) → Slot → Slot → Type 0
 StaysOpen R before after = (after.is_open ≡ 1) × Became R before.handle.held after.handle.held
 
--- if there is a reason to refuse a call, its code is returned and nothing changes; otherwise the call is done, and the code is that of its outcome. With
--- the room for whatever one call sends, no datagram is lost.
+-- if there is a reason to refuse a call, its code is returned and nothing changes; otherwise the call is done, and the
+-- code is that of its outcome. With the room for whatever one call sends, no datagram is lost.
 abbrev pub AnswersCall : Call → Option CallFault → ℤ → StationValue → StationValue → Type 0
 AnswersCall c (Some why) code s t = (code ≡ code_of_fault why) × (t ≡ s)
-AnswersCall c None code s t = (code ≡ code_of_outcome (outcome_of s t)) × Does c s t × (t.time ≡ time_of c) × LosesNone s t
+AnswersCall c None code s t =
+    (code ≡ code_of_outcome (outcome_of s t)) × Does c s t × (t.time ≡ time_of c) × LosesNone s t
 
 -- a received datagram
 abbrev pub AnswersArrive : (channel : ℕ) (octets : List ℕ) (now : ℕ) → ℤ → StationValue → StationValue → Type 0
@@ -53,7 +54,8 @@ AnswersInitDone now code s t = AnswersCall (InitDone now) (refusal_to_init now s
 abbrev pub AnswersClose : (now : ℕ) → ℤ → StationValue → StationValue → Type 0
 AnswersClose now code s t = AnswersCall (Close now) (refusal_to_close now s) code s t
 
--- a reopening that is refused returns the code of the reason and changes nothing; otherwise the code is OK, and the end has opened again
+-- a reopening that is refused returns the code of the reason and changes nothing; otherwise the code is OK, and the end
+-- has opened again
 abbrev pub AnswersReopening : (first now : ℕ) → Option CallFault → ℤ → StationValue → StationValue → Type 0
 AnswersReopening first now (Some why) code s t = (code ≡ code_of_fault why) × (t ≡ s)
 AnswersReopening first now None code s t = (code ≡ OK) × Reopens first now s t
@@ -62,15 +64,18 @@ AnswersReopening first now None code s t = (code ≡ OK) × Reopens first now s 
 abbrev pub AnswersReopen : (first now : ℕ) → ℤ → StationValue → StationValue → Type 0
 AnswersReopen first now code s t = AnswersReopening first now (refusal_to_reopen now s) code s t
 
--- exactly one of three: OK, and the oldest telegram is fetched; TOO_SMALL, and only its length is written; NOTHING, and none waits
-abbrev pub AnswersTake : (kind kind_after length length_after : ℕ) (buffer after : List ℕ) → ℤ → StationValue → StationValue → Type 0
+-- exactly one of three: OK, and the oldest telegram is fetched; TOO_SMALL, and only its length is written; NOTHING, and
+-- none waits
+abbrev pub AnswersTake : (kind kind_after length length_after : ℕ) (buffer after : List ℕ) → ℤ → StationValue
+    → StationValue → Type 0
 AnswersTake kind kind_after length length_after buffer after code s t =
     ((code ≡ OK) × TookTelegram kind_after length_after buffer after s t)
     ⊎ (((code ≡ TOO_SMALL) × StaysTelegram length_after buffer after s t × (kind_after ≡ kind))
     ⊎ ((code ≡ NOTHING) × NoTelegram s t × (kind_after ≡ kind) × (length_after ≡ length) × (after ≡ buffer)))
 
 -- the same for the oldest datagram
-abbrev pub AnswersNextDatagram : (channel channel_after length length_after : ℕ) (buffer after : List ℕ) → ℤ → StationValue → StationValue → Type 0
+abbrev pub AnswersNextDatagram : (channel channel_after length length_after : ℕ) (buffer after : List ℕ) → ℤ
+    → StationValue → StationValue → Type 0
 AnswersNextDatagram channel channel_after length length_after buffer after code s t =
     ((code ≡ OK) × TookDatagram channel_after length_after buffer after s t)
     ⊎ (((code ≡ TOO_SMALL) × StaysDatagram length_after buffer after s t × (channel_after ≡ channel))
@@ -97,7 +102,8 @@ AnswersSettled = ReturnsFact (λ v. if is_settled v then pos 1 else pos 0)
 -- the numbers of waiting telegrams, waiting datagrams and unsent datagrams; the station does not change
 abbrev pub AnswersCounts : Counts → ℤ → StationValue → StationValue → Type 0
 AnswersCounts told code s t =
-    (t ≡ s) × (code ≡ OK) × (told.telegrams ≡ length s.inbox.queue.waiting) × (told.datagrams ≡ length (outbox_of s).queue.waiting)
+    (t ≡ s) × (code ≡ OK) × (told.telegrams ≡ length s.inbox.queue.waiting)
+    × (told.datagrams ≡ length (outbox_of s).queue.waiting)
     × (told.unsent ≡ (outbox_of s).unsent)
 
 -- OK and all counts of the end; the station does not change
@@ -118,7 +124,13 @@ AnswersConfirmedTime time code s t = (t ≡ s) × (code ≡ OK) × (time ≡ (in
 
 -- a departure in numbers
 abbrev pub departure_of : Departure → PlainDeparture
-departure_of d = record { time = d.time; by = code_of_leaver d.by; reason = d.reason; detail = d.detail; version = code_of_version d.version }
+departure_of d = record {
+  time = d.time;
+  by = code_of_leaver d.by;
+  reason = d.reason;
+  detail = d.detail;
+  version = code_of_version d.version;
+}
 
 -- OK and the departure is written, if there is one; otherwise NOTHING, and nothing is written
 abbrev pub TellsDeparture : Option Departure → (before after : PlainDeparture) → ℤ → Type 0
@@ -142,4 +154,5 @@ TellsNote None before after code = (code ≡ NOTHING) × (after ≡ before)
 -- the note that is next: it is gone, and nothing else changes
 abbrev pub AnswersNextNote : (before after : PlainNote) → ℤ → StationValue → StationValue → Type 0
 AnswersNextNote before after code s t =
-    TellsNote (next_of (outbox_of s).notes) before after code × ((outbox_of t).notes ≡ rest_of (outbox_of s).notes) × SameButNotes s t
+    TellsNote (next_of (outbox_of s).notes) before after code × ((outbox_of t).notes ≡ rest_of (outbox_of s).notes)
+    × SameButNotes s t

@@ -61,7 +61,8 @@ code_of_opening opening.Memory = NO_MEMORY
 abbrev pub code_to_open : PlainSettings → ℕ → ℤ
 code_to_open s now =
     if not (s.size == PLAIN_SETTINGS_SIZE) then SETTINGS_SIZE
-    else option_map_or (λ o. option_map_or code_of_opening (refusal_to_open o.side o.config o.rooms now) OK) (opening_of s) BAD_SETTINGS
+    else option_map_or (λ o. option_map_or code_of_opening (refusal_to_open o.side o.config o.rooms now) OK)
+    (opening_of s) BAD_SETTINGS
 
 -- the code of a call
 abbrev pub code_of_answer : Result Outcome CallFault → ℤ

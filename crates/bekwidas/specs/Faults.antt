@@ -1,4 +1,5 @@
--- The setting that is wrong, with its value and range; settings with which an end opens and works badly; rooms that are always enough.
+-- The setting that is wrong, with its value and range; settings with which an end opens and works badly; rooms that are
+-- always enough.
 use Rattle.std.specs.Prelude.{◌≡◌, ◌+◌, ◌-◌, ◌*◌, ◌^◌, ◌/◌, min, ℕ, ℤ, Bool, true, not, ◌&&◌, ◌||◌, ◌==◌, nat_le, nat_lt, is_some, Option, Some, None, take, if◌then◌else◌}
 use Rattle.pdi_session.specs.Settings.{are_versions}
 use Rattle.octets.specs.declared.limits.TheConstants.{WINDOW_MAX}
@@ -17,7 +18,8 @@ greatest = 2 ^ 32 - 1
 
 -- no fault if a test holds; otherwise that of this member, with its value and range
 abbrev pub unless : (fits : Bool) (field value least most : ℕ) → Option SettingFault
-unless fits field value least most = if fits then None else Some (record { field = field; value = value; least = least; most = most })
+unless fits field value least most =
+    if fits then None else Some (record { field = field; value = value; least = least; most = most })
 
 -- the fault of a member whose number is outside its range
 abbrev pub outside : (field value least most : ℕ) → Option SettingFault
@@ -35,7 +37,8 @@ abbrev pub in_numbers : PlainSettings → Option SettingFault
 in_numbers s =
     or_else (outside 8 s.channels 1 4) (or_else (outside 9 s.n_sendmax 1 32) (or_else (outside 10 s.n_maxpacket 1 3)
     (or_else (outside 11 s.q 1 8) (or_else (outside 12 s.t_max 100 60_000) (or_else (outside 13 s.t_h 10 (s.t_max - 1))
-    (or_else (outside 14 s.t_seq 10 1_000) (or_else (outside 15 s.mwa 1 16) (outside 16 s.pdu_limit 100 4_294_901_760))))))))
+    (or_else (outside 14 s.t_seq 10 1_000) (or_else (outside 15 s.mwa 1 16)
+    (outside 16 s.pdu_limit 100 4_294_901_760))))))))
 
 -- the greatest number of versions: one for an interlocking, four for a field element
 abbrev pub most_versions : ℕ → ℕ
@@ -50,7 +53,8 @@ abbrev pub in_lists : PlainSettings → Option SettingFault
 in_lists s =
     or_else (outside 19 s.version_count 1 (most_versions s.side)) (or_else (outside 20 s.checksum_length 0 16)
     (or_else (unless (have_versions s) 21 s.version_count 1 (most_versions s.side))
-    (or_else (unless (is_some (name_in s.name)) 24 (text_size s.name) 1 20) (unless (is_some (name_in s.peer_name)) 25 (text_size s.peer_name) 1 20))))
+    (or_else (unless (is_some (name_in s.name)) 24 (text_size s.name) 1 20)
+    (unless (is_some (name_in s.peer_name)) 25 (text_size s.peer_name) 1 20))))
 
 -- the least room for datagrams
 abbrev pub least_room : ℕ → ℕ
@@ -58,20 +62,24 @@ least_room channels = min (channels * (WINDOW_MAX + PART_PDUS)) (2 ^ 32 - 1)
 
 -- the first fault of the rooms
 abbrev pub in_rooms : PlainSettings → Option SettingFault
-in_rooms s = or_else (outside 17 s.telegram_room CALL_TELEGRAMS greatest) (outside 18 s.datagram_room (least_room s.channels) greatest)
+in_rooms s = or_else (outside 17 s.telegram_room CALL_TELEGRAMS greatest)
+    (outside 18 s.datagram_room (least_room s.channels) greatest)
 
 -- the first fault of settings
 abbrev pub first_fault : PlainSettings → Option SettingFault
 first_fault s = or_else (in_front s) (or_else (in_numbers s) (or_else (in_lists s) (in_rooms s)))
 
--- how many parts can be deferred after one lost datagram: the other units of a window, and the heartbeats that confirm units
+-- how many parts can be deferred after one lost datagram: the other units of a window, and the heartbeats that confirm
+-- units
 abbrev pub most_deferred : (window mwa : ℕ) → ℕ
 most_deferred window mwa = if mwa == 0 then 0 else min (window + window / mwa) (2 ^ 32 - 1) - 1
 
--- the first of the settings with which an end works badly: a peer that waits for a heartbeat, parts that are too old when they go up, a full deferral queue
+-- the first of the settings with which an end works badly: a peer that waits for a heartbeat, parts that are too old
+-- when they go up, a full deferral queue
 abbrev pub first_warning : PlainSettings → Option SettingFault
 first_warning s =
-    or_else (unless (nat_lt s.mwa s.n_sendmax) 15 s.mwa 1 (s.n_sendmax - 1)) (or_else (unless (nat_lt s.t_seq s.t_max) 14 s.t_seq 10 (s.t_max - 1))
+    or_else (unless (nat_lt s.mwa s.n_sendmax) 15 s.mwa 1 (s.n_sendmax - 1))
+    (or_else (unless (nat_lt s.t_seq s.t_max) 14 s.t_seq 10 (s.t_max - 1))
     (outside 11 s.q (most_deferred s.n_sendmax s.mwa) 8))
 
 -- what is written for a fault, or zeros without a fault

@@ -43,7 +43,8 @@ pub record IsNew (o : OpeningSeen) (now : ℕ) (s : Held) : Type 0 where
   -- its end is new
   pub end : EndRepresents told_of s.end (new_end (side_of o.side) o.config o.first_sn now)
   -- what the opening sends waits, or is counted
-  pub sent : Posted (new_outgoing o.rooms.datagrams) (sent_at_opening (new_end (side_of o.side) o.config o.first_sn now)) (outbox_of s)
+  pub sent : Posted (new_outgoing o.rooms.datagrams)
+      (sent_at_opening (new_end (side_of o.side) o.config o.first_sn now)) (outbox_of s)
   -- no telegram waits, and there is the given room
   pub inbox : s.inbox ≡ record { queue = new_queue o.rooms.telegrams (o.rooms.telegrams * PAYLOAD_MAX); lost = false }
   -- its time is that of the opening

@@ -57,7 +57,14 @@ abbrev pub note_in : StationNote → PlainNote
 note_in (note.State state) = record { count = 0; what = 1; value = code_of_state state; number = 0; fault = 0 }
 note_in (note.Phase phase) = record { count = 0; what = 2; value = code_of_phase phase; number = 0; fault = 0 }
 note_in (note.Datagram number event) =
-    record { count = 0; what = 3; value = code_of_event event; number = unwrap_or number 0; fault = fault_of_event event }
-note_in (note.Part number step) = record { count = 0; what = 4; value = code_of_step step; number = number; fault = fault_of_step step }
+    record {
+      count = 0;
+      what = 3;
+      value = code_of_event event;
+      number = unwrap_or number 0;
+      fault = fault_of_event event;
+    }
+note_in (note.Part number step) =
+    record { count = 0; what = 4; value = code_of_step step; number = number; fault = fault_of_step step }
 note_in (note.Take kind) = record { count = 0; what = 5; value = pos kind; number = 0; fault = 0 }
 note_in (note.LeftOut count) = record { count = count; what = 6; value = pos 0; number = 0; fault = 0 }

@@ -9,7 +9,10 @@ DoneAre = (OK ≡ pos 0) × (NOTHING ≡ pos 1) × (UNSENT ≡ pos 2) × (UNWISE
 -- the codes of refusals; -n is negsuc (n - 1)
 abbrev pub RefusalsAre : Type 0
 RefusalsAre =
-    (NOT_OPEN ≡ negsuc 2) × (ALREADY_OPEN ≡ negsuc 3) × (SETTINGS_SIZE ≡ negsuc 4) × (BAD_SETTINGS ≡ negsuc 5) × (ROOMS ≡ negsuc 6)
-    × (NO_MEMORY ≡ negsuc 7) × (TIME ≡ negsuc 8) × (TAKE_FIRST ≡ negsuc 9) × (SEND_FIRST ≡ negsuc 10) × (LOST ≡ negsuc 11)
-    × (TOO_SMALL ≡ negsuc 12) × (NOT_ESTABLISHED ≡ negsuc 13) × (FULL ≡ negsuc 14) × (RESERVED_KIND ≡ negsuc 15) × (TOO_LONG ≡ negsuc 16)
+    (NOT_OPEN ≡ negsuc 2) × (ALREADY_OPEN ≡ negsuc 3) × (SETTINGS_SIZE ≡ negsuc 4) × (BAD_SETTINGS ≡ negsuc 5)
+    × (ROOMS ≡ negsuc 6)
+    × (NO_MEMORY ≡ negsuc 7) × (TIME ≡ negsuc 8) × (TAKE_FIRST ≡ negsuc 9) × (SEND_FIRST ≡ negsuc 10)
+    × (LOST ≡ negsuc 11)
+    × (TOO_SMALL ≡ negsuc 12) × (NOT_ESTABLISHED ≡ negsuc 13) × (FULL ≡ negsuc 14) × (RESERVED_KIND ≡ negsuc 15)
+    × (TOO_LONG ≡ negsuc 16)
     × (NOT_INITIALISING ≡ negsuc 17)

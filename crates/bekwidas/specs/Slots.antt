@@ -7,7 +7,8 @@ use Rattle.end_for_callers.specs.Queues.{IsTooLong, TookOldest}
 
 -- the oldest telegram was fetched into the buffer
 abbrev pub TookTelegram : (kind size : ℕ) (buffer after : List ℕ) → StationValue → StationValue → Type 0
-TookTelegram kind size buffer after s t = TookOldest kind size s.inbox.queue buffer t.inbox.queue after × SameButTelegrams s t
+TookTelegram kind size buffer after s t =
+    TookOldest kind size s.inbox.queue buffer t.inbox.queue after × SameButTelegrams s t
 
 -- the oldest datagram was fetched into the buffer
 abbrev pub TookDatagram : (channel size : ℕ) (buffer after : List ℕ) → StationValue → StationValue → Type 0
@@ -26,7 +27,8 @@ StaysTelegram needed buffer after s t =
 -- the oldest datagram is longer than the buffer: it stays, and its length is returned
 abbrev pub StaysDatagram : (needed : ℕ) (buffer after : List ℕ) → StationValue → StationValue → Type 0
 StaysDatagram needed buffer after s t =
-    IsTooLong needed (outbox_of s).queue buffer × ((outbox_of t).queue ≡ (outbox_of s).queue) × (after ≡ buffer) × SameButDatagrams s t
+    IsTooLong needed (outbox_of s).queue buffer × ((outbox_of t).queue ≡ (outbox_of s).queue) × (after ≡ buffer)
+    × SameButDatagrams s t
 
 -- no telegram waits, and nothing changes
 abbrev pub NoTelegram : StationValue → StationValue → Type 0

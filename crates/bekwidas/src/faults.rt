@@ -40,7 +40,7 @@ pub extern "C" fn bekr_settings_fault(settings: &PlainSettings, fault: &mut Sett
     // The first member that is wrong is written; if none is, the first with which an end works badly, or zeros.
     ensures named { fault.new ≡ written_for (or_else (first_fault settings.now) (first_warning settings.now)) }
 {
-    let warning = warned(settings);
+    let warning = first_warning(settings);
     *fault = written_for(first(first_fault(settings), warning));
     let code = code_to_open(settings);
     if code != OK {
@@ -251,12 +251,12 @@ fn in_rooms(s: &PlainSettings) -> Option<SettingFault>
 }
 
 /// Returns the first member with which an end opens and works badly.
-fn warned(s: &PlainSettings) -> Option<SettingFault>
+fn first_warning(s: &PlainSettings) -> Option<SettingFault>
     // `mwa` is to be below `n_sendmax`, `t_seq` below `t_max`, and `q` enough for what is deferred after one lost
     // datagram.
     ensures { result ≡ first_warning s.now }
 {
-    let deferred = outside(11, s.q, deferred(s.n_sendmax, s.mwa), 8);
+    let deferred = outside(11, s.q, most_deferred(s.n_sendmax, s.mwa), 8);
     let t_seq = unless(
         s.t_seq < s.t_max,
         14,
@@ -275,7 +275,7 @@ fn warned(s: &PlainSettings) -> Option<SettingFault>
 }
 
 /// Returns how many parts can be deferred after one lost datagram.
-fn deferred(window: u32, mwa: u32) -> u32
+fn most_deferred(window: u32, mwa: u32) -> u32
     // The other units of a window, and the heartbeats that confirm its units.
     ensures { result ≡ most_deferred window mwa }
 {

@@ -13,11 +13,17 @@ use Rattle.settings_file.specs.FileContents.{SettingsSeen, file_settings}
 abbrev pub SaysSettings : ℕ → List ℕ → Side → SettingsSeen → Type 0
 SaysSettings side text e seen = (side_in side ≡ Some e) × (file_settings e text ≡ Ok seen)
 
--- the new settings open an end with exactly the content of the file and the old rooms; the first sequence number is the old one if the file has none
+-- the new settings open an end with exactly the content of the file and the old rooms; the first sequence number is the
+-- old one if the file has none
 abbrev pub ReadsSettings : ℕ → List ℕ → PlainSettings → PlainSettings → Type 0
 ReadsSettings side text old new =
     (e : Side) × (seen : SettingsSeen) × SaysSettings side text e seen
-    × (opening_of new ≡ Some (record { config = seen.config; side = e; first_sn = unwrap_or seen.first_sn old.first_sn; rooms = record { telegrams = old.telegram_room; datagrams = old.datagram_room } }))
+    × (opening_of new ≡ Some (record {
+      config = seen.config;
+      side = e;
+      first_sn = unwrap_or seen.first_sn old.first_sn;
+      rooms = record { telegrams = old.telegram_room; datagrams = old.datagram_room };
+    }))
 
 -- the text is not a valid settings file for the side of this number
 abbrev pub NoFile : ℕ → List ℕ → Type 0

@@ -132,7 +132,7 @@ struct Ends {
 }
 
 /// Opens two ends and a connection between them. Both are then in Up.
-fn joined(alloc: Global, code: u32, mwa: u32) -> Option<Ends>
+fn open_connection(alloc: Global, code: u32, mwa: u32) -> Option<Ends>
     // The client has received one PDU and the server two; each raises the index of the next one by at most 321.
     ensures { IfSome result (λ ends. (ends.client.expected ≤ 321) × (ends.server.expected ≤ 642)) }
 {
@@ -191,7 +191,7 @@ pub extern "C" fn bench_machine_rows(
 ) -> u32
     requires { IsUnitSized unit.now }
 {
-    let Some(mut ends) = joined(alloc, code, mwa) else {
+    let Some(mut ends) = open_connection(alloc, code, mwa) else {
         return 0;
     };
     let unit: Unit = copy_of(unit);
@@ -222,7 +222,7 @@ pub extern "C" fn bench_machine_arrives(
 ) -> Tally {
     let mut made = Counted::new();
     let mut units = Units { taken: 0 };
-    let Some(mut ends) = joined(alloc, code, mwa) else {
+    let Some(mut ends) = open_connection(alloc, code, mwa) else {
         return tally_of(&made, &units, ConnectionState::Closed);
     };
     let mut row = data_row;
@@ -257,7 +257,7 @@ pub extern "C" fn bench_machine_sends(
     let unit: Unit = copy_of(unit);
     let mut made = Counted::new();
     let mut units = Units { taken: 0 };
-    let Some(mut ends) = joined(alloc, code, mwa) else {
+    let Some(mut ends) = open_connection(alloc, code, mwa) else {
         return tally_of(&made, &units, ConnectionState::Closed);
     };
     let mut row = heartbeat_row;

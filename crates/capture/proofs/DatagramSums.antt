@@ -36,18 +36,21 @@ opened_same : (b : Bool) (d : Direction) (o : Option SessionOpening) (time : ℕ
 opened_same true d o time = refl
 opened_same false d o time = refl
 
-one_followed : (d : Direction) (peer : Peer) (place : Place) (seq : ℕ) (h : Header) → datagrams_in d.together < 2 ^ 64 - 1
+one_followed : (d : Direction) (peer : Peer) (place : Place) (seq : ℕ) (h : Header)
+    → datagrams_in d.together < 2 ^ 64 - 1
     → datagrams_in (direction_after d peer place seq h).together ≡ datagrams_in d.together + 1
 one_followed d peer place seq h room =
     let same = opened_same (is_opened d (opening_of h) place.channel seq h.fingerprint) d (opening_of h) place.time in
     let w = (direction_after_opening d place seq h).together in
     let one =
-    one_noted (number_order w seq h.fingerprint) w (record { number = seq; line = place.line; fingerprint = h.fingerprint })
+    one_noted (number_order w seq h.fingerprint) w
+    (record { number = seq; line = place.line; fingerprint = h.fingerprint })
     (omega (arith, same))
     in
     omega (arith, same, one)
 
-either : (b : Bool) (c : Connection) (place : Place) (seq : ℕ) (h : Header) (n : ℕ) → weight (follow_way_pdu true c place seq h) ≡ n
+either : (b : Bool) (c : Connection) (place : Place) (seq : ℕ) (h : Header) (n : ℕ)
+    → weight (follow_way_pdu true c place seq h) ≡ n
     → weight (follow_way_pdu false c place seq h) ≡ n → weight (follow_way_pdu b c place seq h) ≡ n
 either true c place seq h n low high = low
 either false c place seq h n low high = high
@@ -57,21 +60,25 @@ one_more : (c : Connection) (line : ℕ) (r : Record) (seq : ℕ) (h : Header) �
 one_more c line r seq h room =
     let low = one_followed c.from_low (peer_of c.from_high h) (place_in c line r) seq h (omega arith) in
     let high = one_followed c.from_high (peer_of c.from_low h) (place_in c line r) seq h (omega arith) in
-    either (is_from_low c h) (with_reception c r h) (place_in c line r) seq h _ (omega (arith, low)) (omega (arith, high))
+    either (is_from_low c h) (with_reception c r h) (place_in c line r) seq h _ (omega (arith, low))
+    (omega (arith, high))
 
 window_sum : (t : Totals) (w : Window) → datagrams_of t + datagrams_in w < 2 ^ 64
     → datagrams_of (add_window_counts t w) ≡ datagrams_of t + datagrams_in w
 window_sum t w room = omega arith
 
-counted_sum : (t : Totals) (c : Connection) → datagrams_of t + weight c < 2 ^ 64 → datagrams_of (add_connection_counts t c) ≡ datagrams_of t + weight c
+counted_sum : (t : Totals) (c : Connection) → datagrams_of t + weight c < 2 ^ 64
+    → datagrams_of (add_connection_counts t c) ≡ datagrams_of t + weight c
 counted_sum t c room =
     let low = window_sum t c.from_low.together (omega arith) in
     let high = window_sum (add_window_counts t c.from_low.together) c.from_high.together (omega (arith, low)) in
     omega (arith, low, high)
 
 -- A connection that is forgotten is counted among the forgotten ones.
-none_left : (b : Bool) (cs : List Connection) (gone : Totals) → (b ≡ true → forgotten_place cs < length cs) → datagrams_of gone + weights cs < 2 ^ 64
-    → datagrams_of (cond b (add_connection_counts gone (slice_index_or cs (forgotten_place cs) (new_connection 0 0))) gone) + weights (cond b (remove cs (forgotten_place cs)) cs)
+none_left : (b : Bool) (cs : List Connection) (gone : Totals) → (b ≡ true → forgotten_place cs < length cs)
+    → datagrams_of gone + weights cs < 2 ^ 64
+    → datagrams_of (cond b (add_connection_counts gone (slice_index_or cs (forgotten_place cs) (new_connection 0 0)))
+    gone) + weights (cond b (remove cs (forgotten_place cs)) cs)
     ≡ datagrams_of gone + weights cs
 none_left true cs gone some room =
     let less = sum_by-remove weight cs (forgotten_place cs) (new_connection 0 0) (some refl) in
@@ -92,22 +99,28 @@ full cs h =
     (λ p e. (position-Some _ cs p (new_connection 0 0) e).0)
 
 first_none : (b : Bool) (new : Connection) (cs : List Connection) (gone : Totals) → weight new ≡ 0
-    → datagrams_of (cond b (add_connection_counts gone (slice_index_or cs (forgotten_place cs) (new_connection 0 0))) gone) + weights (cond b (remove cs (forgotten_place cs)) cs)
+    → datagrams_of (cond b (add_connection_counts gone (slice_index_or cs (forgotten_place cs) (new_connection 0 0)))
+    gone) + weights (cond b (remove cs (forgotten_place cs)) cs)
     ≡ datagrams_of gone + weights cs
-    → datagrams_of (cond (b && true) (add_connection_counts gone (slice_index_or cs (forgotten_place cs) (new_connection 0 0))) gone) + weights (cond b (remove cs (forgotten_place cs)) cs)
+    → datagrams_of (cond (b && true) (add_connection_counts gone
+    (slice_index_or cs (forgotten_place cs) (new_connection 0 0))) gone)
+    + weights (cond b (remove cs (forgotten_place cs)) cs)
     + weight new ≡ datagrams_of gone + weights cs
 first_none true new cs gone empty kept = omega (arith, kept, empty)
 first_none false new cs gone empty kept = omega (arith, kept, empty)
 
 -- The connection that is taken out and the ones that stay have the weight of all before.
-taken_left : (o : Option ℕ) (new : Connection) (cs : List Connection) (gone : Totals) → ((p : ℕ) → o ≡ Some p → p < length cs)
+taken_left : (o : Option ℕ) (new : Connection) (cs : List Connection) (gone : Totals)
+    → ((p : ℕ) → o ≡ Some p → p < length cs)
     → weight new ≡ 0 → datagrams_of gone + weights cs < 2 ^ 64
-    → datagrams_of (cond ((length cs == CONNECTIONS) && is_none o) (add_connection_counts gone (slice_index_or cs (forgotten_place cs) (new_connection 0 0))) gone)
+    → datagrams_of (cond ((length cs == CONNECTIONS) && is_none o)
+    (add_connection_counts gone (slice_index_or cs (forgotten_place cs) (new_connection 0 0))) gone)
     + weights (others_at o cs) + weight (connection_at o new cs) ≡ datagrams_of gone + weights cs
 taken_left (Some p) new cs gone within empty room =
     let less = sum_by-remove weight cs p new (within p refl) in
     elim (length cs == CONNECTIONS) as (λ b.
-    datagrams_of (cond (b && false) (add_connection_counts gone (slice_index_or cs (forgotten_place cs) (new_connection 0 0))) gone) + weights (remove cs p)
+    datagrams_of (cond (b && false) (add_connection_counts gone
+    (slice_index_or cs (forgotten_place cs) (new_connection 0 0))) gone) + weights (remove cs p)
     + weight (slice_index_or cs p new) ≡ datagrams_of gone + weights cs) [
       | true ↦ omega (arith, less)
       | false ↦ omega (arith, less)
@@ -125,7 +138,8 @@ before_within : (o : Option ℕ) (n p : ℕ) → ((q : ℕ) → o ≡ Some q →
 before_within (Some q) n p within h = let some = within q refl in grind (arith, some, h)
 before_within None n p within h = grind (arith, h)
 
-behind_within : (f : Connection → Bool) (cs : List Connection) (p : ℕ) → position f (reverse cs) ≡ Some p → p < length cs
+behind_within : (f : Connection → Bool) (cs : List Connection) (p : ℕ) → position f (reverse cs) ≡ Some p
+    → p < length cs
 behind_within f cs p h =
     let within = (position-Some f (reverse cs) p (new_connection 0 0) h).0 in
     let long = length-reverse cs in
@@ -138,7 +152,8 @@ places h r cs p e =
 
 one_stepped : (cs : List Connection) (line : ℕ) (r : Record) (seq : ℕ) (h : Header) (gone : Totals)
     → datagrams_of gone + weights cs < 2 ^ 64 - 1
-    → datagrams_of (forgotten_totals_with gone cs r h) + weights (step cs line r seq h) ≡ datagrams_of gone + weights cs + 1
+    → datagrams_of (forgotten_totals_with gone cs r h) + weights (step cs line r seq h) ≡ datagrams_of gone + weights cs
+    + 1
 one_stepped cs line r seq h gone room =
     let low = (ends_of h.sender h.receiver).0 in
     let high = (ends_of h.sender h.receiver).1 in
@@ -151,15 +166,18 @@ one_stepped cs line r seq h gone room =
     omega (arith, same, one, push)
 
 -- A datagram that is not a PDU changes no connection's numbers.
-damaged_same : (b : Bool) (c : Connection) (place : ℕ) (damage : Option Damage) → weight (count_damage_by b c place damage) ≡ weight c
+damaged_same : (b : Bool) (c : Connection) (place : ℕ) (damage : Option Damage)
+    → weight (count_damage_by b c place damage) ≡ weight c
 damaged_same true c place damage = refl
 damaged_same false c place damage = refl
 
-on_same : (o : Option ℕ) (c : Connection) (r : Record) (damage : Option Damage) → weight (count_damage_on o c r damage) ≡ weight c
+on_same : (o : Option ℕ) (c : Connection) (r : Record) (damage : Option Damage)
+    → weight (count_damage_on o c r damage) ≡ weight c
 on_same None c r damage = refl
 on_same (Some place) c r damage = damaged_same (is_source_low (slice_index_or c.routes place None) r) c place damage
 
-at_same : (o : Option ℕ) (cs : List Connection) (r : Record) (damage : Option Damage) → ((p : ℕ) → o ≡ Some p → p < length cs)
+at_same : (o : Option ℕ) (cs : List Connection) (r : Record) (damage : Option Damage)
+    → ((p : ℕ) → o ≡ Some p → p < length cs)
     → weights (damage_at o cs r damage) ≡ weights cs
 at_same None cs r damage within = refl
 at_same (Some p) cs r damage within =
@@ -170,7 +188,8 @@ at_same (Some p) cs r damage within =
     let set = sum_by-set weight cs i (count_connection_damage c r damage) (new_connection 0 0) (omega (arith, some)) in
     omega (arith, same, set)
 
-noted_same : (cs : List Connection) (r : Record) (damage : Option Damage) → weights (count_damaged_datagram cs r damage) ≡ weights cs
+noted_same : (cs : List Connection) (r : Record) (damage : Option Damage)
+    → weights (count_damaged_datagram cs r damage) ≡ weights cs
 noted_same cs r damage = at_same (behind_of cs r) cs r damage (behind_within _ cs)
 
 -- The sums over all connections.
@@ -196,7 +215,8 @@ one_heard k line r (NoSafe seq fault) room =
     let same = noted_same k.connections r (Some (record { number = seq; line = line })) in omega (arith, same)
 one_heard k line r (NoRed fault) room = let same = noted_same k.connections r None in omega (arith, same)
 
-pub all_along : (cs : List CapturedDatagram) (k : CaptureState) → all_of k + length cs < 2 ^ 64 → all_of (capture_after_all k cs) ≡ all_of k + length cs
+pub all_along : (cs : List CapturedDatagram) (k : CaptureState) → all_of k + length cs < 2 ^ 64
+    → all_of (capture_after_all k cs) ≡ all_of k + length cs
 all_along [] k room = omega arith
 all_along (c ∷ cs) k room =
     let one = one_heard k c.line c.from c.heard (omega arith) in

@@ -17,11 +17,14 @@ by_test : (b : Bool) → (b ≡ false → false ≡ true) → b ≡ true
 by_test true h = refl
 by_test false h = h refl
 
-pub digit_in_range : (ds : List ℕ) (i : ℕ) → list_all is_ascii_digit ds ≡ true → i < length ds → is_ascii_digit (get_or ds i 0) ≡ true
-digit_in_range ds i digits within = by_test (is_ascii_digit (get_or ds i 0)) (λ bad. sym (list_all_at is_ascii_digit ds i 0 within bad) ∙ digits)
+pub digit_in_range : (ds : List ℕ) (i : ℕ) → list_all is_ascii_digit ds ≡ true → i < length ds
+    → is_ascii_digit (get_or ds i 0) ≡ true
+digit_in_range ds i digits within =
+    by_test (is_ascii_digit (get_or ds i 0)) (λ bad. sym (list_all_at is_ascii_digit ds i 0 within bad) ∙ digits)
 
 -- The value with the next digit.
-pub one_more : (ds : List ℕ) (i n : ℕ) → list_all is_ascii_digit ds ≡ true → i < length ds → n ≡ digits_value 10 (take i ds)
+pub one_more : (ds : List ℕ) (i n : ℕ) → list_all is_ascii_digit ds ≡ true → i < length ds
+    → n ≡ digits_value 10 (take i ds)
     → n * 10 + (slice_index_or ds i 0 - 48) ≡ digits_value 10 (take (i + 1) ds)
 one_more ds i n digits within so_far =
     let next = digits_value_more 10 ds i within in

@@ -22,7 +22,9 @@ no_ipv6 text never =
     (λ some.
     let sound = read_ipv6_sound text some.0.0 some.0.1 some.1 in
     ap whole_value some.1 ∙ ⊎_elim
-    (λ ended. absurd (never some.0.0 (subst (λ t. IsColonHex t some.0.0) (sym (sound.1 ∙ ap (λ r. sound.0 ++ r) (nil_from_length some.0.1 (grind (arith, nat_tests))) ∙ append-nil sound.0)) sound.2)))
+    (λ ended. absurd (never some.0.0 (subst (λ t. IsColonHex t some.0.0)
+    (sym (sound.1 ∙ ap (λ r. sound.0 ++ r) (nil_from_length some.0.1 (grind (arith, nat_tests)))
+    ∙ append-nil sound.0)) sound.2)))
     (λ more. rw more)
     (cases_Bool (length some.0.1 == 0)))
     (option_cases (read_ipv6 text))

@@ -8,7 +8,8 @@ use Rattle.capture.specs.Numbers.{ahead, number_order, order_ahead, order_by, or
 use Rattle.capture.specs.Laws.{EachCounted, EachOnce, note_all, datagrams_in, reach_of_all, reach_of}
 
 -- A number is counted once, however it followed.
-pub one_noted : (j : NumberOrder) (w : Window) (s : SeenNumber) → datagrams_in w < 2 ^ 64 - 1 → datagrams_in (note_as j w s) ≡ datagrams_in w + 1
+pub one_noted : (j : NumberOrder) (w : Window) (s : SeenNumber) → datagrams_in w < 2 ^ 64 - 1
+    → datagrams_in (note_as j w s) ≡ datagrams_in w + 1
 one_noted First w s h = omega arith
 one_noted Next w s h = omega arith
 one_noted (Ahead passed) w s h = omega arith
@@ -19,7 +20,8 @@ one_noted Stale w s h = omega arith
 one_noted Anew w s h = omega arith
 
 -- So are all numbers of a list, from any window on.
-pub all_counted : (ss : List SeenNumber) (w : Window) → datagrams_in w + length ss < 2 ^ 64 → datagrams_in (note_all w ss) ≡ datagrams_in w + length ss
+pub all_counted : (ss : List SeenNumber) (w : Window) → datagrams_in w + length ss < 2 ^ 64
+    → datagrams_in (note_all w ss) ≡ datagrams_in w + length ss
 all_counted [] w h = omega arith
 all_counted (s ∷ ss) w h =
     let one = one_noted (number_order w s.number s.fingerprint) w s (omega arith) in
@@ -48,7 +50,8 @@ late_was_missing w n f h = late_by (seen_of w n) w n f h
 abbrev reached_in : Window → ℕ
 reached_in w = w.heard + w.late + w.missing
 
-pub one_reached : (j : NumberOrder) (w : Window) (s : SeenNumber) → (j ≡ Late → 0 < w.missing) → reached_in w + reach_of j < 2 ^ 64
+pub one_reached : (j : NumberOrder) (w : Window) (s : SeenNumber) → (j ≡ Late → 0 < w.missing)
+    → reached_in w + reach_of j < 2 ^ 64
     → reached_in (note_as j w s) ≡ reached_in w + reach_of j
 one_reached First w s late h = omega arith
 one_reached Next w s late h = omega arith
@@ -59,7 +62,8 @@ one_reached (Differs line) w s late h = omega arith
 one_reached Stale w s late h = omega arith
 one_reached Anew w s late h = omega arith
 
-pub all_reached : (ss : List SeenNumber) (w : Window) → reached_in w + reach_of_all w ss < 2 ^ 64 → reached_in (note_all w ss) ≡ reached_in w + reach_of_all w ss
+pub all_reached : (ss : List SeenNumber) (w : Window) → reached_in w + reach_of_all w ss < 2 ^ 64
+    → reached_in (note_all w ss) ≡ reached_in w + reach_of_all w ss
 all_reached [] w h = omega arith
 all_reached (s ∷ ss) w h =
     let one =

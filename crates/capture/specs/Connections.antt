@@ -78,15 +78,16 @@ has_ends c h = (c.low == (ends_of h.sender h.receiver).0) && (c.high == (ends_of
 
 -- The PDU goes on with the connection: with what its end and the other end have sent.
 abbrev pub is_continued : Connection → Header → Bool
-is_continued c h = if is_from_low c h then is_continuation c.from_low c.from_high h else is_continuation c.from_high c.from_low h
+is_continued c h =
+    if is_from_low c h then is_continuation c.from_low c.from_high h else is_continuation c.from_high c.from_low h
 
 -- The first of two, if there is one, or else the second.
 abbrev pub first_some : Option ℕ → Option ℕ → Option ℕ
 first_some (Some one) other = Some one
 first_some None other = other
 
--- How many connections come after the one of a PDU. That is the last one between its ends that has its channel, or else the last one between its ends
--- that it goes on with.
+-- How many connections come after the one of a PDU. That is the last one between its ends that has its channel, or else
+-- the last one between its ends that it goes on with.
 abbrev pub place_from_end : Header → Record → List Connection → Option ℕ
 place_from_end h r cs =
     first_some (position (λ (c : Connection). has_ends c h && has_channel c r) (reverse cs))
@@ -110,7 +111,8 @@ abbrev pub place_or_first : Option ℕ → ℕ
 place_or_first (Some place) = place
 place_or_first None = 0
 
--- The place of the connection that is forgotten: of those that an end has left, the one silent longest; if there is none, the one silent longest of all.
+-- The place of the connection that is forgotten: of those that an end has left, the one silent longest; if there is
+-- none, the one silent longest of all.
 abbrev pub forgotten_place : List Connection → ℕ
 forgotten_place cs = place_or_first (position (λ (c : Connection). is_closed c) cs)
 
@@ -130,7 +132,9 @@ others_at None cs = with_room cs
 
 -- The connection of a PDU; a new one between its ends if none is kept.
 abbrev pub connection_of : Header → Record → List Connection → Connection
-connection_of h r cs = connection_at (connection_place h r cs) (new_connection (ends_of h.sender h.receiver).0 (ends_of h.sender h.receiver).1) cs
+connection_of h r cs =
+    connection_at (connection_place h r cs) (new_connection (ends_of h.sender h.receiver).0
+    (ends_of h.sender h.receiver).1) cs
 
 -- The other connections that stay.
 abbrev pub other_connections : Header → Record → List Connection → List Connection
@@ -166,7 +170,8 @@ route_of None from_low r = Some (route_from from_low r)
 
 -- The channels with this place in use.
 abbrev pub routes_at : Option ℕ → List (Option Route) → Bool → Record → List (Option Route)
-routes_at (Some place) routes from_low r = slice_set routes place (route_of (slice_index_or routes place None) from_low r)
+routes_at (Some place) routes from_low r =
+    slice_set routes place (route_of (slice_index_or routes place None) from_low r)
 routes_at None routes from_low r = routes
 
 -- The channels after a datagram; a new one is added at the first free place.
@@ -177,15 +182,18 @@ routes_after routes from_low r = routes_at (route_place_of routes r) routes from
 abbrev pub place_in : Connection → ℕ → Record → Place
 place_in c line r = record { time = r.time; line = line; channel = channel_of c.routes r }
 
--- The remarks on a PDU of the end with the lower identifier (`true`), or of the other end, by what both ends sent before.
+-- The remarks on a PDU of the end with the lower identifier (`true`), or of the other end, by what both ends sent
+-- before.
 abbrev pub way_remarks : Bool → Connection → Place → ℕ → Header → Remarks
 way_remarks true c place seq h = remarks_of c.from_low (peer_of c.from_high h) place seq h
 way_remarks false c place seq h = remarks_of c.from_high (peer_of c.from_low h) place seq h
 
 -- The connection with the PDU in the direction of its end.
 abbrev pub follow_way_pdu : Bool → Connection → Place → ℕ → Header → Connection
-follow_way_pdu true c place seq h = record c { from_low = direction_after c.from_low (peer_of c.from_high h) place seq h }
-follow_way_pdu false c place seq h = record c { from_high = direction_after c.from_high (peer_of c.from_low h) place seq h }
+follow_way_pdu true c place seq h =
+    record c { from_low = direction_after c.from_low (peer_of c.from_high h) place seq h }
+follow_way_pdu false c place seq h =
+    record c { from_high = direction_after c.from_high (peer_of c.from_low h) place seq h }
 
 -- The remarks on a PDU, by what its own end and the other end sent before.
 abbrev pub connection_remarks : Connection → ℕ → Record → ℕ → Header → Remarks
@@ -240,7 +248,8 @@ count_damage_by false c place damage = record c { from_high = count_damage_at c.
 -- The connection with one more damaged datagram on this channel, if it has the channel.
 abbrev pub count_damage_on : Option ℕ → Connection → Record → Option Damage → Connection
 count_damage_on None c r damage = c
-count_damage_on (Some place) c r damage = count_damage_by (is_source_low (slice_index_or c.routes place None) r) c place damage
+count_damage_on (Some place) c r damage =
+    count_damage_by (is_source_low (slice_index_or c.routes place None) r) c place damage
 
 -- The connection after a damaged datagram.
 abbrev pub count_connection_damage : Connection → Record → Option Damage → Connection
@@ -250,8 +259,10 @@ count_connection_damage c r damage = count_damage_on (known_place_of c.routes r)
 abbrev pub damage_at : Option ℕ → List Connection → Record → Option Damage → List Connection
 damage_at None cs r damage = cs
 damage_at (Some behind) cs r damage =
-    slice_set cs (length cs - 1 - behind) (count_connection_damage (slice_index_or cs (length cs - 1 - behind) (new_connection 0 0)) r damage)
+    slice_set cs (length cs - 1 - behind) (count_connection_damage
+    (slice_index_or cs (length cs - 1 - behind) (new_connection 0 0)) r damage)
 
--- The connections after a damaged datagram: it is counted on its channel; if several connections have that, in the last one.
+-- The connections after a damaged datagram: it is counted on its channel; if several connections have that, in the last
+-- one.
 abbrev pub count_damaged_datagram : List Connection → Record → Option Damage → List Connection
 count_damaged_datagram cs r damage = damage_at (behind_of cs r) cs r damage

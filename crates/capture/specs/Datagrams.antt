@@ -21,7 +21,8 @@ abbrev pub leaving_of : Kind → List ℕ → Option Leaving
 leaving_of DiscReq body = Some (record { detail = detail_of body; reason = reason_of body })
 leaving_of _ body = None
 
--- The digits of bytes: each four bytes are one number, least significant byte first; each of the up to three bytes that are left is one.
+-- The digits of bytes: each four bytes are one number, least significant byte first; each of the up to three bytes that
+-- are left is one.
 abbrev pub digits_of : List ℕ → List ℕ
 digits_of (a ∷ b ∷ c ∷ d ∷ more) = little_number 4 (a ∷ b ∷ c ∷ d ∷ []) ∷ digits_of more
 digits_of rest = rest

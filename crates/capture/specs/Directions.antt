@@ -155,8 +155,8 @@ abbrev pub confirmation_timestamp : ℕ → ℕ → Option Confirmation → Opti
 confirmation_timestamp sn ts None = None
 confirmation_timestamp sn ts (Some c) = if (c.sn == sn) && (c.ts == ts) then Some c.cts else None
 
--- The timestamp of its own end that a PDU shows to be confirmed. It confirms the other end's PDU with its CS as SN and its CTS as TS; this is what that one
--- confirms.
+-- The timestamp of its own end that a PDU shows to be confirmed. It confirms the other end's PDU with its CS as SN and
+-- its CTS as TS; this is what that one confirms.
 abbrev pub confirmed_timestamp : List (Option Confirmation) → Header → Option ℕ
 confirmed_timestamp cs h = confirmation_timestamp h.cs h.cts (slice_index_or cs (slot h.cs) None)
 
@@ -165,7 +165,8 @@ abbrev pub is_retransmission_request : Kind → Bool
 is_retransmission_request RetrReq = true
 is_retransmission_request _ = false
 
--- The line of the PDU for which a RetrReq asks: the one with the sequence number after the confirmed one, if that was recorded.
+-- The line of the PDU for which a RetrReq asks: the one with the sequence number after the confirmed one, if that was
+-- recorded.
 abbrev pub requested_line : Window → Header → Option ℕ
 requested_line w h = if is_retransmission_request h.kind then line_seen w ((h.cs + 1) % 2 ^ 32) else None
 
@@ -208,9 +209,11 @@ abbrev pub newer : Option ℕ → Option ℕ → Option ℕ
 newer (Some confirmed) since = Some confirmed
 newer None since = since
 
--- The own timestamp that an end last knew to be confirmed, after a PDU; only a new one changes it, and one that confirms nothing does not.
+-- The own timestamp that an end last knew to be confirmed, after a PDU; only a new one changes it, and one that
+-- confirms nothing does not.
 abbrev pub since_after : Bool → Option SessionOpening → Option ℕ → Option ℕ → Header → Option ℕ
-since_after true opening since confirmed h = if confirms_nothing opening h.kind h.sn then since else newer confirmed since
+since_after true opening since confirmed h =
+    if confirms_nothing opening h.kind h.sn then since else newer confirmed since
 since_after false opening since confirmed h = since
 
 -- How long an end has waited at this timestamp; a copy has no wait.
@@ -250,7 +253,8 @@ has_gone_on ws channel seq =
 
 -- An opening is a copy: it is kept with the same bytes, and nothing else of its end has come on its channel since.
 abbrev pub is_copy : Direction → ℕ → ℕ → ℕ → Bool
-is_copy d channel seq octets = is_repeat (number_order d.together seq octets) && not (has_gone_on d.channels channel seq)
+is_copy d channel seq octets =
+    is_repeat (number_order d.together seq octets) && not (has_gone_on d.channels channel seq)
 
 -- The PDU opens a session: it is an opening and not a copy, whatever its numbers.
 abbrev pub is_opened : Direction → Option SessionOpening → ℕ → ℕ → ℕ → Bool
@@ -345,7 +349,8 @@ remarks_in d opens peer place seq h =
 -- The remarks on a PDU with this redundancy number.
 abbrev pub remarks_of : Direction → Peer → Place → ℕ → Header → Remarks
 remarks_of d peer place seq h =
-    remarks_in (direction_after_opening d place seq h) (is_opened d (opening_of h) place.channel seq h.fingerprint) peer place seq h
+    remarks_in (direction_after_opening d place seq h) (is_opened d (opening_of h) place.channel seq h.fingerprint) peer
+    place seq h
 
 -- The direction after a PDU, after its opening was handled.
 abbrev pub direction_in : Direction → Peer → Place → ℕ → Header → Direction

@@ -70,7 +70,8 @@ llc_with place _ _ _ _ = None
 -- The packet after the LLC and SNAP at a place.
 abbrev pub behind_llc : List ℕ → ℕ → Option Packet
 behind_llc octets place =
-    llc_with place (big_at place octets) (big_at (place + 2) octets) (big_at (place + 4) octets) (big_at (place + 6) octets)
+    llc_with place (big_at place octets) (big_at (place + 2) octets) (big_at (place + 4) octets)
+    (big_at (place + 6) octets)
 
 -- The packet after one header, if there is one before it.
 abbrev pub behind_wrapping : List ℕ → Packet → Option Packet
@@ -91,7 +92,8 @@ abbrev pub innermost_packet : List ℕ → Packet → Option Packet
 innermost_packet octets p =
     behind_next octets (behind_next octets (behind_next octets (behind_next octets (behind_wrapping octets p))))
 
--- The packets within which a further frame may be that is not read: one more header, an Ethernet frame, MACsec, backbone bridges.
+-- The packets within which a further frame may be that is not read: one more header, an Ethernet frame, MACsec,
+-- backbone bridges.
 abbrev pub is_bridged : ℕ → Bool
 is_bridged kind =
     is_tag kind

@@ -1,5 +1,5 @@
 -- The UDP datagram of a frame: its link header, its packet.
-use Rattle.std.specs.Prelude.{ℕ, ◌+◌, ◌*◌, ◌/◌, ◌==◌, ◌&&◌, ◌||◌, Bool, nat_eq, List, if◌then◌else◌, Option, Some, None, Result, Err}
+use Rattle.std.specs.Prelude.{ℕ, ◌*◌, ◌/◌, ◌==◌, ◌&&◌, ◌||◌, Bool, nat_eq, List, if◌then◌else◌, Option, Some, None, Result, Err}
 use Rattle.capture.specs.Places.{big_at, octet_at}
 use Rattle.capture.specs.Packets.{in_ipv4, in_ipv6}
 use Rattle.capture.specs.Encapsulations.{is_bridged, kind_at, innermost_packet}

@@ -34,7 +34,8 @@ millionths_of None size = None
 
 -- The whole microseconds of a fraction of one to nine digits.
 abbrev pub fraction_of : List ℕ → Option ℕ
-fraction_of digits = if nat_lt 9 (length digits) then None else millionths_of (number_of 999999999 digits) (length digits)
+fraction_of digits =
+    if nat_lt 9 (length digits) then None else millionths_of (number_of 999999999 digits) (length digits)
 
 -- The microseconds of a number of seconds.
 abbrev pub micros_of : Option ℕ → Option ℕ

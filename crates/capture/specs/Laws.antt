@@ -17,12 +17,14 @@ use Rattle.capture.specs.declared.window.NumberOrder.TheVariants.{First, Next, A
 use Rattle.capture.specs.Numbers.{limited_sum, number_order, note_number, open_window}
 use Rattle.capture.specs.WholeCapture.{connections_after, damaged_count_after, forgotten_totals_after, no_totals, totals_of}
 
--- The limits, as numbers. Numbers are kept by their remainder modulo 32, a power of two, since the ring of 2^32 wraps within it; so 31 before the newest may
--- come late. A gap of more than 16 bits starts again. Two channels are RaSTA's own, four leave room. 256 connections take 7.6 MB. A payload is kept up to
--- the power of two above the longest redundancy PDU, of 1,258 bytes. The latest second is the last of twelve digits.
+-- The limits, as numbers. Numbers are kept by their remainder modulo 32, a power of two, since the ring of 2^32 wraps
+-- within it; so 31 before the newest may come late. A gap of more than 16 bits starts again. Two channels are RaSTA's
+-- own, four leave room. 256 connections take 7.6 MB. A payload is kept up to the power of two above the longest
+-- redundancy PDU, of 1,258 bytes. The latest second is the last of twelve digits.
 abbrev pub LimitsAre : Type 0
 LimitsAre =
-    (KEPT ≡ 32) × (LATE_MAX ≡ 31) × (PASSED_MAX ≡ 65535) × (CHANNELS ≡ 4) × (RANGES ≡ 4) × (CONNECTIONS ≡ 256) × (PAYLOAD_ROOM ≡ 2048)
+    (KEPT ≡ 32) × (LATE_MAX ≡ 31) × (PASSED_MAX ≡ 65535) × (CHANNELS ≡ 4) × (RANGES ≡ 4) × (CONNECTIONS ≡ 256)
+    × (PAYLOAD_ROOM ≡ 2048)
     × (SECONDS_MAX ≡ 999999999999)
 
 -- How many new numbers a number reaches: the skipped ones and itself.
@@ -36,7 +38,8 @@ reach_of _ = 0
 -- How many numbers a list of them reaches.
 abbrev pub reach_of_all : Window → List SeenNumber → ℕ
 reach_of_all w [] = 0
-reach_of_all w (s ∷ ss) = reach_of (number_order w s.number s.fingerprint) + reach_of_all (note_number w s.number s.line s.fingerprint) ss
+reach_of_all w (s ∷ ss) =
+    reach_of (number_order w s.number s.fingerprint) + reach_of_all (note_number w s.number s.line s.fingerprint) ss
 
 -- The window after a list of numbers.
 abbrev pub note_all : Window → List SeenNumber → Window

@@ -1,5 +1,5 @@
 -- What is measured of a connection, in milliseconds of the recorder.
-use Rattle.std.specs.Prelude.{ℕ, ◌+◌, ◌-◌, ◌*◌, ◌/◌, ◌%◌, ◌^◌, ◌==◌, ◌&&◌, max, min, Bool, true, false, not, nat_lt, nat_eq, List, slice_index, slice_set, replicate, if◌then◌else◌, Option, Some, None, is_some}
+use Rattle.std.specs.Prelude.{ℕ, ◌+◌, ◌-◌, ◌/◌, ◌%◌, ◌^◌, ◌==◌, ◌&&◌, max, min, Bool, true, false, not, nat_lt, slice_index, slice_set, replicate, if◌then◌else◌, Option, Some, None, is_some}
 use Rattle.std.specs.Int.{leading_zeros, w32}
 use Rattle.safe_pdu.specs.declared.Kind.{Kind}
 use Rattle.safe_pdu.specs.declared.Kind.TheVariants.{Data, RetrData, RetrReq, RetrResp}
@@ -29,7 +29,10 @@ one_more count = min (count + 1) (2 ^ 32 - 1)
 -- The distribution with one more value: one class grows.
 abbrev pub with_value : Distribution → ℕ → Distribution
 with_value d value =
-    record { counts = slice_set d.counts (class_of value) (one_more (slice_index d.counts (class_of value))); greatest = max d.greatest value }
+    record {
+      counts = slice_set d.counts (class_of value) (one_more (slice_index d.counts (class_of value)));
+      greatest = max d.greatest value;
+    }
 
 -- The distribution with a value, if there is one.
 abbrev pub with_some : Distribution → Option ℕ → Distribution
@@ -97,7 +100,8 @@ is_late _ = false
 
 -- The PDU is the first that confirms its timestamp.
 abbrev pub is_first_answer : ℕ → Header → Remarks → Bool
-is_first_answer confirmed h r = is_answer h.kind && (is_some r.age && (not (is_late r.together) && not (h.cts == confirmed)))
+is_first_answer confirmed h r =
+    is_answer h.kind && (is_some r.age && (not (is_late r.together) && not (h.cts == confirmed)))
 
 -- The round trips after a PDU, by when the PDU that it confirms was sent.
 abbrev pub measure_round_trip : Bool → Measurements → Option ℕ → ℕ → Header → Measurements
@@ -126,7 +130,11 @@ add_unit m time kind =
 -- The end with a new PDU kept in the slot of its sequence number.
 abbrev pub store_moment : Measurements → Header → ℕ → Measurements
 store_moment m h time =
-    record m { stamps = slice_set m.stamps (h.sn % MOMENTS) h.ts; times = slice_set m.times (h.sn % MOMENTS) time; last = time }
+    record m {
+      stamps = slice_set m.stamps (h.sn % MOMENTS) h.ts;
+      times = slice_set m.times (h.sn % MOMENTS) time;
+      last = time;
+    }
 
 -- The end with the wait of a PDU.
 abbrev pub measure_wait : Measurements → Option ℕ → Measurements
@@ -137,7 +145,8 @@ abbrev pub measure_new_pdu : Measurements → Option ℕ → ℕ → Header → 
 measure_new_pdu m sent time h r =
     store_moment
     (add_unit
-    (measure_wait (measure_silence (measure_round_trip (is_first_answer m.confirmed h r) m sent time h) time) r.waits) time h.kind)
+    (measure_wait (measure_silence (measure_round_trip (is_first_answer m.confirmed h r) m sent time h) time) r.waits)
+    time h.kind)
     h time
 
 -- The end after a copy on another channel: the skew is the time since the first copy, if that is kept.
@@ -163,4 +172,5 @@ measurements_after m sent time h r = measure_pdu (forget_moments_if r.opens m) s
 -- The measures after a PDU of the end with the lower identifier (`true`), or of the other end.
 abbrev pub measures_after : Measures → Bool → ℕ → Header → Remarks → Measures
 measures_after ms true time h r = record ms { low = measurements_after ms.low (moment_of ms.high h.cs h.cts) time h r }
-measures_after ms false time h r = record ms { high = measurements_after ms.high (moment_of ms.low h.cs h.cts) time h r }
+measures_after ms false time h r =
+    record ms { high = measurements_after ms.high (moment_of ms.low h.cs h.cts) time h r }

@@ -55,8 +55,8 @@ line_seen w number = line_in (seen_of w number)
 abbrev pub ahead : ℕ → ℕ → ℕ
 ahead from to = (to + (2 ^ 32 - from)) % 2 ^ 32
 
--- How a number that is not kept follows, by its distance from the newest. At most `PASSED_MAX` numbers may be skipped. A skipped number close before the
--- newest is late, one further back is stale, and any other starts again.
+-- How a number that is not kept follows, by its distance from the newest. At most `PASSED_MAX` numbers may be skipped.
+-- A skipped number close before the newest is late, one further back is stale, and any other starts again.
 abbrev pub order_ahead : Window → ℕ → NumberOrder
 order_ahead w steps =
     if nat_le steps 1 then Next
@@ -94,7 +94,11 @@ keep_entry w seen = record w { seen = slice_set w.seen (slot seen.number) (Some 
 -- The window with this number as the newest, `steps` ahead of the one before.
 abbrev pub move_window : Window → ℕ → SeenNumber → Window
 move_window w steps seen =
-    keep_entry (record w { newest = Some seen.number; behind = min (w.behind + steps) LATE_MAX; heard = limited_sum w.heard 1 }) seen
+    keep_entry (record w {
+      newest = Some seen.number;
+      behind = min (w.behind + steps) LATE_MAX;
+      heard = limited_sum w.heard 1;
+    }) seen
 
 -- The window after a number that followed in this way.
 abbrev pub note_as : NumberOrder → Window → SeenNumber → Window

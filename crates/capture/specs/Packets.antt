@@ -27,7 +27,8 @@ udp_with octets source destination place end _ _ _ = Err Truncated
 -- The datagram at a place: ports, length and checksum, then the payload.
 abbrev pub in_udp : List ℕ → Host → Host → ℕ → ℕ → Result FoundDatagram NoDatagramCause
 in_udp octets source destination place end =
-    udp_with (length octets) source destination place end (big_at place octets) (big_at (place + 2) octets) (big_at (place + 4) octets)
+    udp_with (length octets) source destination place end (big_at place octets) (big_at (place + 2) octets)
+    (big_at (place + 4) octets)
 
 -- The packet is a fragment: more fragments follow, or its offset is not 0.
 abbrev pub is_fragment : ℕ → Bool
@@ -38,9 +39,11 @@ abbrev pub size_of : ℕ → ℕ
 size_of total = if nat_eq total 0 then 65535 else total
 
 -- The header of an IPv4 packet, by its fields.
-abbrev pub header_with : ℕ → Option ℕ → Option ℕ → Option ℕ → Option ℕ → Option (List ℕ) → Option (List ℕ) → Result V4Header NoDatagramCause
+abbrev pub header_with : ℕ → Option ℕ → Option ℕ → Option ℕ → Option ℕ → Option (List ℕ) → Option (List ℕ)
+    → Result V4Header NoDatagramCause
 header_with place (Some first) (Some total) (Some flags) (Some protocol) (Some source) (Some destination) =
-    if not (nat_eq (first / 16) 4) || (nat_lt (first % 16 * 4) 20 || nat_lt (size_of total) (first % 16 * 4)) then Err Length
+    if not (nat_eq (first / 16) 4) || (nat_lt (first % 16 * 4) 20 || nat_lt (size_of total) (first % 16 * 4))
+    then Err Length
     else
     Ok
     (record {
@@ -56,14 +59,17 @@ header_with place _ _ _ _ _ _ = Err Truncated
 -- The header of the IPv4 packet at a place: version and header length, total length, flags, protocol, both addresses.
 abbrev pub ipv4_of : List ℕ → ℕ → Result V4Header NoDatagramCause
 ipv4_of octets place =
-    header_with place (octet_at place octets) (big_at (place + 2) octets) (big_at (place + 6) octets) (octet_at (place + 9) octets)
+    header_with place (octet_at place octets) (big_at (place + 2) octets) (big_at (place + 6) octets)
+    (octet_at (place + 9) octets)
     (four_at (place + 12) octets) (four_at (place + 16) octets)
 
 -- The protocols that carry a further packet: IP, GRE, ESP, AH, Ethernet, L2TP, MPLS.
 abbrev pub is_tunnel : ℕ → Bool
 is_tunnel protocol =
     (protocol == 4)
-    || ((protocol == 41) || ((protocol == 47) || ((protocol == 50) || ((protocol == 51) || ((protocol == 97) || ((protocol == 115) || ((protocol == 137) || (protocol == 143))))))))
+    || ((protocol == 41) || ((protocol == 47)
+    || ((protocol == 50) || ((protocol == 51)
+    || ((protocol == 97) || ((protocol == 115) || ((protocol == 137) || (protocol == 143))))))))
 
 -- Why a packet of another protocol than UDP is passed over.
 abbrev pub no_datagram : ℕ → NoDatagramCause
@@ -134,17 +140,20 @@ upper_of octets u =
     behind_next octets (behind_next octets (behind_next octets (behind_next octets (behind_header octets u))))
 
 -- The datagram in the header that was found, if that is UDP.
-abbrev pub upper_with : List ℕ → List ℕ → List ℕ → ℕ → Result UpperHeader NoDatagramCause → Result FoundDatagram NoDatagramCause
+abbrev pub upper_with : List ℕ → List ℕ → List ℕ → ℕ → Result UpperHeader NoDatagramCause
+    → Result FoundDatagram NoDatagramCause
 upper_with octets source destination end (Ok u) =
     if u.kind == UDP then in_udp octets (V6 source) (V6 destination) u.place end else Err (no_datagram u.kind)
 upper_with octets source destination end (Err why) = Err why
 
 -- The datagram of an IPv6 packet, by its header fields.
-abbrev pub ipv6_with : List ℕ → ℕ → Option ℕ → Option ℕ → Option ℕ → Option (List ℕ) → Option (List ℕ) → Result FoundDatagram NoDatagramCause
+abbrev pub ipv6_with : List ℕ → ℕ → Option ℕ → Option ℕ → Option ℕ → Option (List ℕ) → Option (List ℕ)
+    → Result FoundDatagram NoDatagramCause
 ipv6_with octets place (Some first) (Some size) (Some kind) (Some source) (Some destination) =
     if not (nat_eq (first / 16) 6) then Err Length
     else
-    upper_with octets source destination (place + 40 + size) (upper_of octets (record { kind = kind; place = place + 40 }))
+    upper_with octets source destination (place + 40 + size)
+    (upper_of octets (record { kind = kind; place = place + 40 }))
 ipv6_with octets place _ _ _ _ _ = Err Truncated
 
 -- The datagram of the IPv6 packet at a place: version, length, next header, both addresses.

@@ -15,7 +15,8 @@ abbrev pub four_at : ℕ → List ℕ → Option (List ℕ)
 four_at place octets =
     if nat_le (place + 4) (length octets)
     then
-    Some (slice_index octets place ∷ slice_index octets (place + 1) ∷ slice_index octets (place + 2) ∷ slice_index octets (place + 3) ∷ [])
+    Some (slice_index octets place ∷ slice_index octets (place + 1) ∷ slice_index octets (place + 2) ∷
+    slice_index octets (place + 3) ∷ [])
     else None
 
 -- The sixteen bytes from a place on.

@@ -7,7 +7,8 @@ use Rattle.capture.specs.Words.{before, behind, marks, number_of}
 
 -- The range between two numbers, if both are there and the second is not below the first.
 abbrev pub range_between : Option ℕ → Option ℕ → Option PortRange
-range_between (Some first) (Some last) = if nat_le first last then Some (record { first = first; last = last }) else None
+range_between (Some first) (Some last) =
+    if nat_le first last then Some (record { first = first; last = last }) else None
 range_between _ _ = None
 
 -- The range of a text: one port, or two separated by a hyphen.
@@ -27,7 +28,8 @@ slot_of true text = as_slot (range_of text)
 slot_of false text = Some None
 
 -- The list of four places, if all four are valid.
-abbrev pub slots : Option (Option PortRange) → Option (Option PortRange) → Option (Option PortRange) → Option (Option PortRange)
+abbrev pub slots : Option (Option PortRange) → Option (Option PortRange) → Option (Option PortRange)
+    → Option (Option PortRange)
     → Option (List (Option PortRange))
 slots (Some a) (Some b) (Some c) (Some d) = Some (a ∷ b ∷ c ∷ d ∷ [])
 slots _ _ _ _ = None

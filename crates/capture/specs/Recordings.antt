@@ -62,7 +62,8 @@ text_step = record { part = Start; event = event.Text; change = Keep }
 abbrev pub form_step : Bool → Bool → Step
 form_step big nanos = part_after (Head (record { big = big; nanos = nanos }))
 
--- The first four bytes: four numbers name byte order and unit of a pcap file, one starts a pcapng section; anything else is a text.
+-- The first four bytes: four numbers name byte order and unit of a pcap file, one starts a pcapng section; anything
+-- else is a text.
 abbrev pub start_with : Option ℕ → Step
 start_with (Some first) =
     if nat_eq first 0xa1b2c3d4 then form_step true false
@@ -101,14 +102,16 @@ record_with form link _ _ _ _ = Err fault.Length
 -- The step of a record header: time, recorded size, original size.
 abbrev pub record_step : FileForm → Option Link → List ℕ → Result Step FileFault
 record_step form link octets =
-    record_with form link (long_at form.big 0 octets) (long_at form.big 4 octets) (long_at form.big 8 octets) (long_at form.big 12 octets)
+    record_with form link (long_at form.big 0 octets) (long_at form.big 4 octets) (long_at form.big 8 octets)
+    (long_at form.big 12 octets)
 
 -- The step of a record's frame.
 abbrev pub body_step : FileForm → Option Link → ℕ → ℕ → Bool → List ℕ → Step
 body_step form link time size whole octets =
     record {
       part = Record form link;
-      event = event.Frame (record { link = link; time = time; start = 0; end = min (length octets) size; whole = whole });
+      event =
+          event.Frame (record { link = link; time = time; start = 0; end = min (length octets) size; whole = whole });
       change = Keep;
     }
 
@@ -248,7 +251,8 @@ frame_for interface big high low size original room =
     if nat_lt room size then Err fault.Length else frame_on interface big high low size original
 
 -- A packet with these fields.
-abbrev pub packet_with : List (Option Interface) → Bool → ℕ → Option ℕ → Option ℕ → Option ℕ → Option ℕ → Option ℕ → Result Step FileFault
+abbrev pub packet_with : List (Option Interface) → Bool → ℕ → Option ℕ → Option ℕ → Option ℕ → Option ℕ → Option ℕ
+    → Result Step FileFault
 packet_with interfaces big long (Some number) (Some high) (Some low) (Some size) (Some original) =
     frame_for (interface_at interfaces number) big high low size original (long - 20)
 packet_with interfaces big long _ _ _ _ _ = Err fault.Length
@@ -256,16 +260,19 @@ packet_with interfaces big long _ _ _ _ _ = Err fault.Length
 -- The step of an enhanced packet: interface, time, recorded size, original size.
 abbrev pub packet_step : List (Option Interface) → Bool → List ℕ → Result Step FileFault
 packet_step interfaces big inner =
-    packet_with interfaces big (length inner) (long_at big 0 inner) (long_at big 4 inner) (long_at big 8 inner) (long_at big 12 inner)
+    packet_with interfaces big (length inner) (long_at big 0 inner) (long_at big 4 inner) (long_at big 8 inner)
+    (long_at big 12 inner)
     (long_at big 16 inner)
 
 -- The step of an obsolete packet: interface, time, recorded size, original size.
 abbrev pub obsolete_step : List (Option Interface) → Bool → List ℕ → Result Step FileFault
 obsolete_step interfaces big inner =
-    packet_with interfaces big (length inner) (short_at big 0 inner) (long_at big 4 inner) (long_at big 8 inner) (long_at big 12 inner)
+    packet_with interfaces big (length inner) (short_at big 0 inner) (long_at big 4 inner) (long_at big 8 inner)
+    (long_at big 12 inner)
     (long_at big 16 inner)
 
--- How many bytes of a simple packet are in its block: at most its original size, the limit of its interface if that is not 0, and the room of the block.
+-- How many bytes of a simple packet are in its block: at most its original size, the limit of its interface if that is
+-- not 0, and the room of the block.
 abbrev pub simple_size : ℕ → ℕ → ℕ → ℕ
 simple_size limit original room = if nat_eq limit 0 then min room original else min room (min original limit)
 
@@ -295,7 +302,8 @@ simple_with interface last big long None = Err fault.Length
 
 -- The step of a simple packet, which is of the first interface.
 abbrev pub simple_step : List (Option Interface) → ℕ → Bool → List ℕ → Result Step FileFault
-simple_step interfaces last big inner = simple_with (interface_at interfaces 0) last big (length inner) (long_at big 0 inner)
+simple_step interfaces last big inner =
+    simple_with (interface_at interfaces 0) last big (length inner) (long_at big 0 inner)
 
 -- The step of a block by its type; any other block is skipped.
 abbrev pub inner_step : Recording → Bool → ℕ → List ℕ → Result Step FileFault
@@ -309,7 +317,8 @@ inner_step r big kind inner =
 -- The step of the rest of a block, with the length again at its end.
 abbrev pub cut_step : Recording → Bool → ℕ → ℕ → List ℕ → Result Step FileFault
 cut_step r big kind size octets =
-    if not (is_number (long_at big (size - 12) octets) size) || nat_lt (length octets) (size - 12) then Err fault.Trailer
+    if not (is_number (long_at big (size - 12) octets) size)
+    || nat_lt (length octets) (size - 12) then Err fault.Trailer
     else inner_step r big kind (take (size - 12) octets)
 
 -- The step of the part that comes next.

@@ -1,5 +1,6 @@
 -- The sessions of a connection. One lasts from its opening to the next one.
-use Rattle.std.specs.Prelude.{ℕ, ◌-◌, ◌%◌, ◌==◌, ◌&&◌, ◌||◌, Bool, true, false, not, nat_eq, nat_lt, List, fold, slice_index, slice_set, replicate, if◌then◌else◌, Option, Some, None, is_none, is_some}
+use Rattle.circular_buffer.specs.Buffer.{keep_last}
+use Rattle.std.specs.Prelude.{ℕ, ◌-◌, [], ◌∷◌, ◌++◌, ◌==◌, ◌&&◌, ◌||◌, Bool, true, false, not, nat_eq, nat_lt, List, fold, slice_index, slice_set, replicate, if◌then◌else◌, Option, Some, None, is_none, is_some}
 use Rattle.safe_pdu.specs.declared.Kind.{Kind}
 use Rattle.safe_pdu.specs.declared.Leaving.{Leaving}
 use Rattle.capture.specs.declared.direction.TheConstants.{CHANNELS}
@@ -30,14 +31,15 @@ no_session_totals = record { up = 0; unanswered = 0; left = 0; timeouts = 0; alo
 
 -- The sessions of a connection before its first PDU.
 abbrev pub open_sessions : Sessions
-open_sessions = record { past = replicate SESSIONS None; ended = no_session_totals; current = open_session 0 None None }
+open_sessions = record { past = []; ended = no_session_totals; current = open_session 0 None None }
 
 -- 1 if it holds, else 0.
 abbrev pub one_if : Bool → ℕ
 one_if true = 1
 one_if false = 0
 
--- The numbers that are missing, after a number that followed in this way: a gap adds those it skips, and a late number takes itself away.
+-- The numbers that are missing, after a number that followed in this way: a gap adds those it skips, and a late number
+-- takes itself away.
 abbrev pub missing_after : ℕ → NumberOrder → ℕ
 missing_after missing (Ahead passed) = limited_sum missing passed
 missing_after missing Late = missing - 1
@@ -141,13 +143,14 @@ end_current ss =
     if nat_eq ss.current.number 0 then ss
     else
     record ss {
-      past = slice_set ss.past (ss.current.number % SESSIONS) (Some ss.current);
+      past = keep_last SESSIONS (ss.past ++ ss.current ∷ []);
       ended = count_session ss.ended ss.current;
     }
 
 -- The sessions after the start of the next one.
 abbrev pub start_session : Sessions → Option SessionRequest → Option ℕ → Sessions
-start_session ss asked up = record (end_current ss) { current = open_session (limited_sum ss.current.number 1) asked up }
+start_session ss asked up =
+    record (end_current ss) { current = open_session (limited_sum ss.current.number 1) asked up }
 
 -- The session was asked for by the other end.
 abbrev pub is_asked_by_other : Option SessionRequest → Bool → Bool
@@ -176,4 +179,5 @@ count_in_sessions ss from_low time m = record ss { current = session_after from_
 
 -- The sessions of a connection after a PDU with these remarks.
 abbrev pub sessions_after : Sessions → Bool → ℕ → Kind → Remarks → Sessions
-sessions_after ss from_low time kind m = count_in_sessions (begin_sessions m.opens ss from_low time kind) from_low time m
+sessions_after ss from_low time kind m =
+    count_in_sessions (begin_sessions m.opens ss from_low time kind) from_low time m

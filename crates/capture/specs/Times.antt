@@ -10,8 +10,8 @@ use Rattle.capture.specs.declared.interfaces.Walk.TheVariants.{At, Found, Ended}
 abbrev pub above : ℕ → ℕ → ℕ
 above place more = min (place + more) (2 ^ 64 - 1)
 
--- An option, by its code and size. Code 0 ends the options, and the wanted one is found at its value. After any other, the next option follows the value,
--- which is padded to a multiple of four bytes.
+-- An option, by its code and size. Code 0 ends the options, and the wanted one is found at its value. After any other,
+-- the next option follows the value, which is padded to a multiple of four bytes.
 abbrev pub option_with : ℕ → ℕ → ℕ → Option ℕ → Option ℕ → Walk
 option_with code size place (Some c) (Some s) =
     if nat_eq c 0 then Ended
@@ -21,7 +21,8 @@ option_with code size place _ _ = Ended
 
 -- The option at a place, in the byte order of the file.
 abbrev pub option_seen : Bool → ℕ → ℕ → List ℕ → ℕ → Walk
-option_seen big code size inner place = option_with code size place (short_at big place inner) (short_at big (above place 2) inner)
+option_seen big code size inner place =
+    option_with code size place (short_at big place inner) (short_at big (above place 2) inner)
 
 -- The walk after one more option.
 abbrev pub option_step : Bool → ℕ → ℕ → List ℕ → Walk → Walk
@@ -112,7 +113,8 @@ decimal_micros power ticks =
 abbrev pub binary_micros : ℕ → ℕ → ℕ
 binary_micros power ticks =
     min
-    (min (ticks / 2 ^ min power 40 * 1000000) (2 ^ 64 - 1) + min (ticks % 2 ^ min power 40 * 1000000) (2 ^ 64 - 1) / 2 ^ min power 40)
+    (min (ticks / 2 ^ min power 40 * 1000000) (2 ^ 64 - 1) + min (ticks % 2 ^ min power 40 * 1000000) (2 ^ 64 - 1) / 2 ^
+    min power 40)
     (2 ^ 64 - 1)
 
 -- Whole microseconds of a 64-bit time, limited to 2^64 - 1.

@@ -24,7 +24,8 @@ remark_of cs line r (heard.NoRed fault) = remark.NoRed fault
 -- The connections after a datagram; one that is not a PDU is counted on its channel.
 abbrev pub connections_after : List Connection → ℕ → Record → DecodedDatagram → List Connection
 connections_after cs line r (heard.Pdu seq h) = step cs line r seq h
-connections_after cs line r (heard.NoSafe seq fault) = count_damaged_datagram cs r (Some (record { number = seq; line = line }))
+connections_after cs line r (heard.NoSafe seq fault) =
+    count_damaged_datagram cs r (Some (record { number = seq; line = line }))
 connections_after cs line r (heard.NoRed fault) = count_damaged_datagram cs r None
 
 -- How many datagrams were damaged, after this one.
@@ -33,8 +34,9 @@ damaged_count_after damaged (heard.Pdu seq h) = damaged
 damaged_count_after damaged (heard.NoSafe seq fault) = limited_sum damaged 1
 damaged_count_after damaged (heard.NoRed fault) = limited_sum damaged 1
 
--- How many datagrams have another safety code, after one with this fault, as long as none has the right one. One that is too short for the code counts; a
--- wrong length says nothing of the code; any other fault is found behind a right code.
+-- How many datagrams have another safety code, after one with this fault, as long as none has the right one. One that
+-- is too short for the code counts; a wrong length says nothing of the code; any other fault is found behind a right
+-- code.
 abbrev pub miscoded_count_with : Option ℕ → SafeFault → Option ℕ
 miscoded_count_with None why = None
 miscoded_count_with (Some miscoded) fault.Code = Some (limited_sum miscoded 1)
@@ -85,7 +87,8 @@ add_connection_counts t c = add_window_counts (add_window_counts t c.from_low.to
 
 -- The sums over the forgotten connections, after a PDU.
 abbrev pub forgotten_totals_with : Totals → List Connection → Record → Header → Totals
-forgotten_totals_with gone cs r h = if forgets_connection cs r h then add_connection_counts gone (slice_index_or cs (forgotten_place cs) (new_connection 0 0)) else gone
+forgotten_totals_with gone cs r h = if forgets_connection cs r h
+    then add_connection_counts gone (slice_index_or cs (forgotten_place cs) (new_connection 0 0)) else gone
 
 -- The sums over the forgotten connections, after a datagram.
 abbrev pub forgotten_totals_after : Totals → List Connection → Record → DecodedDatagram → Totals

@@ -42,7 +42,8 @@ is_numeral (digit ∷ digits) = list_all is_ascii_digit (digit ∷ digits)
 
 -- The number that the digits spell, if it is at most `most`.
 abbrev pub number_of : ℕ → List ℕ → Option ℕ
-number_of most word = if is_numeral word && nat_le (digits_value 10 word) most then Some (digits_value 10 word) else None
+number_of most word =
+    if is_numeral word && nat_le (digits_value 10 word) most then Some (digits_value 10 word) else None
 
 -- Four bytes, if all four were read.
 abbrev pub four : Option ℕ → Option ℕ → Option ℕ → Option ℕ → Option (List ℕ)
@@ -96,4 +97,5 @@ moment _ _ = None
 -- A time: seconds, a point, a fraction.
 abbrev pub time_of : List ℕ → Option ℕ
 time_of text =
-    if nat_eq (marks 46 text) 1 then moment (number_of SECONDS_MAX (before 46 text)) (micros_of (behind 46 text)) else None
+    if nat_eq (marks 46 text) 1 then moment (number_of SECONDS_MAX (before 46 text)) (micros_of (behind 46 text))
+    else None

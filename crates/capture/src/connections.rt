@@ -23,7 +23,7 @@ use safe_pdu::Identifier;
 use std::alloc::{AllocError, Global};
 use std::marker::Model;
 
-/// How many connections are kept, each in some 30 KiB.
+/// How many connections are kept, each in 16 KiB, and 14 KiB for sessions that have ended.
 pub const CONNECTIONS: usize = 256;
 
 /// The two addresses of a channel, as in the first PDU on it.
@@ -36,7 +36,7 @@ pub struct Route {
 }
 
 /// A connection, as far as its PDUs were recorded.
-#[derive(Clone, Copy, Debug, PartialEq, Eq)]
+#[derive(Drop)]
 pub struct Connection {
     /// The lower identifier of its ends.
     pub low: u32,
@@ -54,16 +54,6 @@ pub struct Connection {
     pub sessions: Sessions,
     /// What is measured of it.
     pub measures: Measures,
-}
-
-impl Default for Connection {
-    /// Returns a connection without PDUs.
-    fn default() -> Self
-        // The default connection has the identifiers 0 and 0, and no PDU.
-        ensures { result ≡ new_connection 0 0 }
-    {
-        open(0, 0)
-    }
 }
 
 /// A connection on the heap, so that a list of entries changes its order without a copy of connections. Contracts see
@@ -88,7 +78,7 @@ impl Entry {
         // The connection is new, whatever it was before.
         ensures { self.new ≡ new_connection low high }
     {
-        *self.connection = open(low, high);
+        self.connection.reopen(low, high);
     }
 }
 
@@ -169,7 +159,8 @@ fn new_entry(alloc: Global) -> Result<Entry, AllocError>
     // The entry has a connection without PDUs.
     ensures { IfOk result (λ entry. entry ≡ new_connection 0 0) }
 {
-    let connection = Box::new(alloc, open(0, 0))?;
+    let sessions = Sessions::new(alloc)?;
+    let connection = Box::new(alloc, open(sessions))?;
     Ok(Entry { connection })
 }
 
@@ -239,7 +230,7 @@ fn bring_to_end(connections: &mut Connections, record: &Record, header: &Header,
         None => {
             let (low, high) = ends(header.sender, header.receiver);
             make_room(&mut connections.list, &mut connections.spare);
-            push(&mut connections.list, opened(spare, low, high));
+            push(&mut connections.list, start_connection(spare, low, high));
         }
     }
 }
@@ -422,7 +413,7 @@ fn make_room(list: &mut Vec<Entry>, spare: &mut Option<Entry>)
 }
 
 /// Returns an entry with a connection between two ends without PDUs.
-fn opened(spare: Entry, low: u32, high: u32) -> Entry
+fn start_connection(spare: Entry, low: u32, high: u32) -> Entry
     // The connection is new, whatever the entry had before.
     ensures { result ≡ new_connection low high }
 {
@@ -431,20 +422,37 @@ fn opened(spare: Entry, low: u32, high: u32) -> Entry
     entry
 }
 
-/// Returns a connection between two ends without PDUs.
-fn open(low: u32, high: u32) -> Connection
-    // The connection has the identifiers `low` and `high`, no time and no channels, and both directions are empty.
-    ensures { result ≡ new_connection low high }
+/// Returns a connection without identifiers and PDUs.
+fn open(sessions: Sessions) -> Connection
+    // The connection has the identifiers 0 and 0, no time, no channels, both directions empty, and these `sessions`.
+    ensures { result ≡ record (new_connection 0 0) { sessions = sessions } }
 {
     Connection {
-        low,
-        high,
+        low: 0,
+        high: 0,
         last: 0,
         routes: [None; CHANNELS],
         from_low: Direction::new(),
         from_high: Direction::new(),
-        sessions: Sessions::new(),
+        sessions,
         measures: Measures::new(),
+    }
+}
+
+impl Connection {
+    /// Makes it a connection between two ends without PDUs. It keeps its memory.
+    fn reopen(&mut self, low: u32, high: u32)
+        // The connection has the identifiers `low` and `high`, and nothing of what it was before.
+        ensures { self.new ≡ new_connection low high }
+    {
+        self.low = low;
+        self.high = high;
+        self.last = 0;
+        self.routes = [None; CHANNELS];
+        self.from_low = Direction::new();
+        self.from_high = Direction::new();
+        self.sessions.clear();
+        self.measures = Measures::new();
     }
 }
 

@@ -86,7 +86,7 @@ fn read_header(pdu: &SafePdu<'_>, octets: &[u8]) -> Header
         ts: pdu.ts,
         cts: pdu.cts,
         fingerprint: spell(octets),
-        leaving: leaving(pdu.kind, pdu.body),
+        leaving: departure(pdu.kind, pdu.body),
     }
 }
 
@@ -122,7 +122,7 @@ fn join_digit(fingerprint: u64, digit: u32) -> u64
 }
 
 /// Returns reason and detail of a DiscReq.
-fn leaving(kind: Kind, body: &[u8]) -> Option<Leaving>
+fn departure(kind: Kind, body: &[u8]) -> Option<Leaving>
     requires { IsBody kind body.now }
     // Only a DiscReq has a reason and a detail; they are read from its `body`.
     ensures { result ≡ leaving_of kind body.now }

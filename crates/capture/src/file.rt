@@ -12,7 +12,7 @@ ghost use Rattle.capture.specs.Recordings.{IsWithinBlock, at_first_free, block_s
 
 use crate::frame::Link;
 use crate::interfaces::{Interface, is_readable, offset, resolution};
-use crate::packets::{enhanced, obsolete, simple};
+use crate::packets::{obsolete, read_enhanced, simple};
 use crate::places::{big, four, long, short};
 
 /// Largest block that is read, in bytes. Recorders cut frames at 262,144.
@@ -319,7 +319,7 @@ fn head(form: FileForm, octets: &[u8]) -> Result<Step, FileFault>
     if version != 2 {
         return Err(FileFault::Version);
     }
-    Ok(on_to(FilePart::Record(form, Link::numbered(network % 0x1_0000))))
+    Ok(on_to(FilePart::Record(form, Link::of_number(network % 0x1_0000))))
 }
 
 /// Reads the header of a pcap record: its time, the recorded size of the frame, and its original size.
@@ -554,7 +554,7 @@ fn rest(
         1 => describe(&recording.interfaces, big, inner),
         2 => obsolete(&recording.interfaces, big, inner),
         3 => simple(&recording.interfaces, recording.last, big, inner),
-        6 => enhanced(&recording.interfaces, big, inner),
+        6 => read_enhanced(&recording.interfaces, big, inner),
         _ => Ok(on_to(FilePart::Block(big))),
     }
 }
@@ -588,7 +588,7 @@ fn describe(
         part: FilePart::Block(big),
         event: BlockContent::Nothing,
         change: Change::Add(Interface {
-            link: Link::numbered(link as u32),
+            link: Link::of_number(link as u32),
             resolution: unit,
             offset: offset(big, inner),
             limit,

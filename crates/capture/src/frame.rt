@@ -29,7 +29,7 @@ pub enum Link {
 
 impl Link {
     /// Returns the link header of a LINKTYPE number, if it is known here.
-    pub fn numbered(number: u32) -> Option<Link>
+    pub fn of_number(number: u32) -> Option<Link>
         // Known are exactly 0, 1, 12, 14, 101, 108, 113, 228 and 276, with the link headers of `link_of`.
         ensures { result ≡ link_of number }
     {

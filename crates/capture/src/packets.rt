@@ -8,7 +8,7 @@ use crate::interfaces::{Interface, micros, shift};
 use crate::places::{long, short};
 
 /// Reads an enhanced packet block: the frame of an interface, with its time.
-pub(crate) fn enhanced(
+pub(crate) fn read_enhanced(
     interfaces: &[Option<Interface>; INTERFACES],
     big: bool,
     inner: &[u8],

@@ -3,12 +3,16 @@
 //! A ConnReq starts a session, and so does a ConnResp to which no ConnReq was recorded. The session lasts up to the
 //! next one, so each PDU belongs to exactly one session.
 
-ghost use Rattle.std.specs.Prelude.{◌≡◌, ◌<◌};
+ghost use Rattle.circular_buffer.specs.Buffer.{keep_last};
+ghost use Rattle.std.specs.Prelude.{◌≡◌, ◌<◌, ◌++◌, ◌∷◌, [], IfOk};
 ghost use Rattle.capture.specs.Sessions.{alone_in, alone_of, start_session, end_current, is_asked_by_other, is_awaited_in, is_doubled, is_other_silent, is_timeout, is_unanswered_by, is_unanswered_in, lost_in_session, missing_after, missing_on, no_session_totals, one_if, open_session, open_sessions, open_side, first_disconnection, disconnection_if, disconnection_in, session_after, count_session, session_sums, sessions_after, begin_sessions, sessions_after_opening, side_after, with_alone};
 
 use crate::direction::{CHANNELS, Remarks, greatest, is_first_copy};
 use crate::window::NumberOrder;
+use circular_buffer::HeapCircularBuffer;
 use safe_pdu::{Kind, Leaving};
+use std::alloc::{AllocError, Global};
+use std::marker::Model;
 
 /// How many sessions that have ended are kept of a connection. The current one is kept beside them.
 pub const SESSIONS: usize = 64;
@@ -16,15 +20,74 @@ pub const SESSIONS: usize = 64;
 /// The reason in the DiscReq of an end to which nothing recent was confirmed in time.
 const TIMEOUT: u16 = 3;
 
-/// The sessions of a connection, in some 15 KiB.
-#[derive(Clone, Copy, Debug, PartialEq, Eq)]
+/// The sessions of a connection.
+#[derive(Drop)]
 pub struct Sessions {
-    /// For each remainder of a session's number, the last session with it that has ended.
-    pub past: [Option<Session>; SESSIONS],
+    /// The last sessions that have ended.
+    pub past: PastSessions,
     /// The sums over all sessions that have ended.
     pub ended: SessionTotals,
     /// The current session; its number is 0 before the first PDU.
     pub current: Session,
+}
+
+/// The last sessions that have ended, the oldest first, at most `SESSIONS`. Contracts see the list of them.
+///
+/// It has room for all of them from the start, some 14 KiB; the system gives this memory as it is written.
+#[derive(Drop)]
+pub struct PastSessions {
+    kept: HeapCircularBuffer<Session, Global>,
+}
+
+impl Model for PastSessions {
+    ghost use Rattle.std.specs.Prelude.{◌≡◌, List};
+    ghost use Rattle.capture.specs.declared.sessions.Session.{Session as Kept};
+    ghost use Rattle.capture.specs.declared.sessions.TheConstants.{SESSIONS as MOST};
+
+    ghost Value = { List Kept };
+
+    ghost view = { λ past. past.kept.items };
+
+    ghost invariant = { λ past. past.kept.capacity ≡ MOST };
+}
+
+impl PastSessions {
+    /// Makes room for 64 sessions.
+    ///
+    /// # Errors
+    ///
+    /// `AllocError` if there is too little memory.
+    pub(crate) fn new(alloc: Global) -> Result<Self, AllocError>
+        // No session is kept.
+        ensures { IfOk result (λ past. past ≡ []) }
+    {
+        let kept = HeapCircularBuffer::with_capacity(alloc, SESSIONS)?;
+        Ok(PastSessions { kept })
+    }
+
+    /// Keeps a session that has ended.
+    fn keep(&mut self, session: Session)
+        // The session is the last one. If 64 were kept, the oldest one gives way to it.
+        ensures { self.new ≡ keep_last SESSIONS (self.old ++ session ∷ []) }
+    {
+        self.kept.push_back(session);
+    }
+
+    /// Forgets all sessions.
+    fn clear(&mut self)
+        // All sessions are gone.
+        ensures { self.new ≡ [] }
+    {
+        self.kept.clear();
+    }
+
+    /// Returns the sessions in two parts, of which the first has the older ones.
+    pub fn as_slices(&self) -> (&[Session], &[Session])
+        // Both parts together have exactly the kept sessions, the oldest first.
+        ensures { result.0.now ++ result.1.now ≡ self.now }
+    {
+        self.kept.as_slices()
+    }
 }
 
 /// A session, as far as its PDUs were recorded.
@@ -96,15 +159,29 @@ pub struct SessionTotals {
 
 impl Sessions {
     /// Returns the sessions of a connection without PDUs.
-    pub fn new() -> Self
+    ///
+    /// # Errors
+    ///
+    /// `AllocError` if there is too little memory.
+    pub fn new(alloc: Global) -> Result<Self, AllocError>
         // No session is kept, all sums are 0, and the current session has the number 0.
-        ensures { result ≡ open_sessions }
+        ensures { IfOk result (λ sessions. sessions ≡ open_sessions) }
     {
-        Sessions {
-            past: [None; SESSIONS],
+        Ok(Sessions {
+            past: PastSessions::new(alloc)?,
             ended: new_totals(),
             current: new_session(0, None, None),
-        }
+        })
+    }
+
+    /// Makes them those of a connection without PDUs.
+    pub(crate) fn clear(&mut self)
+        // The sessions are as `new` returns them, whatever they were before.
+        ensures { self.new ≡ open_sessions }
+    {
+        self.past.clear();
+        self.ended = new_totals();
+        self.current = new_session(0, None, None);
     }
 }
 
@@ -226,8 +303,7 @@ fn asks_other(asked: Option<SessionRequest>, from_low: bool) -> bool
 
 /// Starts the next session.
 fn begin(sessions: &mut Sessions, asked: Option<SessionRequest>, up: Option<u64>)
-    // The session before is kept in the place of the oldest one and added to the sums; the new one has the next
-    // number (`start_session`).
+    // The session before is kept and added to the sums; the new one has the next number (`start_session`).
     ensures { sessions.new ≡ start_session sessions.old asked up }
 {
     end(sessions);
@@ -237,13 +313,13 @@ fn begin(sessions: &mut Sessions, asked: Option<SessionRequest>, up: Option<u64>
 
 /// Keeps the current session among those that have ended, if there is one.
 fn end(sessions: &mut Sessions)
-    // The session replaces the kept one with the same remainder of its number, and is added to the sums; the current
-    // session does not change (`end_current`).
+    // The session is the last of those that are kept, and is added to the sums; the current session does not change
+    // (`end_current`).
     ensures { sessions.new ≡ end_current sessions.old }
 {
     let last = sessions.current;
     if last.number > 0 {
-        sessions.past[(last.number % 64) as usize] = Some(last);
+        sessions.past.keep(last);
         sessions.ended = add_session(sessions.ended, &last);
     }
 }

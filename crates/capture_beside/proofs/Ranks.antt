@@ -6,7 +6,8 @@ use Rattle.capture_beside.specs.Delays.{place_at_rank}
 
 -- Behind a bucket that has fewer, the bucket of the rank is one further.
 pub further : (rank : ℕ) (counts : List ℕ) (place : ℕ) → place < length counts → slice_index_or counts place 0 < rank
-    → place + place_at_rank rank (drop place counts) ≡ suc place + place_at_rank (rank - slice_index_or counts place 0) (drop (suc place) counts)
+    → place + place_at_rank rank (drop place counts) ≡ suc place + place_at_rank (rank - slice_index_or counts place 0)
+    (drop (suc place) counts)
 further rank counts place within more =
     let cut = drop-cons counts place 0 within in
     grind (arith, cut)

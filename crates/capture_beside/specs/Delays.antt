@@ -11,8 +11,8 @@ abbrev pub first_from : Option ℕ → ℕ → ℕ
 first_from None difference = difference
 first_from (Some first) difference = first
 
--- the bucket of a difference: as many from the middle as whole steps lie between it and the first one, those below rounded down; the outermost buckets have
--- all further ones
+-- the bucket of a difference: as many from the middle as whole steps lie between it and the first one, those below
+-- rounded down; the outermost buckets have all further ones
 abbrev pub bucket_of : ℕ → ℕ → ℕ
 bucket_of first difference =
     if nat_le first difference then MIDDLE + min ((difference - first) / WIDTH) MIDDLE
@@ -20,12 +20,14 @@ bucket_of first difference =
 
 -- the buckets with one more at a place
 abbrev pub with_one : ℕ → List ℕ → List ℕ
-with_one place counts = if nat_lt place (length counts) then slice_set counts place (one_more (slice_index_or counts place 0)) else counts
+with_one place counts =
+    if nat_lt place (length counts) then slice_set counts place (one_more (slice_index_or counts place 0)) else counts
 
 -- the least difference in a bucket
 abbrev pub start_at : ℕ → ℕ → ℕ
 start_at first place =
-    if nat_le MIDDLE place then min (first + (place - MIDDLE) * WIDTH) (2 ^ 64 - 1) else first - (MIDDLE - place) * WIDTH
+    if nat_le MIDDLE place then min (first + (place - MIDDLE) * WIDTH) (2 ^ 64 - 1)
+    else first - (MIDDLE - place) * WIDTH
 
 -- the first bucket up to which as many differences were counted as a rank says
 abbrev pub place_at_rank : ℕ → List ℕ → ℕ
@@ -38,13 +40,15 @@ behind_least_of first least rank counts = start_at first (place_at_rank rank cou
 
 -- how far it is from the greatest one: from the end of its bucket
 abbrev pub before_greatest_of : ℕ → ℕ → ℕ → List ℕ → ℕ
-before_greatest_of first greatest rank counts = greatest - min (start_at first (place_at_rank rank counts) + (WIDTH - 1)) (2 ^ 64 - 1)
+before_greatest_of first greatest rank counts =
+    greatest - min (start_at first (place_at_rank rank counts) + (WIDTH - 1)) (2 ^ 64 - 1)
 
 -- a difference with the other sign
 abbrev pub negation_of : ℕ → ℕ
 negation_of difference = min (2 ^ 64 - difference) (2 ^ 64 - 1)
 
--- sent from here, a datagram is the faster the less the difference is: half of the pairs rounded up, and 99 of 100, are counted from the least one
+-- sent from here, a datagram is the faster the less the difference is: half of the pairs rounded up, and 99 of 100, are
+-- counted from the least one
 abbrev pub spread_from_here : ℕ → ℕ → ℕ → ℕ → List ℕ → Spread
 spread_from_here pairs first least greatest counts =
     record {
@@ -68,8 +72,10 @@ spread_from_there pairs first least greatest counts =
 abbrev pub spread_of : Option Site → ℕ → Option ℕ → ℕ → ℕ → List ℕ → Option Spread
 spread_of site pairs None least greatest counts = None
 spread_of None pairs (Some first) least greatest counts = Some (spread_from_here pairs first least greatest counts)
-spread_of (Some Here) pairs (Some first) least greatest counts = Some (spread_from_here pairs first least greatest counts)
-spread_of (Some There) pairs (Some first) least greatest counts = Some (spread_from_there pairs first least greatest counts)
+spread_of (Some Here) pairs (Some first) least greatest counts =
+    Some (spread_from_here pairs first least greatest counts)
+spread_of (Some There) pairs (Some first) least greatest counts =
+    Some (spread_from_there pairs first least greatest counts)
 
 -- the start of the bucket of half of the pairs
 abbrev pub median_of : ℕ → Option ℕ → List ℕ → Option ℕ

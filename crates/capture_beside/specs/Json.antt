@@ -19,7 +19,8 @@ use Rattle.capture_beside.specs.Text.{spread_in}
 unfoldable pub counts_json : Counts → List ℕ
 counts_json c =
     join_pieces
-    (codes "{\"datagrams\":" ∷ decimal c.datagrams ∷ codes ",\"not_rasta\":" ∷ decimal c.strange ∷ codes ",\"unreadable\":" ∷ decimal c.unreadable
+    (codes "{\"datagrams\":" ∷ decimal c.datagrams ∷ codes ",\"not_rasta\":" ∷ decimal c.strange ∷
+    codes ",\"unreadable\":" ∷ decimal c.unreadable
     ∷ codes ",\"frames\":" ∷ decimal c.frames ∷ codes "}" ∷ [])
 
 -- what was read of both
@@ -48,22 +49,27 @@ origin_json (Some There) = codes "\",\"from\":\"there\""
 unfoldable pub pairs_json : Sums → List ℕ
 pairs_json s =
     join_pieces
-    (codes ",\"both\":" ∷ decimal s.both ∷ codes ",\"only_here\":" ∷ decimal s.here.alone ∷ codes ",\"only_there\":" ∷ decimal s.there.alone
+    (codes ",\"both\":" ∷ decimal s.both ∷ codes ",\"only_here\":" ∷ decimal s.here.alone ∷ codes ",\"only_there\":" ∷
+    decimal s.there.alone
     ∷ codes ",\"reordered\":" ∷ decimal s.reordered ∷ [])
 
 -- the datagrams before the other recording begins and after it ends
 unfoldable pub outside_json : Sums → List ℕ
-outside_json s = join_pieces (codes ",\"outside_here\":" ∷ decimal s.here.outside ∷ codes ",\"outside_there\":" ∷ decimal s.there.outside ∷ [])
+outside_json s =
+    join_pieces (codes ",\"outside_here\":" ∷ decimal s.here.outside ∷ codes ",\"outside_there\":" ∷
+    decimal s.there.outside ∷ [])
 
 -- a difference of times with its sign
 abbrev pub signed_json : ℕ → List ℕ
-signed_json difference = if nat_lt difference EVEN then codes "-" ++ decimal (EVEN - difference) else decimal (difference - EVEN)
+signed_json difference =
+    if nat_lt difference EVEN then codes "-" ++ decimal (EVEN - difference) else decimal (difference - EVEN)
 
 -- how much longer half, 99 of 100, and the slowest took
 unfoldable pub later_json : Spread → List ℕ
 later_json s =
     join_pieces
-    (codes ",\"median\":" ∷ decimal s.median ∷ codes ",\"most\":" ∷ decimal s.most ∷ codes ",\"greatest\":" ∷ decimal s.greatest ∷ codes "}" ∷ [])
+    (codes ",\"median\":" ∷ decimal s.median ∷ codes ",\"most\":" ∷ decimal s.most ∷ codes ",\"greatest\":" ∷
+    decimal s.greatest ∷ codes "}" ∷ [])
 
 -- how long the datagrams took
 unfoldable pub durations_json : Spread → List ℕ
@@ -75,7 +81,8 @@ spread_json (Some s) = durations_json s
 
 -- the object of a way
 unfoldable pub way_json : Option Site → Way → List ℕ
-way_json origin way = ends_json way ++ origin_json origin ++ (pairs_json way.sums ++ outside_json way.sums) ++ spread_json (spread_in origin way)
+way_json origin way = ends_json way ++ origin_json origin ++ (pairs_json way.sums ++ outside_json way.sums)
+    ++ spread_json (spread_in origin way)
 
 -- one of all ways, after a comma
 unfoldable pub next_way_json : List Way → Way → List ℕ

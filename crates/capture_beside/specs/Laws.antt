@@ -30,7 +30,8 @@ abbrev pub ArrivalsAddUp : Type 0
 ArrivalsAddUp =
     (site : Site) (a : WaitingDatagram) (here there : Queue) (shift : ℕ) (e : Option Extent) (s : Sums) → HasRoom s
     → AllAddUp s (length here.waiting.items) (length there.waiting.items)
-    → AllAddUp (count_outcome site a (outcome_of site a.fingerprint here there) shift e (count_recorded site s)) (length (here_after site a here there))
+    → AllAddUp (count_outcome site a (outcome_of site a.fingerprint here there) shift e (count_recorded site s))
+    (length (here_after site a here there))
     (length (there_after site a here there))
 
 -- so do those that are given up at the end, and then none waits
@@ -40,7 +41,7 @@ ClosingAddsUp =
     → AllAddUp s (length here.waiting.items) (length there.waiting.items)
     → AllAddUp (give_up_list There there.waiting.items shift e (give_up_list Here here.waiting.items shift f s)) 0 0
 
--- the limits, as numbers: 4,096 datagrams are more than are on their way at once, and bound the clocks' difference; buckets of 0.1 ms reach one second to
--- either side, the difference of equal times is in the middle of 64 bits
+-- the limits, as numbers: 4,096 datagrams are more than are on their way at once, and bound the clocks' difference;
+-- buckets of 0.1 ms reach one second to either side, the difference of equal times is in the middle of 64 bits
 abbrev pub LimitsAre : Type 0
 LimitsAre = (WAITING ≡ 4096) × (BUCKETS ≡ 2 * MIDDLE + 1) × (MIDDLE * WIDTH ≡ 1000000) × (EVEN ≡ 2 ^ 63)

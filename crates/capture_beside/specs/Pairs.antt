@@ -15,7 +15,8 @@ abbrev pub turn_of : ℕ → Option Arrival → Option Arrival → Option Site
 turn_of shift None None = None
 turn_of shift (Some here) None = Some Here
 turn_of shift None (Some there) = Some There
-turn_of shift (Some here) (Some there) = if nat_le shift (difference_of here.time there.time) then Some Here else Some There
+turn_of shift (Some here) (Some there) =
+    if nat_le shift (difference_of here.time there.time) then Some Here else Some There
 
 -- the way goes from one address to another
 abbrev pub is_way_between : Address → Address → Way → Bool

@@ -17,5 +17,7 @@ extent_with (Some e) time = record { first = min e.first time; last = max e.last
 -- a time of a site, in the clock of the other recording, is before its first frame or after its last one
 abbrev pub is_outside_of : Site → ℕ → ℕ → Option Extent → Bool
 is_outside_of site time shift None = true
-is_outside_of Here time shift (Some e) = nat_lt shift (difference_of time e.first) || nat_lt (difference_of time e.last) shift
-is_outside_of There time shift (Some e) = nat_lt (difference_of e.first time) shift || nat_lt shift (difference_of e.last time)
+is_outside_of Here time shift (Some e) =
+    nat_lt shift (difference_of time e.first) || nat_lt (difference_of time e.last) shift
+is_outside_of There time shift (Some e) =
+    nat_lt (difference_of e.first time) shift || nat_lt shift (difference_of e.last time)

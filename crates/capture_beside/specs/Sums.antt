@@ -77,4 +77,5 @@ count_without_partner false t = record t { alone = one_more t.alone }
 -- the sums with one more that has no partner
 abbrev pub give_up : Site → WaitingDatagram → ℕ → Option Extent → Sums → Sums
 give_up site gone shift other s =
-    with_tally site (count_without_partner (is_outside_of site gone.time (shift_from s.shift shift) other) (tally_of site s)) s
+    with_tally site (count_without_partner (is_outside_of site gone.time (shift_from s.shift shift) other)
+    (tally_of site s)) s

@@ -24,17 +24,20 @@ origin_text (Some There) = codes " from there"
 unfoldable pub pairs_text : Sums → List ℕ
 pairs_text s =
     join_pieces
-    (codes " both " ∷ decimal s.both ∷ codes " only here " ∷ decimal s.here.alone ∷ codes " only there " ∷ decimal s.there.alone ∷ codes " reordered "
+    (codes " both " ∷ decimal s.both ∷ codes " only here " ∷ decimal s.here.alone ∷ codes " only there " ∷
+    decimal s.there.alone ∷ codes " reordered "
     ∷ decimal s.reordered ∷ [])
 
 -- the datagrams before the other recording begins and after it ends
 unfoldable pub outside_text : Sums → List ℕ
-outside_text s = join_pieces (codes " outside here " ∷ decimal s.here.outside ∷ codes " there " ∷ decimal s.there.outside ∷ [])
+outside_text s =
+    join_pieces (codes " outside here " ∷ decimal s.here.outside ∷ codes " there " ∷ decimal s.there.outside ∷ [])
 
 -- a difference of times with its sign
 abbrev pub signed_text : ℕ → List ℕ
 signed_text difference =
-    if nat_lt difference EVEN then codes "-" ++ duration_text (EVEN - difference) else codes "+" ++ duration_text (difference - EVEN)
+    if nat_lt difference EVEN then codes "-" ++ duration_text (EVEN - difference) else codes "+"
+    ++ duration_text (difference - EVEN)
 
 -- seconds behind a word
 unfoldable pub later_text : List ℕ → ℕ → List ℕ
@@ -42,7 +45,8 @@ later_text word micros = word ++ duration_text micros
 
 -- how much longer half, 99 of 100, and the slowest took
 unfoldable pub longer_text : Spread → List ℕ
-longer_text s = later_text (codes " median +") s.median ++ later_text (codes " 99% +") s.most ++ later_text (codes " greatest +") s.greatest
+longer_text s = later_text (codes " median +") s.median ++ later_text (codes " 99% +") s.most
+    ++ later_text (codes " greatest +") s.greatest
 
 -- how long the fastest took, and the others
 unfoldable pub durations_text : Spread → List ℕ
@@ -55,7 +59,8 @@ spread_text (Some s) = durations_text s ++ codes "\n"
 
 -- how long the datagrams of a way took from a site
 abbrev pub spread_in : Option Site → Way → Option Spread
-spread_in origin way = spread_of origin way.sums.both way.delays.first way.delays.least way.delays.greatest way.delays.buckets.items
+spread_in origin way =
+    spread_of origin way.sums.both way.delays.first way.delays.least way.delays.greatest way.delays.buckets.items
 
 -- its addresses
 unfoldable pub ends_text : Way → List ℕ
@@ -63,7 +68,8 @@ ends_text way = address_text way.source ++ codes "->" ++ address_text way.destin
 
 -- the line of a way
 unfoldable pub way_text : Option Site → Way → List ℕ
-way_text origin way = ends_text way ++ origin_text origin ++ (pairs_text way.sums ++ outside_text way.sums) ++ spread_text (spread_in origin way)
+way_text origin way = ends_text way ++ origin_text origin ++ (pairs_text way.sums ++ outside_text way.sums)
+    ++ spread_text (spread_in origin way)
 
 -- the lines of some of all ways
 abbrev pub some_text : List Way → List Way → List ℕ
@@ -77,7 +83,8 @@ ways_text ways = some_text ways ways
 unfoldable pub counts_text : List ℕ → Counts → List ℕ
 counts_text name c =
     join_pieces
-    (codes "sum " ∷ name ∷ codes ": datagrams " ∷ decimal c.datagrams ∷ codes " not RaSTA " ∷ decimal c.strange ∷ codes " unreadable "
+    (codes "sum " ∷ name ∷ codes ": datagrams " ∷ decimal c.datagrams ∷ codes " not RaSTA " ∷ decimal c.strange ∷
+    codes " unreadable "
     ∷ decimal c.unreadable ∷ codes " frames " ∷ decimal c.frames ∷ codes "\n" ∷ [])
 
 -- all lines

@@ -13,7 +13,8 @@ use Rattle.capture_beside.specs.Queues.{others_at, next_place, nobody, oldest, w
 use Rattle.capture_beside.specs.Sites.{difference_of}
 use Rattle.capture_beside.specs.Sums.{give_up, count_pair}
 
--- what becomes of a datagram: the one at the place in the other queue is its partner; without a place it waits, and the oldest one of a full queue leaves
+-- what becomes of a datagram: the one at the place in the other queue is its partner; without a place it waits, and the
+-- oldest one of a full queue leaves
 abbrev pub outcome_at : Option ℕ → List WaitingDatagram → List WaitingDatagram → ArrivalOutcome
 outcome_at (Some place) own other = Pair (slice_index_or other place nobody)
 outcome_at None own other = Wait (oldest own)
@@ -29,8 +30,10 @@ partner_in fingerprint q = next_place q.next fingerprint q.waiting.items
 
 -- what becomes of a datagram of a site
 abbrev pub outcome_of : Site → ℕ → Queue → Queue → ArrivalOutcome
-outcome_of Here fingerprint here there = outcome_at (partner_in fingerprint there) here.waiting.items there.waiting.items
-outcome_of There fingerprint here there = outcome_at (partner_in fingerprint here) there.waiting.items here.waiting.items
+outcome_of Here fingerprint here there =
+    outcome_at (partner_in fingerprint there) here.waiting.items there.waiting.items
+outcome_of There fingerprint here there =
+    outcome_at (partner_in fingerprint here) there.waiting.items here.waiting.items
 
 -- what waits here then
 abbrev pub here_after : Site → WaitingDatagram → Queue → Queue → List WaitingDatagram
@@ -49,12 +52,14 @@ pair_at There arrived partner = (partner, arrived)
 
 -- the difference of a pair
 abbrev pub difference_in : Site → WaitingDatagram → ArrivalOutcome → Option ℕ
-difference_in site arrived (Pair partner) = Some (difference_of (pair_at site arrived partner).0.time (pair_at site arrived partner).1.time)
+difference_in site arrived (Pair partner) =
+    Some (difference_of (pair_at site arrived partner).0.time (pair_at site arrived partner).1.time)
 difference_in site arrived (Wait _) = None
 
 -- the sums then: with the pair, or with the datagram that does not wait any more
 abbrev pub count_outcome : Site → WaitingDatagram → ArrivalOutcome → ℕ → Option Extent → Sums → Sums
-count_outcome site arrived (Pair partner) shift other s = count_pair (pair_at site arrived partner).0 (pair_at site arrived partner).1 s
+count_outcome site arrived (Pair partner) shift other s =
+    count_pair (pair_at site arrived partner).0 (pair_at site arrived partner).1 s
 count_outcome site arrived (Wait None) shift other s = s
 count_outcome site arrived (Wait (Some gone)) shift other s = give_up site gone shift other s
 

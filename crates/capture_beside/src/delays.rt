@@ -6,7 +6,7 @@ ghost use Rattle.capture_beside.specs.Delays.{before_greatest_of, behind_least_o
 use crate::sites::Site;
 use std::alloc::{AllocError, Global};
 
-/// How many differences are told apart: those of one second to either side of the first one, in steps of `WIDTH`.
+/// How many differences are distinguished: those of one second to either side of the first one, in steps of `WIDTH`.
 pub const BUCKETS: usize = 20_001;
 
 /// The bucket of the first difference.

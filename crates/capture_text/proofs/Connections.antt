@@ -17,12 +17,15 @@ texts-end f i cs over = let none : drop i cs ≡ [] = drop_all i cs over in rw n
 
 -- The text of the members so far and that of the remaining ones make up the whole text.
 pub sums_left : {A : Type 0} (f : A → List ℕ) (i : ℕ) (cs : List A) (d : A) (a b end : Option (List ℕ)) → i < length cs
-    → Appends a b (f (get_or cs i d)) → Appends b end (flat_map f (drop (i + 1) cs)) → Appends a end (flat_map f (drop i cs))
+    → Appends a b (f (get_or cs i d)) → Appends b end (flat_map f (drop (i + 1) cs))
+    → Appends a end (flat_map f (drop i cs))
 sums_left f i cs d a b end inner line behind = rw (texts-drop f i cs d inner) (Appends-trans a b end _ _ line behind)
 
 -- The same for a member under another name.
-pub sums_left_as : {A : Type 0} (f : A → List ℕ) (i : ℕ) (cs : List A) (d x : A) (a b end : Option (List ℕ)) → i < length cs
-    → x ≡ get_or cs i d → Appends a b (f x) → Appends b end (flat_map f (drop (i + 1) cs)) → Appends a end (flat_map f (drop i cs))
+pub sums_left_as : {A : Type 0} (f : A → List ℕ) (i : ℕ) (cs : List A) (d x : A) (a b end : Option (List ℕ))
+    → i < length cs
+    → x ≡ get_or cs i d → Appends a b (f x) → Appends b end (flat_map f (drop (i + 1) cs))
+    → Appends a end (flat_map f (drop i cs))
 sums_left_as f i cs d x a b end inner same line behind =
     rw (texts-drop f i cs d inner, sym same) (Appends-trans a b end _ _ line behind)
 

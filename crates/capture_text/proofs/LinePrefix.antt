@@ -18,13 +18,16 @@ pub cut_kept : (xs : List ℕ) → length xs ≤ 8193 → xs ≡ cut_line (xs ++
 cut_kept xs short = sym (ap cut_line (append-nil xs) ∙ take_all 8193 xs short)
 
 -- Of a further part, as much is kept as there is room for.
-pub keep_front : (xs ys : List ℕ) (size : ℕ) → length xs ≤ 8193 → size ≡ min (length ys) (8193 - length xs) → xs ++ take size ys ≡ cut_line (xs ++ ys)
+pub keep_front : (xs ys : List ℕ) (size : ℕ) → length xs ≤ 8193 → size ≡ min (length ys) (8193 - length xs)
+    → xs ++ take size ys ≡ cut_line (xs ++ ys)
 keep_front xs ys size short is =
     let r = 8193 - length xs in
     let room : length xs + r ≡ 8193 = omega (arith, short) in
     let same : size ≡ min r (length ys) = omega (arith, is) in
-    ap (λ k. xs ++ take k ys) same ∙ ap (λ l. xs ++ l) (take_min r ys) ∙ sym (take-append-add xs ys r) ∙ ap (λ k. take k (xs ++ ys)) room
+    ap (λ k. xs ++ take k ys) same ∙ ap (λ l. xs ++ l) (take_min r ys) ∙ sym (take-append-add xs ys r)
+    ∙ ap (λ k. take k (xs ++ ys)) room
 
-pub if_some : (known : Option (List ℕ)) (P Q : List ℕ → Type 0) → ((xs : List ℕ) → P xs → Q xs) → IfSome known P → IfSome known Q
+pub if_some : (known : Option (List ℕ)) (P Q : List ℕ → Type 0) → ((xs : List ℕ) → P xs → Q xs) → IfSome known P
+    → IfSome known Q
 if_some None P Q weaker h = tt
 if_some (Some xs) P Q weaker h = weaker xs h

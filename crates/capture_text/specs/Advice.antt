@@ -36,7 +36,8 @@ difference_reason (Some skew) = codes "the greatest skew"
 -- The difference.
 unfoldable pub difference_text : ℕ → ℕ → Network → Delays → List ℕ
 difference_text low high n x =
-    advice_front low high ++ join_pieces (codes " D " ∷ decimal x.difference ∷ codes " ms: " ∷ difference_reason n.skew ∷ codes "\n" ∷ [])
+    advice_front low high ++ join_pieces (codes " D " ∷ decimal x.difference ∷ codes " ms: " ∷
+    difference_reason n.skew ∷ codes "\n" ∷ [])
 
 -- Where the shortest time one way comes from.
 abbrev pub delay_reason : Option ℕ → List ℕ
@@ -46,7 +47,8 @@ delay_reason (Some shortest) = codes "half of the shortest round trips of both e
 -- The longest time one way.
 unfoldable pub delay_text : ℕ → ℕ → Network → Delays → List ℕ
 delay_text low high n x =
-    advice_front low high ++ join_pieces (codes " d " ∷ decimal x.delay ∷ codes " ms: D and " ∷ delay_reason n.shortest ∷ codes "\n" ∷ [])
+    advice_front low high ++ join_pieces (codes " d " ∷ decimal x.delay ∷ codes " ms: D and " ∷
+    delay_reason n.shortest ∷ codes "\n" ∷ [])
 
 -- The units that come within two times one way, rounded up.
 abbrev pub within_delay : ℕ → ℕ → ℕ
@@ -60,11 +62,13 @@ units_word within = if nat_lt 7 within then codes ": more than the window holds,
 unfoldable pub load_text : ℕ → ℕ → List ℕ → List ℕ
 load_text units within remark =
     join_pieces
-    (codes " busiest second " ∷ decimal units ∷ codes " units one way, " ∷ decimal within ∷ codes " within 2 d" ∷ remark ∷ codes "\n" ∷ [])
+    (codes " busiest second " ∷ decimal units ∷ codes " units one way, " ∷ decimal within ∷ codes " within 2 d" ∷
+    remark ∷ codes "\n" ∷ [])
 
 -- The units of the busiest second.
 unfoldable pub units_text : ℕ → ℕ → Network → Delays → List ℕ
-units_text low high n x = advice_front low high ++ load_text n.units (within_delay n.units x.delay) (units_word (within_delay n.units x.delay))
+units_text low high n x = advice_front low high ++ load_text n.units (within_delay n.units x.delay)
+    (units_word (within_delay n.units x.delay))
 
 -- That no settings fit.
 unfoldable pub none_text : ℕ → ℕ → List ℕ
@@ -74,13 +78,15 @@ none_text low high =
 
 -- The values of the window, mwa and q.
 unfoldable pub three_text : ChosenSettings → List ℕ
-three_text s = join_pieces (codes " n_sendmax " ∷ decimal s.window ∷ codes " mwa " ∷ decimal s.mwa ∷ codes " q " ∷ decimal s.q ∷ [])
+three_text s = join_pieces (codes " n_sendmax " ∷ decimal s.window ∷ codes " mwa " ∷ decimal s.mwa ∷ codes " q " ∷
+    decimal s.q ∷ [])
 
 -- The rule that these three obey.
 unfoldable pub rule_text : ChosenSettings → List ℕ
 rule_text s =
     join_pieces
-    (codes ": " ∷ decimal s.window ∷ codes " - 1 + " ∷ decimal s.window ∷ codes "/" ∷ decimal s.mwa ∷ codes " is at most " ∷ decimal s.q ∷ codes "\n"
+    (codes ": " ∷ decimal s.window ∷ codes " - 1 + " ∷ decimal s.window ∷ codes "/" ∷ decimal s.mwa ∷
+    codes " is at most " ∷ decimal s.q ∷ codes "\n"
     ∷ [])
 
 -- The line of the window, mwa and q.
@@ -92,20 +98,25 @@ unfoldable pub t_seq_text : ℕ → ℕ → Delays → ChosenSettings → List �
 t_seq_text low high x s =
     advice_front low high
     ++ join_pieces
-    (codes " T_seq " ∷ decimal s.t_seq ∷ codes " ms: above D, " ∷ decimal x.difference ∷ codes " ms, by a quarter and at least 5 ms\n" ∷ [])
+    (codes " T_seq " ∷ decimal s.t_seq ∷ codes " ms: above D, " ∷ decimal x.difference ∷
+    codes " ms, by a quarter and at least 5 ms\n" ∷ [])
 
 -- T_h.
 unfoldable pub t_h_text : ℕ → ℕ → ChosenSettings → List ℕ
-t_h_text low high s = advice_front low high ++ join_pieces (codes " T_h " ∷ decimal s.t_h ∷ codes " ms: twice T_seq, and at least 100 ms\n" ∷ [])
+t_h_text low high s =
+    advice_front low high ++ join_pieces (codes " T_h " ∷ decimal s.t_h ∷
+    codes " ms: twice T_seq, and at least 100 ms\n" ∷ [])
 
 -- T_max.
 unfoldable pub t_max_text : ℕ → ℕ → ChosenSettings → List ℕ
 t_max_text low high s =
-    advice_front low high ++ join_pieces (codes " T_max " ∷ decimal s.t_max ∷ codes " ms: 4 T_h + 2 T_seq + 6 d, for two repairs in a row\n" ∷ [])
+    advice_front low high ++ join_pieces (codes " T_max " ∷ decimal s.t_max ∷
+    codes " ms: 4 T_h + 2 T_seq + 6 d, for two repairs in a row\n" ∷ [])
 
 -- All settings.
 unfoldable pub settings_text : ℕ → ℕ → Delays → ChosenSettings → List ℕ
-settings_text low high x s = window_text low high s ++ t_seq_text low high x s ++ t_h_text low high s ++ t_max_text low high s
+settings_text low high x s =
+    window_text low high s ++ t_seq_text low high x s ++ t_h_text low high s ++ t_max_text low high s
 
 -- The settings that were chosen, or that none fit.
 abbrev pub settings_lines : ℕ → ℕ → Delays → Option ChosenSettings → List ℕ
@@ -122,7 +133,8 @@ advice_text low high n =
 -- The lines of a connection.
 unfoldable pub connection_text : Connection → List ℕ
 connection_text c =
-    measurements_text c.low c.high c.measures.low ++ measurements_text c.high c.low c.measures.high ++ advice_text c.low c.high (network_of c)
+    measurements_text c.low c.high c.measures.low ++ measurements_text c.high c.low c.measures.high
+    ++ advice_text c.low c.high (network_of c)
 
 -- The lines of all connections.
 abbrev pub advices_text : List Connection → List ℕ

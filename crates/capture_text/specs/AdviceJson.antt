@@ -24,7 +24,8 @@ sides_json m = measurements_json m.low ++ codes "," ++ measurements_json m.high 
 unfoldable pub units_json : Network → List ℕ
 units_json n =
     join_pieces
-    (codes ",\"PDUs\":" ∷ decimal n.pdus ∷ codes ",\"lost\":" ∷ decimal n.lost ∷ codes ",\"units\":" ∷ decimal n.units ∷ [])
+    (codes ",\"PDUs\":" ∷ decimal n.pdus ∷ codes ",\"lost\":" ∷ decimal n.lost ∷ codes ",\"units\":" ∷ decimal n.units ∷
+    [])
 
 -- Whether a time was seen.
 abbrev pub truth_word : Option ℕ → List ℕ
@@ -33,7 +34,8 @@ truth_word (Some time) = codes "true"
 
 -- Which times were seen.
 unfoldable pub seen_times_json : List ℕ → List ℕ → List ℕ
-seen_times_json round_trips skews = join_pieces (codes ",\"round_trips_seen\":" ∷ round_trips ∷ codes ",\"skews_seen\":" ∷ skews ∷ [])
+seen_times_json round_trips skews =
+    join_pieces (codes ",\"round_trips_seen\":" ∷ round_trips ∷ codes ",\"skews_seen\":" ∷ skews ∷ [])
 
 -- What was seen of a network.
 unfoldable pub network_json : Network → List ℕ
@@ -41,20 +43,23 @@ network_json n = units_json n ++ seen_times_json (truth_word n.shortest) (truth_
 
 -- The times by which settings are chosen.
 unfoldable pub delays_json : Delays → List ℕ
-delays_json x = join_pieces (codes ",\"difference\":" ∷ decimal x.difference ∷ codes ",\"delay\":" ∷ decimal x.delay ∷ [])
+delays_json x =
+    join_pieces (codes ",\"difference\":" ∷ decimal x.difference ∷ codes ",\"delay\":" ∷ decimal x.delay ∷ [])
 
 -- The window, mwa and q.
 unfoldable pub window_json : ChosenSettings → List ℕ
 window_json s =
     join_pieces
-    (codes ",\"settings\":{\"n_sendmax\":" ∷ decimal s.window ∷ codes ",\"mwa\":" ∷ decimal s.mwa ∷ codes ",\"q\":" ∷ decimal s.q ∷ [])
+    (codes ",\"settings\":{\"n_sendmax\":" ∷ decimal s.window ∷ codes ",\"mwa\":" ∷ decimal s.mwa ∷ codes ",\"q\":" ∷
+    decimal s.q ∷ [])
 
 -- The settings, and the end of their object and of that of the connection.
 unfoldable pub settings_json : ChosenSettings → List ℕ
 settings_json s =
     window_json s
     ++ join_pieces
-    (codes ",\"t_seq\":" ∷ decimal s.t_seq ∷ codes ",\"t_h\":" ∷ decimal s.t_h ∷ codes ",\"t_max\":" ∷ decimal s.t_max ∷ codes "}}" ∷ [])
+    (codes ",\"t_seq\":" ∷ decimal s.t_seq ∷ codes ",\"t_h\":" ∷ decimal s.t_h ∷ codes ",\"t_max\":" ∷ decimal s.t_max ∷
+    codes "}}" ∷ [])
 
 -- The settings, or null, at the end of a connection's object.
 abbrev pub chosen_settings_json : Option ChosenSettings → List ℕ
@@ -64,7 +69,8 @@ chosen_settings_json (Some settings) = settings_json settings
 -- The object of a connection.
 unfoldable pub advice_json : Connection → List ℕ
 advice_json c =
-    name_json c.low c.high ++ sides_json c.measures ++ network_json (network_of c) ++ delays_json (delays_of (network_of c))
+    name_json c.low c.high ++ sides_json c.measures ++ network_json (network_of c)
+    ++ delays_json (delays_of (network_of c))
     ++ chosen_settings_json (choose_settings (delays_of (network_of c)))
 
 -- A connection after a comma.

@@ -70,7 +70,8 @@ with_text a r text =
       lines = limited_sum r.lines 1;
       first = first_time_after_line r.first (next_remark a r text);
       unreadable = unreadable_count_after_line r.unreadable (next_remark a r text);
-      connections = connections_after_line r.connections (limited_sum r.lines 1) (line_datagram a r.first (line_of text));
+      connections =
+          connections_after_line r.connections (limited_sum r.lines 1) (line_datagram a r.first (line_of text));
       datagrams = datagrams_after_line r.datagrams (line_datagram a r.first (line_of text));
       gone = forgotten_totals_after_line r.gone r.connections (line_datagram a r.first (line_of text));
       damaged = damaged_count_after_line r.damaged (line_datagram a r.first (line_of text));
@@ -97,7 +98,8 @@ with_sums a r = record r { due = due_next a.every r.due r.first r.latest }
 abbrev pub sums_printed : FollowOptions → CaptureState → List ℕ
 sums_printed a r =
     due_text (is_due r.due r.latest)
-    (course_text a r.first r.gone r.connections (counts_of r.datagrams r.damaged r.forgotten r.unreadable r.lines r.passed))
+    (course_text a r.first r.gone r.connections
+    (counts_of r.datagrams r.damaged r.forgotten r.unreadable r.lines r.passed))
 
 -- The state after a line and the sums.
 abbrev pub with_line : FollowOptions → CaptureState → List ℕ → CaptureState
@@ -121,7 +123,8 @@ line_printed a r line = readable_line_printed a r line ++ sums_printed a (with_r
 
 -- The fault that is reported of a line.
 abbrev pub line_fault : FollowOptions → CaptureState → List ℕ → List ℕ
-line_fault a r line = if is_long line then fault_text (limited_sum r.lines 1) Long else text_fault a r (without_end line)
+line_fault a r line =
+    if is_long line then fault_text (limited_sum r.lines 1) Long else text_fault a r (without_end line)
 
 -- The state after all lines.
 abbrev pub with_lines : FollowOptions → CaptureState → List (List ℕ) → CaptureState
@@ -172,7 +175,8 @@ frame_fault_text number (Some fault) = frame_text number fault
 
 -- The fault that is reported of a frame.
 abbrev pub frame_fault : FollowOptions → CaptureState → Option Link → ℕ → List ℕ → List ℕ
-frame_fault a r link time octets = frame_fault_text (limited_sum r.lines 1) (fault_of_frame (frame_content a r.first link time octets))
+frame_fault a r link time octets =
+    frame_fault_text (limited_sum r.lines 1) (fault_of_frame (frame_content a r.first link time octets))
 
 -- The state after a recording that cannot go on: what was read stays, and one more is unreadable.
 abbrev pub break_off : CaptureState → CaptureState
@@ -201,18 +205,21 @@ end_fault p size r = if is_whole_at p size then [] else recording_text r.lines (
 
 -- What is printed of a frame, and the sums after it.
 abbrev pub frame_and_sums_printed : FollowOptions → CaptureState → Option Link → ℕ → List ℕ → List ℕ
-frame_and_sums_printed a r link time octets = frame_printed a r link time octets ++ sums_printed a (with_frame a r link time octets)
+frame_and_sums_printed a r link time octets =
+    frame_printed a r link time octets ++ sums_printed a (with_frame a r link time octets)
 
 -- The state after a block: after its frame and the sums, or after its fault.
 abbrev pub with_block : FollowOptions → CaptureState → List ℕ → Result BlockContent FileFault → CaptureState
-with_block a r octets (Ok (content.Frame f)) = with_sums a (with_frame a r f.link f.time (payload_at f.start f.end octets))
+with_block a r octets (Ok (content.Frame f)) =
+    with_sums a (with_frame a r f.link f.time (payload_at f.start f.end octets))
 with_block a r octets (Ok content.Nothing) = r
 with_block a r octets (Ok content.Text) = r
 with_block a r octets (Err fault) = break_off r
 
 -- What is printed of a block: of its frame, and the sums if they are due.
 abbrev pub block_printed : FollowOptions → CaptureState → List ℕ → Result BlockContent FileFault → List ℕ
-block_printed a r octets (Ok (content.Frame f)) = frame_and_sums_printed a r f.link f.time (payload_at f.start f.end octets)
+block_printed a r octets (Ok (content.Frame f)) =
+    frame_and_sums_printed a r f.link f.time (payload_at f.start f.end octets)
 block_printed a r octets (Ok content.Nothing) = []
 block_printed a r octets (Ok content.Text) = []
 block_printed a r octets (Err fault) = []

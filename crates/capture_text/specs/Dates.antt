@@ -52,7 +52,10 @@ date_on at =
 -- The date of a day that is counted from 1 March of the year 0: 400 years have the same number of days each.
 abbrev pub date_from_march : ℕ → Date
 date_from_march day =
-    date_on (record { year = day / CYCLE * 400 + (year_day_of (day % CYCLE)).year; day = (year_day_of (day % CYCLE)).day })
+    date_on (record {
+      year = day / CYCLE * 400 + (year_day_of (day % CYCLE)).year;
+      day = (year_day_of (day % CYCLE)).day;
+    })
 
 -- The date of a day that is counted from the start of 1970.
 abbrev pub date_of : ℕ → Date

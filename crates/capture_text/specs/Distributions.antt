@@ -29,12 +29,14 @@ count_sum d = fold sum_with 0 d.counts
 -- How many values there are, the greatest one, and the names of the classes.
 unfoldable pub number_text : Distribution → List ℕ
 number_text d =
-    join_pieces (decimal (count_sum d) ∷ codes " greatest " ∷ decimal d.greatest ∷ codes " ms, below 1, 2, 4, .. ms:" ∷ [])
+    join_pieces (decimal (count_sum d) ∷ codes " greatest " ∷ decimal d.greatest ∷ codes " ms, below 1, 2, 4, .. ms:" ∷
+    [])
 
 -- The line of a distribution, with the classes up to that of the greatest value.
 unfoldable pub distribution_text : ℕ → ℕ → List ℕ → Distribution → List ℕ
 distribution_text from to name d =
-    codes "times " ++ ends_text from to ++ name ++ number_text d ++ counts_text (codes " ") (take (class_of d.greatest + 1) d.counts) ++ codes "\n"
+    codes "times " ++ ends_text from to ++ name ++ number_text d ++ counts_text (codes " ")
+    (take (class_of d.greatest + 1) d.counts) ++ codes "\n"
 
 -- The lines of an end.
 unfoldable pub measurements_text : ℕ → ℕ → Measurements → List ℕ
@@ -51,7 +53,8 @@ bracket_json greatest first =
 -- A distribution as a member with this name: the greatest value, and the count of each class.
 unfoldable pub distribution_json : List ℕ → Distribution → List ℕ
 distribution_json name d =
-    name ++ bracket_json d.greatest (slice_index d.counts 0) ++ counts_text (codes ",") (take (CLASSES - 1) (drop 1 d.counts)) ++ codes "]}"
+    name ++ bracket_json d.greatest (slice_index d.counts 0) ++ counts_text (codes ",")
+    (take (CLASSES - 1) (drop 1 d.counts)) ++ codes "]}"
 
 -- The object of an end.
 unfoldable pub measurements_json : Measurements → List ℕ

@@ -131,13 +131,15 @@ channel_number place =
 unfoldable pub way_json : ℕ → ℕ → ℕ → List ℕ
 way_json sender receiver route =
     join_pieces
-    (codes ",\"from\":" ∷ decimal sender ∷ codes ",\"to\":" ∷ decimal receiver ∷ codes ",\"channel\":" ∷ channel_number route ∷ [])
+    (codes ",\"from\":" ∷ decimal sender ∷ codes ",\"to\":" ∷ decimal receiver ∷ codes ",\"channel\":" ∷
+    channel_number route ∷ [])
 
 -- The line of an event.
 unfoldable pub event_line : Spot → Event → List ℕ
 event_line s e =
     join_pieces
-    (head_json (event_name e) s.clock s.time s.line ∷ way_json s.sender s.receiver s.route ∷ event_json e ∷ codes "}\n" ∷ [])
+    (head_json (event_name e) s.clock s.time s.line ∷ way_json s.sender s.receiver s.route ∷ event_json e ∷
+    codes "}\n" ∷ [])
 
 -- The line of an event, if there is one.
 abbrev pub maybe_line : Spot → Option Event → List ℕ
@@ -153,12 +155,14 @@ spot_of clock line r h m =
 unfoldable pub order_lines : Spot → Kind → Remarks → List ℕ
 order_lines s kind m =
     join_pieces
-    (maybe_line s (opening_event m.opens kind) ∷ maybe_line s (channel_event m.channel) ∷ maybe_line s (number_event true m.together) ∷ [])
+    (maybe_line s (opening_event m.opens kind) ∷ maybe_line s (channel_event m.channel) ∷
+    maybe_line s (number_event true m.together) ∷ [])
 
 -- The other lines of a PDU: a unit that is sent again, a long wait, a leaving.
 unfoldable pub other_lines : Spot → ℕ → Remarks → List ℕ
 other_lines s t_max m =
-    join_pieces (maybe_line s (resent_event m) ∷ maybe_line s (wait_event t_max m.waits) ∷ maybe_line s (new_disconnect_event m) ∷ [])
+    join_pieces (maybe_line s (resent_event m) ∷ maybe_line s (wait_event t_max m.waits) ∷
+    maybe_line s (new_disconnect_event m) ∷ [])
 
 -- The lines of a PDU.
 unfoldable pub pdu_lines : Spot → ℕ → Kind → Remarks → List ℕ
@@ -171,7 +175,8 @@ address_json front address = join_pieces (front ∷ address_text address ∷ cod
 -- The layer that rejects a datagram, with the number and the name of its fault.
 unfoldable pub fault_json : List ℕ → ℕ → List ℕ → List ℕ
 fault_json layer number name =
-    join_pieces (codes ",\"layer\":\"" ∷ layer ∷ codes "\",\"fault\":" ∷ decimal number ∷ codes ",\"name\":\"" ∷ name ∷ codes "\"}\n" ∷ [])
+    join_pieces (codes ",\"layer\":\"" ∷ layer ∷ codes "\",\"fault\":" ∷ decimal number ∷ codes ",\"name\":\"" ∷ name ∷
+    codes "\"}\n" ∷ [])
 
 -- The line of a datagram that is not a PDU, up to its fault.
 unfoldable pub damage_json : Clock → ℕ → Record → List ℕ
@@ -181,11 +186,13 @@ damage_json clock line r = join_pieces
 
 -- The line of a datagram that is not a safety PDU.
 unfoldable pub no_safe_line : Clock → ℕ → Record → SafeFault → List ℕ
-no_safe_line clock line r fault = damage_json clock line r ++ fault_json (codes "safe") (safe_number fault) (safe_name fault)
+no_safe_line clock line r fault =
+    damage_json clock line r ++ fault_json (codes "safe") (safe_number fault) (safe_name fault)
 
 -- The line of a datagram that is not a redundancy PDU.
 unfoldable pub no_red_line : Clock → ℕ → Record → RedFault → List ℕ
-no_red_line clock line r fault = damage_json clock line r ++ fault_json (codes "red") (red_number fault) (red_name fault)
+no_red_line clock line r fault =
+    damage_json clock line r ++ fault_json (codes "red") (red_number fault) (red_name fault)
 
 -- The lines of a datagram's events.
 abbrev pub event_lines : Scale → ℕ → Record → Remark → List ℕ

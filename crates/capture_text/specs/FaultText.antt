@@ -23,7 +23,8 @@ fault_word Payload = codes "payload"
 
 -- The line for an unreadable line, with its number.
 unfoldable pub fault_text : ℕ → LineFault → List ℕ
-fault_text number fault = join_pieces (codes "line " ∷ decimal number ∷ codes ": unreadable: " ∷ fault_word fault ∷ codes "\n" ∷ [])
+fault_text number fault =
+    join_pieces (codes "line " ∷ decimal number ∷ codes ": unreadable: " ∷ fault_word fault ∷ codes "\n" ∷ [])
 
 -- The word of a frame's fault.
 abbrev pub frame_word : FrameFault → List ℕ
@@ -56,7 +57,8 @@ recording_text frames why =
 abbrev pub has_front : List ℕ → List ℕ → Bool
 has_front front wanted =
     (slice_index front 0 == slice_index wanted 0)
-    && ((slice_index front 1 == slice_index wanted 1) && ((slice_index front 2 == slice_index wanted 2) && (slice_index front 3 == slice_index wanted 3)))
+    && ((slice_index front 1 == slice_index wanted 1)
+    && ((slice_index front 2 == slice_index wanted 2) && (slice_index front 3 == slice_index wanted 3)))
 
 -- The form of a file that is not followed, by its first four bytes; gzip has two of its own.
 abbrev pub foreign_of : List ℕ → Option ForeignForm
@@ -64,7 +66,8 @@ foreign_of front =
     if has_front front (31 ∷ 139 ∷ slice_index front 2 ∷ slice_index front 3 ∷ []) then Some Gzip
     else if has_front front (40 ∷ 181 ∷ 47 ∷ 253 ∷ []) then Some Zstd
     else if has_front front (115 ∷ 110 ∷ 111 ∷ 111 ∷ []) then Some Snoop
-    else if has_front front (161 ∷ 178 ∷ 205 ∷ 52 ∷ []) || has_front front (52 ∷ 205 ∷ 178 ∷ 161 ∷ []) then Some ModifiedPcap
+    else if has_front front (161 ∷ 178 ∷ 205 ∷ 52 ∷ []) || has_front front (52 ∷ 205 ∷ 178 ∷ 161 ∷ [])
+    then Some ModifiedPcap
     else None
 
 -- Why a file is not followed, and what to do with it.
@@ -78,7 +81,8 @@ foreign_word ModifiedPcap = codes "it is a modified pcap file; use editcap -F pc
 unfoldable pub forgotten_text : ℕ → List ℕ
 forgotten_text forgotten =
     join_pieces
-    (codes "connections: " ∷ decimal forgotten ∷ codes " were forgotten, since more than 256 were recorded at once; choose some by --ports\n" ∷ [])
+    (codes "connections: " ∷ decimal forgotten ∷
+    codes " were forgotten, since more than 256 were recorded at once; choose some by --ports\n" ∷ [])
 
 -- The line about forgotten connections, if there are any.
 abbrev pub forgotten_line : ℕ → List ℕ
@@ -87,7 +91,8 @@ forgotten_line forgotten = if nat_eq forgotten 0 then [] else forgotten_text for
 -- The line about datagrams that all have another safety code.
 unfoldable pub miscoded_text : ℕ → List ℕ
 miscoded_text miscoded =
-    join_pieces (codes "datagrams: all " ∷ decimal miscoded ∷ codes " of RaSTA have another safety code; choose it by --code or --iv\n" ∷ [])
+    join_pieces (codes "datagrams: all " ∷ decimal miscoded ∷
+    codes " of RaSTA have another safety code; choose it by --code or --iv\n" ∷ [])
 
 -- How many datagrams have another safety code, if none has the right one.
 abbrev pub all_miscoded : Option ℕ → ℕ
@@ -98,6 +103,7 @@ all_miscoded (Some miscoded) = miscoded
 abbrev pub miscoded_line : ℕ → List ℕ
 miscoded_line miscoded = if nat_eq miscoded 0 then [] else miscoded_text miscoded
 
--- How many faults a capture had: unreadable lines, forgotten connections, and datagrams with another safety code if none has the right one.
+-- How many faults a capture had: unreadable lines, forgotten connections, and datagrams with another safety code if
+-- none has the right one.
 abbrev pub faults_in : ℕ → ℕ → Option ℕ → ℕ
 faults_in unreadable forgotten miscoded = limited_sum (limited_sum unreadable forgotten) (all_miscoded miscoded)

@@ -79,19 +79,22 @@ datagrams_after_frame datagrams (Unread fault) = datagrams
 
 -- The count of damaged datagrams after a frame.
 abbrev pub damaged_count_after_frame : CodeRule → ℕ → List ℕ → FrameContent → ℕ
-damaged_count_after_frame rule damaged octets (Datagram r start end) = damaged_count_after damaged (datagram_of rule (payload_at start end octets))
+damaged_count_after_frame rule damaged octets (Datagram r start end) =
+    damaged_count_after damaged (datagram_of rule (payload_at start end octets))
 damaged_count_after_frame rule damaged octets (Other why) = damaged
 damaged_count_after_frame rule damaged octets (Unread fault) = damaged
 
 -- The count of datagrams with a wrong safety code after a frame.
 abbrev pub miscoded_count_after_frame : CodeRule → Option ℕ → List ℕ → FrameContent → Option ℕ
-miscoded_count_after_frame rule miscoded octets (Datagram r start end) = miscoded_count_after miscoded (datagram_of rule (payload_at start end octets))
+miscoded_count_after_frame rule miscoded octets (Datagram r start end) =
+    miscoded_count_after miscoded (datagram_of rule (payload_at start end octets))
 miscoded_count_after_frame rule miscoded octets (Other why) = miscoded
 miscoded_count_after_frame rule miscoded octets (Unread fault) = miscoded
 
 -- The sums of forgotten connections after a frame.
 abbrev pub forgotten_totals_after_frame : CodeRule → Totals → List Connection → List ℕ → FrameContent → Totals
-forgotten_totals_after_frame rule gone cs octets (Datagram r start end) = forgotten_totals_after gone cs r (datagram_of rule (payload_at start end octets))
+forgotten_totals_after_frame rule gone cs octets (Datagram r start end) =
+    forgotten_totals_after gone cs r (datagram_of rule (payload_at start end octets))
 forgotten_totals_after_frame rule gone cs octets (Other why) = gone
 forgotten_totals_after_frame rule gone cs octets (Unread fault) = gone
 
@@ -105,7 +108,8 @@ forgotten_count_after_frame rule forgotten cs octets (Unread fault) = forgotten
 -- What is printed of a frame.
 abbrev pub content_text : FollowOptions → Option ℕ → List Connection → ℕ → List ℕ → FrameContent → List ℕ
 content_text a first cs number octets (Datagram r start end) =
-    chosen_text a (first_of first r.time) number r (remark_of cs number r (datagram_of a.rule (payload_at start end octets)))
+    chosen_text a (first_of first r.time) number r
+    (remark_of cs number r (datagram_of a.rule (payload_at start end octets)))
     (payload_at start end octets)
 content_text a first cs number octets (Other why) = []
 content_text a first cs number octets (Unread fault) = []

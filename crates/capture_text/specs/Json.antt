@@ -1,4 +1,5 @@
--- The sums as one JSON object in one line (RFC 8259). Times are microseconds since 1970, ages and waits milliseconds; docs/captures.md has the members.
+-- The sums as one JSON object in one line (RFC 8259). Times are microseconds since 1970, ages and waits milliseconds;
+-- docs/captures.md has the members.
 use Rattle.std.specs.Prelude.{ℕ, ◌+◌, Bool, nat_eq, List, [], ◌∷◌, ◌++◌, codes, slice_index, slice_index_or, if◌then◌else◌, Option, Some, None}
 use Rattle.std.specs.Fmt.{decimal}
 use Rattle.std.specs.List.{flat_map}
@@ -47,7 +48,8 @@ opening_json (Some opening) = join_pieces (codes "\"" ∷ kind_name opening.kind
 unfoldable pub reasons_json : ℕ → Leaving → List ℕ
 reasons_json left l =
     join_pieces
-    (codes "{\"time\":" ∷ decimal left ∷ codes ",\"reason\":" ∷ decimal l.reason ∷ codes ",\"detail\":" ∷ decimal l.detail ∷ codes "}" ∷ [])
+    (codes "{\"time\":" ∷ decimal left ∷ codes ",\"reason\":" ∷ decimal l.reason ∷ codes ",\"detail\":" ∷
+    decimal l.detail ∷ codes "}" ∷ [])
 
 -- A disconnect, or null.
 abbrev pub leaving_json : ℕ → Option Leaving → List ℕ
@@ -57,19 +59,28 @@ leaving_json left (Some leaving) = reasons_json left leaving
 -- The counts of a window as sums.
 abbrev pub totals_in : Window → Totals
 totals_in w =
-    record { heard = w.heard; missing = w.missing; late = w.late; repeats = w.repeats; differing = w.differing; stale = w.stale }
+    record {
+      heard = w.heard;
+      missing = w.missing;
+      late = w.late;
+      repeats = w.repeats;
+      differing = w.differing;
+      stale = w.stale;
+    }
 
 -- Late, differing and stale ones.
 unfoldable pub others_json : Totals → List ℕ
 others_json t =
     join_pieces
-    (codes ",\"late\":" ∷ decimal t.late ∷ codes ",\"differs\":" ∷ decimal t.differing ∷ codes ",\"stale\":" ∷ decimal t.stale ∷ [])
+    (codes ",\"late\":" ∷ decimal t.late ∷ codes ",\"differs\":" ∷ decimal t.differing ∷ codes ",\"stale\":" ∷
+    decimal t.stale ∷ [])
 
 -- All sums of redundancy numbers.
 unfoldable pub numbers_json : Totals → List ℕ
 numbers_json t =
     join_pieces
-    (codes ",\"PDUs\":" ∷ decimal t.heard ∷ codes ",\"missing\":" ∷ decimal t.missing ∷ codes ",\"repeats\":" ∷ decimal t.repeats ∷ [])
+    (codes ",\"PDUs\":" ∷ decimal t.heard ∷ codes ",\"missing\":" ∷ decimal t.missing ∷ codes ",\"repeats\":" ∷
+    decimal t.repeats ∷ [])
     ++ others_json t
 
 -- The sums of a window.
@@ -121,24 +132,28 @@ channel_json place (Some route) w damaged = next_channel_json place route w dama
 -- The channel of a direction at a place.
 unfoldable pub place_json : List (Option Route) → Direction → ℕ → List ℕ
 place_json routes d place =
-    channel_json place (slice_index_or routes place None) (slice_index_or d.channels place open_window) (slice_index d.damaged place)
+    channel_json place (slice_index_or routes place None) (slice_index_or d.channels place open_window)
+    (slice_index d.damaged place)
 
 -- The list of a direction's channels, and the end of its object.
 unfoldable pub channels_json : List (Option Route) → Direction → List ℕ
 channels_json routes d =
-    codes ",\"channels\":[" ++ place_json routes d 0 ++ place_json routes d 1 ++ place_json routes d 2 ++ place_json routes d 3 ++ codes "]}"
+    codes ",\"channels\":[" ++ place_json routes d 0 ++ place_json routes d 1 ++ place_json routes d 2
+    ++ place_json routes d 3 ++ codes "]}"
 
 -- The counts of types.
 unfoldable pub kinds_json : Tally → List ℕ
 kinds_json t =
     join_pieces
-    (codes ",\"heartbeats\":" ∷ decimal t.heartbeats ∷ codes ",\"requests\":" ∷ decimal t.requests ∷ codes ",\"resent\":" ∷ decimal t.resent
+    (codes ",\"heartbeats\":" ∷ decimal t.heartbeats ∷ codes ",\"requests\":" ∷ decimal t.requests ∷
+    codes ",\"resent\":" ∷ decimal t.resent
     ∷ codes ",\"disconnects\":" ∷ decimal t.disconnects ∷ [])
 
 -- A silence in microseconds, an age and a wait in milliseconds.
 unfoldable pub ages_json : ℕ → ℕ → ℕ → List ℕ
 ages_json silence age waits =
-    join_pieces (codes ",\"silence\":" ∷ decimal silence ∷ codes ",\"age\":" ∷ decimal age ∷ codes ",\"waits\":" ∷ decimal waits ∷ [])
+    join_pieces (codes ",\"silence\":" ∷ decimal silence ∷ codes ",\"age\":" ∷ decimal age ∷ codes ",\"waits\":" ∷
+    decimal waits ∷ [])
 
 -- The longest silence up to this time, the greatest age and the longest wait.
 abbrev pub near_json : ℕ → Tally → List ℕ
@@ -166,23 +181,27 @@ openings_json opening t = opening_type_json opening ++ times_json t.openings ++ 
 
 -- The time of the last PDU, and the disconnect.
 unfoldable pub last_and_disconnect_json : Tally → List ℕ
-last_and_disconnect_json t = codes ",\"last\":" ++ time_json t.last ++ codes ",\"left\":" ++ leaving_json t.left t.leaving
+last_and_disconnect_json t =
+    codes ",\"last\":" ++ time_json t.last ++ codes ",\"left\":" ++ leaving_json t.left t.leaving
 
 -- The object of a direction.
 unfoldable pub direction_json : ℕ → ℕ → Connection → Direction → List ℕ
 direction_json from to c d =
-    ends_json from to ++ openings_json d.opening d.tally ++ window_json d.together ++ kinds_json d.tally ++ near_json c.last d.tally
+    ends_json from to ++ openings_json d.opening d.tally ++ window_json d.together ++ kinds_json d.tally
+    ++ near_json c.last d.tally
     ++ last_and_disconnect_json d.tally ++ channels_json c.routes d
 
 -- The identifiers at the start of a connection's object.
 unfoldable pub name_json : Connection → List ℕ
-name_json c = join_pieces (codes "{\"low\":" ∷ decimal c.low ∷ codes ",\"high\":" ∷ decimal c.high ∷ codes ",\"up\":" ∷ [])
+name_json c =
+    join_pieces (codes "{\"low\":" ∷ decimal c.low ∷ codes ",\"high\":" ∷ decimal c.high ∷ codes ",\"up\":" ∷ [])
 
 -- The time of the last PDU, and both losses.
 unfoldable pub losses_json : ℕ → ℕ → ℕ → List ℕ
 losses_json last everywhere alone =
     join_pieces
-    (codes ",\"last\":" ∷ decimal last ∷ codes ",\"lost_on_every_channel\":" ∷ decimal everywhere ∷ codes ",\"lost_on_one_channel\":"
+    (codes ",\"last\":" ∷ decimal last ∷ codes ",\"lost_on_every_channel\":" ∷ decimal everywhere ∷
+    codes ",\"lost_on_one_channel\":"
     ∷ decimal alone ∷ [])
 
 -- The losses of a connection.
@@ -204,7 +223,8 @@ whole_json c = name_json c ++ up_time_json c ++ connection_losses_json c ++ grea
 -- Both directions of a connection, and the end of its object.
 unfoldable pub directions_json : Connection → List ℕ
 directions_json c =
-    codes ",\"directions\":[" ++ direction_json c.low c.high c c.from_low ++ codes "," ++ direction_json c.high c.low c c.from_high ++ codes "]}"
+    codes ",\"directions\":[" ++ direction_json c.low c.high c c.from_low ++ codes ","
+    ++ direction_json c.high c.low c c.from_high ++ codes "]}"
 
 -- The object of a connection.
 unfoldable pub connection_json : Connection → List ℕ
@@ -225,13 +245,15 @@ connections_json (c ∷ cs) = connection_json c ++ more_json cs
 
 -- The first time and T_max, at the start of the object.
 unfoldable pub scale_json : Scale → List ℕ
-scale_json s = codes "{\"first\":" ++ time_json s.clock.first ++ join_pieces (codes ",\"t_max\":" ∷ decimal s.t_max ∷ codes ",\"all\":{\"datagrams\":" ∷ [])
+scale_json s = codes "{\"first\":" ++ time_json s.clock.first
+    ++ join_pieces (codes ",\"t_max\":" ∷ decimal s.t_max ∷ codes ",\"all\":{\"datagrams\":" ∷ [])
 
 -- The counts over the whole capture.
 unfoldable pub counts_json : CaptureCounts → List ℕ
 counts_json c =
     join_pieces
-    (codes ",\"damaged\":" ∷ decimal c.damaged ∷ codes ",\"forgotten\":" ∷ decimal c.forgotten ∷ codes ",\"unreadable\":"
+    (codes ",\"damaged\":" ∷ decimal c.damaged ∷ codes ",\"forgotten\":" ∷ decimal c.forgotten ∷
+    codes ",\"unreadable\":"
     ∷ decimal c.unreadable ∷ codes ",\"frames\":" ∷ decimal c.frames ∷ [])
 
 -- The sums of all connections, and the start of their list.

@@ -1,8 +1,9 @@
 -- The lines of a capture, as bytes.
 use Rattle.std.specs.Prelude.{ℕ, ◌==◌, Bool, nat_lt, List, [], ◌∷◌, ◌++◌, length, take, if◌then◌else◌}
 
--- A line has at most 8,192 bytes with its line feed: twice as many as the hexadecimal digits of the longest payload that is kept, 2,048 bytes, so some 4,000
--- are left for the other fields. Of a longer line, one byte more is kept, so that it is recognised.
+-- A line has at most 8,192 bytes with its line feed: twice as many as the hexadecimal digits of the longest payload
+-- that is kept, 2,048 bytes, so some 4,000 are left for the other fields. Of a longer line, one byte more is kept, so
+-- that it is recognised.
 
 -- The line is longer than the limit.
 abbrev pub is_long : List ℕ → Bool

@@ -33,10 +33,13 @@ difference_text first time =
 -- Month, day and time of day after a year: two digits for each but six for the microseconds, as in ISO 8601, in UTC.
 abbrev pub moment_digits : Date → ℕ → List ℕ
 moment_digits d micros =
-    45 ∷ digit 10 d.month ∷ digit 1 d.month ∷ 45 ∷ digit 10 d.day ∷ digit 1 d.day ∷ 84 ∷ digit 10 (micros / 1000000 / 3600)
-    ∷ digit 1 (micros / 1000000 / 3600) ∷ 58 ∷ digit 10 (micros / 1000000 / 60 % 60) ∷ digit 1 (micros / 1000000 / 60 % 60) ∷ 58
+    45 ∷ digit 10 d.month ∷ digit 1 d.month ∷ 45 ∷ digit 10 d.day ∷ digit 1 d.day ∷ 84 ∷
+    digit 10 (micros / 1000000 / 3600)
+    ∷ digit 1 (micros / 1000000 / 3600) ∷ 58 ∷ digit 10 (micros / 1000000 / 60 % 60) ∷
+    digit 1 (micros / 1000000 / 60 % 60) ∷ 58
     ∷ digit 10 (micros / 1000000 % 60) ∷ digit 1 (micros / 1000000 % 60) ∷ 46 ∷ digit 100000 (micros % 1000000)
-    ∷ digit 10000 (micros % 1000000) ∷ digit 1000 (micros % 1000000) ∷ digit 100 (micros % 1000000) ∷ digit 10 (micros % 1000000)
+    ∷ digit 10000 (micros % 1000000) ∷ digit 1000 (micros % 1000000) ∷ digit 100 (micros % 1000000) ∷
+    digit 10 (micros % 1000000)
     ∷ digit 1 (micros % 1000000) ∷ 90 ∷ []
 
 -- A date and a time of day in UTC.
@@ -69,7 +72,8 @@ octet_of host place = decimal (slice_index host place)
 unfoldable pub v4_text : List ℕ → ℕ → List ℕ
 v4_text host port =
     join_pieces
-    (octet_of host 0 ∷ codes "." ∷ octet_of host 1 ∷ codes "." ∷ octet_of host 2 ∷ codes "." ∷ octet_of host 3 ∷ codes ":" ∷ decimal port ∷ [])
+    (octet_of host 0 ∷ codes "." ∷ octet_of host 1 ∷ codes "." ∷ octet_of host 2 ∷ codes "." ∷ octet_of host 3 ∷
+    codes ":" ∷ decimal port ∷ [])
 
 -- An IPv6 address as in RFC 5952, in brackets, with its port.
 unfoldable pub v6_text : List ℕ → ℕ → List ℕ

@@ -24,7 +24,8 @@ head_text clock line r = join_pieces (since_text clock r.time ∷ codes " line "
 unfoldable pub fields_text : ℕ → Header → List ℕ
 fields_text seq h =
     join_pieces
-    (codes " red " ∷ decimal seq ∷ codes " " ∷ kind_name h.kind ∷ codes " sn " ∷ decimal h.sn ∷ codes " cs " ∷ decimal h.cs
+    (codes " red " ∷ decimal seq ∷ codes " " ∷ kind_name h.kind ∷ codes " sn " ∷ decimal h.sn ∷ codes " cs " ∷
+    decimal h.cs
     ∷ codes " ts " ∷ decimal h.ts ∷ codes " cts " ∷ decimal h.cts ∷ [])
 
 -- A PDU: ends, channel, fields, remarks.
@@ -38,7 +39,8 @@ way_text r = join_pieces (address_text r.source ∷ codes "->" ∷ address_text 
 
 -- LAYER fault NUMBER NAME
 unfoldable pub fault_text : List ℕ → ℕ → List ℕ → List ℕ
-fault_text layer number name = join_pieces (codes " " ∷ layer ∷ codes " fault " ∷ decimal number ∷ codes " " ∷ name ∷ [])
+fault_text layer number name =
+    join_pieces (codes " " ∷ layer ∷ codes " fault " ∷ decimal number ∷ codes " " ∷ name ∷ [])
 
 -- The fault of a safety PDU.
 abbrev pub safe_fault_text : SafeFault → List ℕ

@@ -71,7 +71,8 @@ leaving_text (Some leaving) = leaving_words leaving
 -- An opening, and how the numbers followed.
 unfoldable pub order_text : Remarks → List ℕ
 order_text r =
-    join_pieces (opening_word r.opens ∷ maybe_text (codes "channel") r.channel ∷ number_order_text (codes "all") r.together ∷ maybe_text (codes "sn") r.sequence ∷ [])
+    join_pieces (opening_word r.opens ∷ maybe_text (codes "channel") r.channel ∷
+    number_order_text (codes "all") r.together ∷ maybe_text (codes "sn") r.sequence ∷ [])
 
 -- A retransmission, damage before the PDU, and the line that it asks for.
 unfoldable pub again_text : Remarks → List ℕ

@@ -50,11 +50,13 @@ last_pdu_text clock last = codes ", last PDU at " ++ since_text clock last
 unfoldable pub session_counts_text : ℕ → SessionTotals → List ℕ
 session_counts_text number t =
     join_pieces
-    (codes " sessions " ∷ decimal number ∷ codes ", came up " ∷ decimal t.up ∷ codes ", nobody answered " ∷ decimal t.unanswered ∷ [])
+    (codes " sessions " ∷ decimal number ∷ codes ", came up " ∷ decimal t.up ∷ codes ", nobody answered " ∷
+    decimal t.unanswered ∷ [])
 
 -- How many sessions an end left, and how many by a timeout.
 unfoldable pub disconnect_counts_text : SessionTotals → List ℕ
-disconnect_counts_text t = join_pieces (codes ", ended by a DiscReq " ∷ decimal t.left ∷ codes ", by timeout " ∷ decimal t.timeouts ∷ [])
+disconnect_counts_text t =
+    join_pieces (codes ", ended by a DiscReq " ∷ decimal t.left ∷ codes ", by timeout " ∷ decimal t.timeouts ∷ [])
 
 -- The losses on all channels.
 abbrev pub losses_on_all : Connection → ℕ
@@ -71,7 +73,8 @@ longest_in c = max c.from_low.tally.longest c.from_high.tally.longest
 -- The longest wait beside T_max, and the end of the line.
 unfoldable pub near_text : ℕ → ℕ → List ℕ
 near_text t_max longest =
-    join_pieces (codes ", waits " ∷ decimal longest ∷ codes " of " ∷ decimal t_max ∷ t_max_remark t_max longest ∷ codes "\n" ∷ [])
+    join_pieces (codes ", waits " ∷ decimal longest ∷ codes " of " ∷ decimal t_max ∷ t_max_remark t_max longest ∷
+    codes "\n" ∷ [])
 
 -- The name of a connection: both identifiers.
 unfoldable pub name_text : ℕ → ℕ → List ℕ
@@ -79,7 +82,8 @@ name_text low high = join_pieces (codes "connection " ∷ decimal low ∷ codes 
 
 -- The sums over all sessions of a connection.
 unfoldable pub course_text : Connection → List ℕ
-course_text c = session_counts_text c.sessions.current.number (session_sums c.sessions) ++ disconnect_counts_text (session_sums c.sessions)
+course_text c = session_counts_text c.sessions.current.number (session_sums c.sessions) ++ disconnect_counts_text
+    (session_sums c.sessions)
 
 -- The losses of a connection.
 abbrev pub losses_text : Connection → List ℕ

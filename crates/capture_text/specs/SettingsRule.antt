@@ -18,9 +18,11 @@ ObeysRule x s =
     (s.window - 1 + s.window / s.mwa ≤ s.q) × (s.mwa < s.window) × (x.difference < s.t_seq) × (s.t_seq ≤ s.t_h)
     × (3 * s.t_h + s.t_seq + 4 * x.delay ≤ s.t_max)
 
--- An end accepts the settings: T_seq from 10 to 1,000 ms, T_h below T_max, T_max up to 60,000 ms, q up to 8, a window up to 32, mwa up to 16.
+-- An end accepts the settings: T_seq from 10 to 1,000 ms, T_h below T_max, T_max up to 60,000 ms, q up to 8, a window
+-- up to 32, mwa up to 16.
 abbrev pub HasRoom : ChosenSettings → Type 0
-HasRoom s = (10 ≤ s.t_seq) × (s.t_seq ≤ 1000) × (s.t_h < s.t_max) × (s.t_max ≤ 60000) × (s.q ≤ 8) × (s.window ≤ 32) × (s.mwa ≤ 16)
+HasRoom s = (10 ≤ s.t_seq) × (s.t_seq ≤ 1000) × (s.t_h < s.t_max) × (s.t_max ≤ 60000) × (s.q ≤ 8) × (s.window ≤ 32)
+    × (s.mwa ≤ 16)
 
 -- T_seq: above the difference by a quarter of it, at least 5 ms.
 abbrev pub with_margin : ℕ → ℕ
@@ -33,7 +35,14 @@ beat_for t_seq = max (2 * t_seq) T_H_LEAST
 -- The settings with this T_seq and T_h; T_max leaves time for two repairs in a row.
 abbrev pub settings_with : ℕ → ℕ → ℕ → ChosenSettings
 settings_with t_seq t_h delay =
-    record { window = WINDOW; mwa = CONFIRM_AFTER; q = QUEUE; t_seq = t_seq; t_h = t_h; t_max = 4 * t_h + 2 * t_seq + 6 * delay }
+    record {
+      window = WINDOW;
+      mwa = CONFIRM_AFTER;
+      q = QUEUE;
+      t_seq = t_seq;
+      t_h = t_h;
+      t_max = 4 * t_h + 2 * t_seq + 6 * delay;
+    }
 
 -- The settings for a network with these times; none if the times are too long for what an end accepts.
 abbrev pub choose_settings : Delays → Option ChosenSettings
@@ -82,8 +91,8 @@ abbrev pub half_if : Option ℕ → Option ℕ → Option ℕ
 half_if (Some one) (Some other) = Some (half_of one other)
 half_if _ _ = None
 
--- The shortest time one way: half of the shortest round trips of both ends. A round trip has one end's way to the recorder and back, and how long that
--- end took to answer; so the shortest ones say least of the answering.
+-- The shortest time one way: half of the shortest round trips of both ends. A round trip has one end's way to the
+-- recorder and back, and how long that end took to answer; so the shortest ones say least of the answering.
 abbrev pub shortest_of : Distribution → Distribution → Option ℕ
 shortest_of one other = half_if (least_in one) (least_in other)
 
@@ -132,8 +141,8 @@ abbrev pub difference_or : Option ℕ → ℕ → ℕ
 difference_or None assumed = assumed
 difference_or (Some skew) assumed = skew
 
--- The times by which settings are chosen. A datagram may take as much longer than the shortest time as one copy came after another; without copies,
--- as long again is assumed.
+-- The times by which settings are chosen. A datagram may take as much longer than the shortest time as one copy came
+-- after another; without copies, as long again is assumed.
 abbrev pub delays_of : Network → Delays
 delays_of n =
     record {

@@ -18,7 +18,17 @@ use Rattle.pdu_text.specs.Lines.{join_pieces}
 -- Nothing was passed over.
 abbrev pub no_skips : SkipCounts
 no_skips =
-    record { ports = 0; times = 0; no_ip = 0; no_udp = 0; tunnels = 0; fragments = 0; truncated = 0; lengths = 0; links = 0 }
+    record {
+      ports = 0;
+      times = 0;
+      no_ip = 0;
+      no_udp = 0;
+      tunnels = 0;
+      fragments = 0;
+      truncated = 0;
+      lengths = 0;
+      links = 0;
+    }
 
 -- The counts with one more that has no fault.
 abbrev pub count_skip_reason : SkipCounts → SkipReason → SkipCounts
@@ -50,21 +60,24 @@ count_line_skip p (Err (Chosen why)) = count_skip_reason p why
 -- All counts are 0.
 abbrev pub is_all_zero : SkipCounts → Bool
 is_all_zero p =
-    nat_eq p.ports 0 && nat_eq p.times 0 && nat_eq p.no_ip 0 && nat_eq p.no_udp 0 && nat_eq p.tunnels 0 && nat_eq p.fragments 0
+    nat_eq p.ports 0 && nat_eq p.times 0 && nat_eq p.no_ip 0 && nat_eq p.no_udp 0 && nat_eq p.tunnels 0
+    && nat_eq p.fragments 0
     && nat_eq p.truncated 0 && nat_eq p.lengths 0 && nat_eq p.links 0
 
 -- What has no fault: other ports, other times, frames without IP, packets without UDP, tunnels.
 unfoldable pub rest_text : SkipCounts → List ℕ
 rest_text p =
     join_pieces
-    (codes "sum passed over: other ports " ∷ decimal p.ports ∷ codes " other times " ∷ decimal p.times ∷ codes " no IP " ∷ decimal p.no_ip ∷ codes " no UDP " ∷ decimal p.no_udp
+    (codes "sum passed over: other ports " ∷ decimal p.ports ∷ codes " other times " ∷ decimal p.times ∷
+    codes " no IP " ∷ decimal p.no_ip ∷ codes " no UDP " ∷ decimal p.no_udp
     ∷ codes " tunnels " ∷ decimal p.tunnels ∷ [])
 
 -- What is not read: fragments, truncated frames, wrong lengths, unknown link headers.
 unfoldable pub unread_text : SkipCounts → List ℕ
 unread_text p =
     join_pieces
-    (codes " fragments " ∷ decimal p.fragments ∷ codes " truncated " ∷ decimal p.truncated ∷ codes " lengths " ∷ decimal p.lengths
+    (codes " fragments " ∷ decimal p.fragments ∷ codes " truncated " ∷ decimal p.truncated ∷ codes " lengths " ∷
+    decimal p.lengths
     ∷ codes " links " ∷ decimal p.links ∷ codes "\n" ∷ [])
 
 -- The line of all counts.
@@ -79,14 +92,16 @@ skips_lines p = if is_all_zero p then [] else skips_text p
 unfoldable pub rest_json : SkipCounts → List ℕ
 rest_json p =
     join_pieces
-    (codes "{\"ports\":" ∷ decimal p.ports ∷ codes ",\"times\":" ∷ decimal p.times ∷ codes ",\"no_ip\":" ∷ decimal p.no_ip ∷ codes ",\"no_udp\":" ∷ decimal p.no_udp
+    (codes "{\"ports\":" ∷ decimal p.ports ∷ codes ",\"times\":" ∷ decimal p.times ∷ codes ",\"no_ip\":" ∷
+    decimal p.no_ip ∷ codes ",\"no_udp\":" ∷ decimal p.no_udp
     ∷ codes ",\"tunnels\":" ∷ decimal p.tunnels ∷ [])
 
 -- What is not read, as members.
 unfoldable pub unread_json : SkipCounts → List ℕ
 unread_json p =
     join_pieces
-    (codes ",\"fragments\":" ∷ decimal p.fragments ∷ codes ",\"truncated\":" ∷ decimal p.truncated ∷ codes ",\"lengths\":"
+    (codes ",\"fragments\":" ∷ decimal p.fragments ∷ codes ",\"truncated\":" ∷ decimal p.truncated ∷
+    codes ",\"lengths\":"
     ∷ decimal p.lengths ∷ codes ",\"links\":" ∷ decimal p.links ∷ codes "}" ∷ [])
 
 -- The member of all counts.

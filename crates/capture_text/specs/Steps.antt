@@ -57,7 +57,8 @@ first_skipped first NoUdp = first
 first_skipped first Tunnel = first
 
 -- A datagram with its decoding, or why it is passed over.
-abbrev pub datagram_if : Option SkipReason → FollowOptions → Record → List ℕ → Result (Record × DecodedDatagram) SkipCause
+abbrev pub datagram_if : Option SkipReason → FollowOptions → Record → List ℕ
+    → Result (Record × DecodedDatagram) SkipCause
 datagram_if None a r octets = Ok (r, datagram_of a.rule octets)
 datagram_if (Some why) a r octets = Err (Chosen why)
 
@@ -66,7 +67,8 @@ abbrev pub followed_datagram : FollowOptions → Option ℕ → Record → List 
 followed_datagram a first r octets = datagram_if (skip_reason a first r) a r octets
 
 -- The decoded datagram of a line, or why none is followed.
-abbrev pub line_datagram : FollowOptions → Option ℕ → Result Line LineFault → Result (Record × DecodedDatagram) SkipCause
+abbrev pub line_datagram : FollowOptions → Option ℕ → Result Line LineFault
+    → Result (Record × DecodedDatagram) SkipCause
 line_datagram a first (Ok l) = followed_datagram a first (record_of l) l.payload
 line_datagram a first (Err fault) = Err (Fault fault)
 
@@ -76,7 +78,8 @@ payload_in (Ok l) = l.payload
 payload_in (Err fault) = []
 
 -- The remark on the datagram of a line.
-abbrev pub line_remark : List Connection → ℕ → Result (Record × DecodedDatagram) SkipCause → Result (Record × Remark) SkipCause
+abbrev pub line_remark : List Connection → ℕ → Result (Record × DecodedDatagram) SkipCause
+    → Result (Record × Remark) SkipCause
 line_remark cs number (Ok h) = Ok (h.0, remark_of cs number h.0 h.1)
 line_remark cs number (Err why) = Err why
 
@@ -206,7 +209,8 @@ sums_in Events choose s cs t counts = sums_json s cs t counts choose
 
 -- The sums over all lines so far.
 abbrev pub course_text : FollowOptions → Option ℕ → Totals → List Connection → CaptureCounts → List ℕ
-course_text a first gone cs counts = sums_in a.form a.choose (scale_from a (first_of first 0)) cs (totals_of gone cs) counts
+course_text a first gone cs counts =
+    sums_in a.form a.choose (scale_from a (first_of first 0)) cs (totals_of gone cs) counts
 
 -- The line of a fault, if there is one.
 abbrev pub fault_lines : ℕ → Option LineFault → List ℕ

@@ -26,24 +26,28 @@ use Rattle.capture_text.specs.TableText.{sessions_text}
 -- How often an end opened, and by what.
 abbrev pub opening_text : Option SessionOpening → ℕ → List ℕ
 opening_text None times = codes " opening not seen"
-opening_text (Some opening) times = join_pieces (codes " opened by " ∷ kind_name opening.kind ∷ codes " times " ∷ decimal times ∷ [])
+opening_text (Some opening) times =
+    join_pieces (codes " opened by " ∷ kind_name opening.kind ∷ codes " times " ∷ decimal times ∷ [])
 
 -- The repeated, late, differing and stale numbers of a window.
 unfoldable pub others_text : Window → List ℕ
 others_text w =
     join_pieces
-    (codes " repeats " ∷ decimal w.repeats ∷ codes " late " ∷ decimal w.late ∷ codes " differs " ∷ decimal w.differing ∷ codes " stale "
+    (codes " repeats " ∷ decimal w.repeats ∷ codes " late " ∷ decimal w.late ∷ codes " differs " ∷ decimal w.differing ∷
+    codes " stale "
     ∷ decimal w.stale ∷ [])
 
 -- The counts of a window.
 unfoldable pub numbers_text : Window → List ℕ
-numbers_text w = join_pieces (codes " PDUs " ∷ decimal w.heard ∷ codes " missing " ∷ decimal w.missing ∷ []) ++ others_text w
+numbers_text w =
+    join_pieces (codes " PDUs " ∷ decimal w.heard ∷ codes " missing " ∷ decimal w.missing ∷ []) ++ others_text w
 
 -- The counts of types.
 unfoldable pub kinds_text : Tally → List ℕ
 kinds_text t =
     join_pieces
-    (codes " heartbeats " ∷ decimal t.heartbeats ∷ codes " requests " ∷ decimal t.requests ∷ codes " resent " ∷ decimal t.resent ∷ codes " disconnects "
+    (codes " heartbeats " ∷ decimal t.heartbeats ∷ codes " requests " ∷ decimal t.requests ∷ codes " resent " ∷
+    decimal t.resent ∷ codes " disconnects "
     ∷ decimal t.disconnects ∷ [])
 
 -- The longest silence.
@@ -72,7 +76,8 @@ disconnect_text (Some leaving) = codes " DiscReq" ++ leaving_words leaving
 -- The tally of a direction; silence lasts up to this time.
 unfoldable pub tally_text : Scale → ℕ → Tally → List ℕ
 tally_text s until t =
-    kinds_text t ++ silence_text (silence_of t until) ++ oldest_text s.t_max t.oldest ++ longest_text s.t_max t.longest ++ last_text s.clock t.last ++ disconnect_text t.leaving
+    kinds_text t ++ silence_text (silence_of t until) ++ oldest_text s.t_max t.oldest ++ longest_text s.t_max t.longest
+    ++ last_text s.clock t.last ++ disconnect_text t.leaving
 
 -- The line of a direction.
 unfoldable pub direction_text : Scale → ℕ → ℕ → ℕ → Direction → List ℕ
@@ -83,7 +88,8 @@ direction_text s until from to d =
 -- How many datagrams came on a channel; each is in one of these counts.
 abbrev pub datagrams_of : Window → ℕ → ℕ
 datagrams_of w damaged =
-    limited_sum (limited_sum (limited_sum (limited_sum (limited_sum w.heard w.repeats) w.late) w.differing) w.stale) damaged
+    limited_sum (limited_sum (limited_sum (limited_sum (limited_sum w.heard w.repeats) w.late) w.differing) w.stale)
+    damaged
 
 -- The addresses of a channel.
 unfoldable pub route_text : Route → List ℕ
@@ -104,7 +110,8 @@ damaged_count_text damaged = join_pieces (codes " damaged " ∷ decimal damaged 
 -- The line of a channel.
 unfoldable pub known_channel_text : ℕ → ℕ → ℕ → Route → Window → ℕ → List ℕ
 known_channel_text from to place route w damaged =
-    sum_text from to place ++ route_text route ++ datagrams_text w damaged ++ numbers_text w ++ damaged_count_text damaged
+    sum_text from to place ++ route_text route ++ datagrams_text w damaged ++ numbers_text w
+    ++ damaged_count_text damaged
 
 -- The line of a channel, if there is one.
 abbrev pub maybe_channel_text : ℕ → ℕ → ℕ → Option Route → Window → ℕ → List ℕ
@@ -120,7 +127,8 @@ place_text from to routes d place =
 -- The lines of a direction's channels.
 unfoldable pub places_text : ℕ → ℕ → List (Option Route) → Direction → List ℕ
 places_text from to routes d =
-    place_text from to routes d 0 ++ place_text from to routes d 1 ++ place_text from to routes d 2 ++ place_text from to routes d 3
+    place_text from to routes d 0 ++ place_text from to routes d 1 ++ place_text from to routes d 2
+    ++ place_text from to routes d 3
 
 -- The line of a direction, and those of its channels.
 unfoldable pub half_text : Scale → ℕ → ℕ → Connection → Direction → List ℕ
@@ -134,14 +142,16 @@ has_identifiers low high c = (c.low == low) && (c.high == high)
 abbrev pub is_ambiguous : List Connection → Connection → Bool
 is_ambiguous cs c = nat_lt 1 (count_by (λ x. has_identifiers c.low c.high x) cs)
 
--- The addresses by which a connection is told apart: those of its first channel, if its identifiers are ambiguous.
+-- The addresses that distinguish a connection: those of its first channel, if its identifiers are ambiguous.
 abbrev pub telling_route : List Connection → Connection → Option Route
 telling_route cs c = if is_ambiguous cs c then slice_index_or c.routes 0 None else None
 
--- The lines of a connection: both directions, then its sessions, with its addresses if they are needed, and its sentence.
+-- The lines of a connection: both directions, then its sessions, with its addresses if they are needed, and its
+-- sentence.
 unfoldable pub connection_text : Scale → Option Route → Connection → List ℕ
 connection_text s at c =
-    half_text s c.low c.high c c.from_low ++ half_text s c.high c.low c c.from_high ++ sessions_text s.clock c.low c.high at c.sessions
+    half_text s c.low c.high c c.from_low ++ half_text s c.high c.low c c.from_high
+    ++ sessions_text s.clock c.low c.high at c.sessions
     ++ sentence_text s c
 
 -- The lines of some of all connections; the one with the latest PDU is the last.
@@ -156,17 +166,20 @@ datagram_count_text datagrams = join_pieces (codes "sum all datagrams " ∷ deci
 unfoldable pub other_totals_text : Totals → List ℕ
 other_totals_text t =
     join_pieces
-    (codes " repeats " ∷ decimal t.repeats ∷ codes " late " ∷ decimal t.late ∷ codes " differs " ∷ decimal t.differing ∷ codes " stale "
+    (codes " repeats " ∷ decimal t.repeats ∷ codes " late " ∷ decimal t.late ∷ codes " differs " ∷ decimal t.differing ∷
+    codes " stale "
     ∷ decimal t.stale ∷ [])
 
 -- The sums of all connections.
 unfoldable pub totals_text : Totals → List ℕ
-totals_text t = join_pieces (codes " PDUs " ∷ decimal t.heard ∷ codes " missing " ∷ decimal t.missing ∷ []) ++ other_totals_text t
+totals_text t =
+    join_pieces (codes " PDUs " ∷ decimal t.heard ∷ codes " missing " ∷ decimal t.missing ∷ []) ++ other_totals_text t
 
 -- The counts over the whole capture.
 unfoldable pub counts_text : CaptureCounts → List ℕ
 counts_text c =
-    join_pieces (codes " damaged " ∷ decimal c.damaged ∷ codes " forgotten " ∷ decimal c.forgotten ∷ codes " unreadable " ∷ decimal c.unreadable ∷ [])
+    join_pieces (codes " damaged " ∷ decimal c.damaged ∷ codes " forgotten " ∷ decimal c.forgotten ∷
+    codes " unreadable " ∷ decimal c.unreadable ∷ [])
 
 -- The line of all sums.
 unfoldable pub all_text : Totals → CaptureCounts → List ℕ

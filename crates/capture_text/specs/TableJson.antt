@@ -1,8 +1,7 @@
 -- The table of a connection's sessions as JSON; docs/captures.md has the members.
-use Rattle.std.specs.Prelude.{ℕ, ◌%◌, Bool, true, false, List, [], ◌∷◌, ◌++◌, codes, drop, take, Option, Some, None}
+use Rattle.std.specs.Prelude.{ℕ, Bool, true, false, List, [], ◌∷◌, ◌++◌, codes, Option, Some, None}
 use Rattle.std.specs.Fmt.{decimal}
 use Rattle.std.specs.List.{flat_map}
-use Rattle.capture.specs.declared.sessions.TheConstants.{SESSIONS}
 use Rattle.capture.specs.declared.sessions.SessionRequest.{SessionRequest}
 use Rattle.capture.specs.declared.sessions.Disconnection.{Disconnection}
 use Rattle.capture.specs.declared.sessions.Session.{Session}
@@ -45,7 +44,8 @@ outcome_json up unanswered =
 unfoldable pub disconnect_json : Disconnection → List ℕ
 disconnect_json p =
     join_pieces
-    (codes "{\"time\":" ∷ decimal p.time ∷ codes ",\"reason\":" ∷ decimal p.leaving.reason ∷ codes ",\"detail\":" ∷ decimal p.leaving.detail
+    (codes "{\"time\":" ∷ decimal p.time ∷ codes ",\"reason\":" ∷ decimal p.leaving.reason ∷ codes ",\"detail\":" ∷
+    decimal p.leaving.detail
     ∷ codes ",\"follows\":" ∷ truth_json p.follows ∷ codes "}" ∷ [])
 
 -- The DiscReq of an end, or null.
@@ -57,21 +57,25 @@ maybe_disconnect_json (Some p) = disconnect_json p
 unfoldable pub losses_json : ℕ → ℕ → ℕ → List ℕ
 losses_json waits lost alone =
     join_pieces
-    (codes ",\"waits\":" ∷ decimal waits ∷ codes ",\"lost_on_every_channel\":" ∷ decimal lost ∷ codes ",\"lost_on_one_channel\":" ∷ decimal alone
+    (codes ",\"waits\":" ∷ decimal waits ∷ codes ",\"lost_on_every_channel\":" ∷ decimal lost ∷
+    codes ",\"lost_on_one_channel\":" ∷ decimal alone
     ∷ [])
 
 -- What an end sent again, what came twice on one channel, and the end of its object.
 unfoldable pub again_json : ℕ → ℕ → List ℕ
-again_json resent repeats = join_pieces (codes ",\"resent\":" ∷ decimal resent ∷ codes ",\"repeats\":" ∷ decimal repeats ∷ codes "}" ∷ [])
+again_json resent repeats =
+    join_pieces (codes ",\"resent\":" ∷ decimal resent ∷ codes ",\"repeats\":" ∷ decimal repeats ∷ codes "}" ∷ [])
 
 -- What an end did in a session.
 unfoldable pub side_json : Side → List ℕ
 side_json s =
-    codes "{\"left\":" ++ maybe_disconnect_json s.left ++ losses_json s.longest s.lost (alone_of s) ++ again_json s.resent s.repeats
+    codes "{\"left\":" ++ maybe_disconnect_json s.left ++ losses_json s.longest s.lost (alone_of s)
+    ++ again_json s.resent s.repeats
 
 -- How a session began.
 unfoldable pub start_json : ℕ → ℕ → Session → List ℕ
-start_json low high x = number_json x.number ++ maybe_request_json low high x.asked ++ outcome_json x.up (is_unanswered_in x)
+start_json low high x =
+    number_json x.number ++ maybe_request_json low high x.asked ++ outcome_json x.up (is_unanswered_in x)
 
 -- What both ends did in a session, and the end of its object.
 unfoldable pub sides_json : Session → List ℕ
@@ -81,33 +85,34 @@ sides_json x = codes ",\"low\":" ++ side_json x.low ++ codes ",\"high\":" ++ sid
 unfoldable pub session_json : ℕ → ℕ → Session → List ℕ
 session_json low high x = start_json low high x ++ sides_json x
 
--- A kept session before a comma, if the place has one.
-abbrev pub slot_json : ℕ → ℕ → Option Session → List ℕ
-slot_json low high None = []
-slot_json low high (Some x) = session_json low high x ++ codes ","
+-- A session before a comma.
+abbrev pub item_json : ℕ → ℕ → Session → List ℕ
+item_json low high x = session_json low high x ++ codes ","
 
--- Kept sessions, each before a comma.
-abbrev pub slots_json : ℕ → ℕ → List (Option Session) → List ℕ
-slots_json low high xs = flat_map (λ x. slot_json low high x) xs
+-- Sessions that have ended, each before a comma.
+abbrev pub past_json : ℕ → ℕ → List Session → List ℕ
+past_json low high xs = flat_map (λ x. item_json low high x) xs
 
 -- The sums over all sessions: how many there were, came up, and were not answered.
 unfoldable pub session_counts_json : ℕ → SessionTotals → List ℕ
 session_counts_json number t =
     join_pieces
-    (codes ",\"sessions\":{\"number\":" ∷ decimal number ∷ codes ",\"up\":" ∷ decimal t.up ∷ codes ",\"unanswered\":" ∷ decimal t.unanswered
+    (codes ",\"sessions\":{\"number\":" ∷ decimal number ∷ codes ",\"up\":" ∷ decimal t.up ∷ codes ",\"unanswered\":" ∷
+    decimal t.unanswered
     ∷ [])
 
 -- The sums over all sessions: how many an end left, and by a timeout; and the start of the table.
 unfoldable pub disconnect_counts_json : SessionTotals → List ℕ
 disconnect_counts_json t =
-    join_pieces (codes ",\"left\":" ∷ decimal t.left ∷ codes ",\"timeouts\":" ∷ decimal t.timeouts ∷ codes ",\"table\":[" ∷ [])
+    join_pieces (codes ",\"left\":" ∷ decimal t.left ∷ codes ",\"timeouts\":" ∷ decimal t.timeouts ∷
+    codes ",\"table\":[" ∷ [])
 
--- All kept sessions, the oldest one first, then the current one, and the end of the table.
+-- The sessions that have ended, the oldest kept one first, then the current one, and the end of the table.
 unfoldable pub table_json : ℕ → ℕ → Sessions → List ℕ
 table_json low high ss =
-    slots_json low high (drop (ss.current.number % SESSIONS) ss.past) ++ slots_json low high (take (ss.current.number % SESSIONS) ss.past)
-    ++ session_json low high ss.current ++ codes "]}"
+    past_json low high ss.past ++ session_json low high ss.current ++ codes "]}"
 
 -- The sums over all sessions of a connection, and its table.
 unfoldable pub sessions_json : ℕ → ℕ → Sessions → List ℕ
-sessions_json low high ss = session_counts_json ss.current.number (session_sums ss) ++ disconnect_counts_json (session_sums ss) ++ table_json low high ss
+sessions_json low high ss = session_counts_json ss.current.number (session_sums ss) ++ disconnect_counts_json
+    (session_sums ss) ++ table_json low high ss

@@ -1,9 +1,8 @@
 -- The table of a connection's sessions, one line each.
-use Rattle.std.specs.Prelude.{ℕ, ◌%◌, ◌&&◌, Bool, true, false, List, [], ◌∷◌, ◌++◌, codes, drop, take, if◌then◌else◌, Option, Some, None, is_none}
+use Rattle.std.specs.Prelude.{ℕ, ◌&&◌, Bool, true, false, List, [], ◌∷◌, ◌++◌, codes, if◌then◌else◌, Option, Some, None, is_none}
 use Rattle.std.specs.Fmt.{decimal}
 use Rattle.std.specs.List.{flat_map}
 use Rattle.capture.specs.declared.connections.Route.{Route}
-use Rattle.capture.specs.declared.sessions.TheConstants.{SESSIONS}
 use Rattle.capture.specs.declared.sessions.SessionRequest.{SessionRequest}
 use Rattle.capture.specs.declared.sessions.Disconnection.{Disconnection}
 use Rattle.capture.specs.declared.sessions.Session.{Session}
@@ -24,7 +23,7 @@ number_text number low high =
 unfoldable pub at_text : Route → List ℕ
 at_text route = join_pieces (codes " at " ∷ address_text route.low ∷ codes "-" ∷ address_text route.high ∷ [])
 
--- The addresses of a connection, if it needs them to be told apart.
+-- The addresses of a connection, if other connections have its identifiers.
 abbrev pub maybe_at_text : Option Route → List ℕ
 maybe_at_text None = []
 maybe_at_text (Some route) = at_text route
@@ -59,7 +58,8 @@ outcome_text clock None unanswered = down_text unanswered
 -- How a session began: number, addresses if they are needed, ConnReq, ConnResp.
 unfoldable pub start_text : Clock → ℕ → ℕ → Option Route → Session → List ℕ
 start_text clock low high at x =
-    number_text x.number low high ++ maybe_at_text at ++ maybe_request_text clock low high x.asked ++ outcome_text clock x.up (is_unanswered_in x)
+    number_text x.number low high ++ maybe_at_text at ++ maybe_request_text clock low high x.asked
+    ++ outcome_text clock x.up (is_unanswered_in x)
 
 -- Whose leaving was the first.
 abbrev pub own_text : Bool → List ℕ
@@ -69,7 +69,8 @@ own_text false = codes " by itself"
 -- The DiscReq of an end: who, when, own or after that of the other end, reason.
 unfoldable pub disconnect_text : Clock → ℕ → Disconnection → List ℕ
 disconnect_text clock end p =
-    join_pieces (codes ", " ∷ decimal end ∷ codes " left at " ∷ []) ++ since_text clock p.time ++ own_text p.follows ++ leaving_words p.leaving
+    join_pieces (codes ", " ∷ decimal end ∷ codes " left at " ∷ []) ++ since_text clock p.time ++ own_text p.follows
+    ++ leaving_words p.leaving
 
 -- The DiscReq of an end, if it sent one.
 abbrev pub maybe_disconnect_text : Clock → ℕ → Option Disconnection → List ℕ
@@ -87,24 +88,29 @@ no_disconnect_text false = []
 
 -- How a session ended.
 unfoldable pub end_text : Clock → ℕ → ℕ → Session → List ℕ
-end_text clock low high x = maybe_disconnect_text clock low x.low.left ++ maybe_disconnect_text clock high x.high.left ++ no_disconnect_text (is_kept x)
+end_text clock low high x = maybe_disconnect_text clock low x.low.left ++ maybe_disconnect_text clock high x.high.left
+    ++ no_disconnect_text (is_kept x)
 
 -- The longest wait of each end.
 unfoldable pub waits_text : ℕ → ℕ → ℕ → ℕ → List ℕ
 waits_text low high one other =
     join_pieces
-    (codes ", " ∷ decimal low ∷ codes " waited " ∷ decimal one ∷ codes " ms, " ∷ decimal high ∷ codes " waited " ∷ decimal other ∷ codes " ms" ∷ [])
+    (codes ", " ∷ decimal low ∷ codes " waited " ∷ decimal one ∷ codes " ms, " ∷ decimal high ∷ codes " waited " ∷
+    decimal other ∷ codes " ms" ∷ [])
 
 -- The losses, in words that name what is counted.
 unfoldable pub session_losses_text : ℕ → ℕ → List ℕ
 session_losses_text everywhere alone =
     join_pieces
-    (codes ", PDUs lost on every channel " ∷ decimal everywhere ∷ codes ", datagrams lost on one channel whose PDU came on another " ∷ decimal alone
+    (codes ", PDUs lost on every channel " ∷ decimal everywhere ∷
+    codes ", datagrams lost on one channel whose PDU came on another " ∷ decimal alone
     ∷ [])
 
 -- What was sent again, and what came twice on one channel.
 unfoldable pub again_text : ℕ → ℕ → List ℕ
-again_text resent repeats = join_pieces (codes ", sent again " ∷ decimal resent ∷ codes ", repeats on one channel " ∷ decimal repeats ∷ codes "\n" ∷ [])
+again_text resent repeats =
+    join_pieces (codes ", sent again " ∷ decimal resent ∷ codes ", repeats on one channel " ∷ decimal repeats ∷
+    codes "\n" ∷ [])
 
 -- The units that both ends sent again.
 abbrev pub resent_in : Session → ℕ
@@ -117,24 +123,19 @@ repeats_in x = limited_sum x.low.repeats x.high.repeats
 -- What happened in a session, and the end of its line.
 unfoldable pub session_events_text : ℕ → ℕ → Session → List ℕ
 session_events_text low high x =
-    waits_text low high x.low.longest x.high.longest ++ session_losses_text (lost_in_session x) (alone_in x) ++ again_text (resent_in x) (repeats_in x)
+    waits_text low high x.low.longest x.high.longest ++ session_losses_text (lost_in_session x) (alone_in x)
+    ++ again_text (resent_in x) (repeats_in x)
 
 -- The line of a session.
 unfoldable pub session_text : Clock → ℕ → ℕ → Option Route → Session → List ℕ
 session_text clock low high at x =
     start_text clock low high at x ++ end_text clock low high x ++ session_events_text low high x
 
--- The line of a kept session, if the place has one.
-abbrev pub slot_text : Clock → ℕ → ℕ → Option Route → Option Session → List ℕ
-slot_text clock low high at None = []
-slot_text clock low high at (Some x) = session_text clock low high at x
-
--- The lines of kept sessions.
-abbrev pub slots_text : Clock → ℕ → ℕ → Option Route → List (Option Session) → List ℕ
-slots_text clock low high at xs = flat_map (λ x. slot_text clock low high at x) xs
+-- The lines of sessions that have ended.
+abbrev pub past_text : Clock → ℕ → ℕ → Option Route → List Session → List ℕ
+past_text clock low high at xs = flat_map (λ x. session_text clock low high at x) xs
 
 -- The lines of all kept sessions of a connection, the oldest one first, then that of the current one.
 unfoldable pub sessions_text : Clock → ℕ → ℕ → Option Route → Sessions → List ℕ
 sessions_text clock low high at ss =
-    slots_text clock low high at (drop (ss.current.number % SESSIONS) ss.past) ++ slots_text clock low high at (take (ss.current.number % SESSIONS) ss.past)
-    ++ session_text clock low high at ss.current
+    past_text clock low high at ss.past ++ session_text clock low high at ss.current

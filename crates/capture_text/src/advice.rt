@@ -34,7 +34,7 @@ pub(crate) fn write_advice<W: Write>(
     Ok(())
 }
 
-/// Writes the lines of all connections, or that there are none.
+/// Writes the lines of all connections. Without a connection, it writes that no PDU was recorded.
 fn write_any<W: Write>(writer: &mut W, connections: &[Entry]) -> io::Result<()>
     // On success the lines of all `connections` are appended; without any, one line says how to proceed
     // (`recording_advice_text`).

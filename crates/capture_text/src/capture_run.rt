@@ -157,11 +157,11 @@ fn faults_of(course: &CaptureReading) -> u64
     ensures { result ≡ faults_in course.now.unreadable course.now.following.forgotten course.now.following.miscoded }
 {
     let faults = course.unreadable.saturating_add(course.following.forgotten);
-    faults.saturating_add(miscoded(course))
+    faults.saturating_add(miscoded_count(course))
 }
 
 /// Returns how many datagrams have another safety code, if none has the right one.
-fn miscoded(course: &CaptureReading) -> u64
+fn miscoded_count(course: &CaptureReading) -> u64
     // The result is 0 as soon as a datagram has the right code (`all_miscoded`).
     ensures { result ≡ all_miscoded course.now.following.miscoded }
 {
@@ -178,7 +178,7 @@ fn tell_miscoded<E: Write>(course: &CaptureReading, err: &mut E) -> Result<(), S
     ensures { OnOk result (Appends (E.contents err.old) (E.contents err.new)
         (miscoded_line (all_miscoded course.now.following.miscoded))) }
 {
-    let miscoded = miscoded(course);
+    let miscoded = miscoded_count(course);
     if miscoded == 0 {
         return Ok(());
     }

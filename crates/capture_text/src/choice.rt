@@ -36,7 +36,7 @@ pub enum Remarkable {
 
 impl Remarkable {
     /// Returns the remark with this word, or `None` if no remark has it.
-    pub fn named(text: &str) -> Option<Remarkable>
+    pub fn of_word(text: &str) -> Option<Remarkable>
         // A remark that is returned has exactly this `text` as its word.
         ensures found { IfSome result (λ word. text.now ≡ word_text word) }
         // Every remark is found by its word.

@@ -83,7 +83,7 @@ pub(crate) fn observe(connection: &Connection) -> Network
     let measures = &connection.measures;
     Network {
         pdus: pdus(connection),
-        lost: lost(&connection.from_low).max(lost(&connection.from_high)),
+        lost: greatest_loss(&connection.from_low).max(greatest_loss(&connection.from_high)),
         shortest: shortest(&measures.low.round_trips, &measures.high.round_trips),
         skew: greater(
             greatest(&measures.low.skews),
@@ -111,7 +111,7 @@ fn units(measures: &Measures) -> u16
 }
 
 /// Returns the greatest share of datagrams that a channel of an end lost, in millionths.
-fn lost(direction: &Direction) -> u64
+fn greatest_loss(direction: &Direction) -> u64
     // The channels of the `direction` are compared (`losses_in`).
     ensures { result ≡ losses_in direction.now }
 {

@@ -2,7 +2,7 @@
 
 ghost use Rattle.std.specs.Prelude.{◌≡◌, OnOk, None, Some};
 ghost use Rattle.std.specs.Io.KnownBytes.{Appends};
-ghost use Rattle.capture_text.specs.TableText.{again_text, maybe_request_text, maybe_at_text, at_text, asker_of, request_text, start_text, up_text, down_text, end_text, session_events_text, is_kept, no_disconnect_text, disconnect_text, maybe_disconnect_text, session_losses_text, number_text, outcome_text, own_text, repeats_in, resent_in, session_text, sessions_text, slot_text, slots_text, waits_text};
+ghost use Rattle.capture_text.specs.TableText.{again_text, maybe_request_text, maybe_at_text, at_text, asker_of, request_text, start_text, up_text, down_text, end_text, session_events_text, is_kept, no_disconnect_text, disconnect_text, maybe_disconnect_text, session_losses_text, number_text, outcome_text, own_text, past_text, repeats_in, resent_in, session_text, sessions_text, waits_text};
 
 use crate::pieces::{Clock, write_address, write_since};
 use crate::reasons::write_reasons;
@@ -15,7 +15,7 @@ use std::io;
 use std::io::Write;
 
 /// Writes a line for each session of a connection, the oldest kept one first. `ends` are its identifiers, and `at` its
-/// addresses if it needs them to be told apart.
+/// addresses if other connections have the same identifiers.
 #[tactic(auto, unfolding(crate::specs::TableText::sessions_text))]
 pub(crate) fn write_sessions<W: Write>(
     writer: &mut W,
@@ -29,47 +29,29 @@ pub(crate) fn write_sessions<W: Write>(
     ensures { OnOk result (Appends (W.contents writer.old) (W.contents writer.new)
         (sessions_text clock ends.0 ends.1 at sessions.now)) }
 {
-    let oldest = (sessions.current.number % 64) as usize;
-    write_slots(writer, clock, ends, at, &sessions.past[oldest..])?;
-    write_slots(writer, clock, ends, at, &sessions.past[..oldest])?;
+    let (older, newer) = sessions.past.as_slices();
+    write_past(writer, clock, ends, at, older)?;
+    write_past(writer, clock, ends, at, newer)?;
     write_session(writer, clock, ends, at, &sessions.current)?;
     Ok(())
 }
 
-/// Writes the lines of kept sessions.
-fn write_slots<W: Write>(
+/// Writes the lines of sessions that have ended.
+fn write_past<W: Write>(
     writer: &mut W,
     clock: Clock,
     ends: (u32, u32),
     at: Option<Route>,
-    slots: &[Option<Session>],
+    past: &[Session],
 ) -> io::Result<()>
-    // On success the line of each place that has a session is appended, in the order of `slots`.
+    // On success the line of each session is appended, in the order of `past`.
     ensures { OnOk result (Appends (W.contents writer.old) (W.contents writer.new)
-        (slots_text clock ends.0 ends.1 at slots.now)) }
+        (past_text clock ends.0 ends.1 at past.now)) }
 {
-    for slot in slots {
-        write_slot(writer, clock, ends, at, slot)?;
+    for session in past {
+        write_session(writer, clock, ends, at, session)?;
     }
     Ok(())
-}
-
-/// Writes the line of a kept session, if the place has one.
-fn write_slot<W: Write>(
-    writer: &mut W,
-    clock: Clock,
-    ends: (u32, u32),
-    at: Option<Route>,
-    slot: &Option<Session>,
-) -> io::Result<()>
-    // On success the line is appended if there is a session in this `slot`.
-    ensures { OnOk result (Appends (W.contents writer.old) (W.contents writer.new)
-        (slot_text clock ends.0 ends.1 at slot.now)) }
-{
-    match slot {
-        None => Ok(()),
-        Some(session) => write_session(writer, clock, ends, at, session),
-    }
 }
 
 /// Writes the line of a session.

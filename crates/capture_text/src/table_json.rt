@@ -2,7 +2,7 @@
 
 ghost use Rattle.std.specs.Prelude.{◌≡◌, OnOk, None, Some};
 ghost use Rattle.std.specs.Io.KnownBytes.{Appends};
-ghost use Rattle.capture_text.specs.TableJson.{again_json, maybe_request_json, request_json, start_json, session_counts_json, disconnect_counts_json, maybe_disconnect_json, losses_json, maybe_time_json, number_json, outcome_json, disconnect_json, session_json, sessions_json, side_json, sides_json, slot_json, slots_json, table_json, truth_json};
+ghost use Rattle.capture_text.specs.TableJson.{again_json, maybe_request_json, request_json, start_json, session_counts_json, disconnect_counts_json, maybe_disconnect_json, losses_json, maybe_time_json, number_json, outcome_json, disconnect_json, session_json, sessions_json, side_json, sides_json, item_json, past_json, table_json, truth_json};
 
 use crate::table::asker;
 use capture::{
@@ -67,43 +67,34 @@ fn write_table<W: Write>(writer: &mut W, ends: (u32, u32), sessions: &Sessions) 
     ensures { OnOk result (Appends (W.contents writer.old) (W.contents writer.new)
         (table_json ends.0 ends.1 sessions.now)) }
 {
-    let oldest = (sessions.current.number % 64) as usize;
-    write_slots(writer, ends, &sessions.past[oldest..])?;
-    write_slots(writer, ends, &sessions.past[..oldest])?;
+    let (older, newer) = sessions.past.as_slices();
+    write_past(writer, ends, older)?;
+    write_past(writer, ends, newer)?;
     write_session(writer, ends, &sessions.current)?;
     write_text(writer, "]}")?;
     Ok(())
 }
 
-/// Writes kept sessions, each before a comma.
-fn write_slots<W: Write>(
-    writer: &mut W,
-    ends: (u32, u32),
-    slots: &[Option<Session>],
-) -> io::Result<()>
-    // On success the object of each place that has a session, and a comma, are appended in the order of `slots`.
+/// Writes sessions that have ended, each before a comma.
+fn write_past<W: Write>(writer: &mut W, ends: (u32, u32), past: &[Session]) -> io::Result<()>
+    // On success the object of each session, and a comma, are appended in the order of `past`.
     ensures { OnOk result (Appends (W.contents writer.old) (W.contents writer.new)
-        (slots_json ends.0 ends.1 slots.now)) }
+        (past_json ends.0 ends.1 past.now)) }
 {
-    for slot in slots {
-        write_slot(writer, ends, slot)?;
+    for session in past {
+        write_item(writer, ends, session)?;
     }
     Ok(())
 }
 
-/// Writes a kept session before a comma, if the place has one.
-fn write_slot<W: Write>(writer: &mut W, ends: (u32, u32), slot: &Option<Session>) -> io::Result<()>
-    // On success the object and a comma are appended if there is a session in this `slot`.
+/// Writes a session before a comma.
+fn write_item<W: Write>(writer: &mut W, ends: (u32, u32), session: &Session) -> io::Result<()>
+    // On success the object and a comma are appended (`item_json`).
     ensures { OnOk result (Appends (W.contents writer.old) (W.contents writer.new)
-        (slot_json ends.0 ends.1 slot.now)) }
+        (item_json ends.0 ends.1 session.now)) }
 {
-    match slot {
-        None => Ok(()),
-        Some(session) => {
-            write_session(writer, ends, session)?;
-            write_text(writer, ",")
-        }
-    }
+    write_session(writer, ends, session)?;
+    write_text(writer, ",")
 }
 
 /// Writes the object of a session.

@@ -17,7 +17,8 @@ pub record ChannelHistory : Type 0 where
   pub sent : Option (List SentDatagram)
   -- the results of the receptions, in order, if known
   pub answers : Option (List Answer)
-  -- the buffer length of the last reception, if known, so that an end that receives into less than its buffer has no proof
+  -- the buffer length of the last reception, if known, so that an end that receives into less than its buffer has no
+  -- proof
   pub asked : Option ℕ
   -- how many sends failed, modulo 2^64
   pub failed_sends : ℕ
@@ -49,7 +50,8 @@ pub record Sends (went : Bool) (before : ChannelHistory) (x : SentDatagram) (aft
 abbrev pub SendsOne : ChannelHistory → SentDatagram → ChannelHistory → Type 0
 SendsOne before x after = (went : Bool) × Sends went before x after
 
--- the result that a reception appends: the channel and the bytes at the start of the buffer, or None; a failed one appends nothing
+-- the result that a reception appends: the channel and the bytes at the start of the buffer, or None; a failed one
+-- appends nothing
 abbrev pub answers_of : Result (Option (ℕ × ℕ)) ChannelFault → List ℕ → List Answer
 answers_of (Ok (Some (channel, size))) buffer = Some (channel, take size buffer) ∷ []
 answers_of (Ok None) buffer = None ∷ []

@@ -22,7 +22,8 @@ pub record MemoryValue : Type 0 where
   -- how many receptions failed, modulo 2^64
   pub failed_receives : ℕ
 
--- the state as contracts of `Channels` see it: both lists are known; no send is sure on a channel, since all channels share the room
+-- the state as contracts of `Channels` see it: both lists are known; no send is sure on a channel, since all channels
+-- share the room
 abbrev pub told_of : MemoryValue → ChannelHistory
 told_of k =
     record {

@@ -93,7 +93,7 @@ pub fn run<R: AllocGlobal + Env + Files + Net + Clock, O: Write>(
             end.reopen(first_number(rt, settings.first_sn)?, now);
             switch.is_put = false;
         }
-        let before = end.channels_seen().received();
+        let before = end.channels_seen().received_count();
         switch.want(now);
         let reported = switch.is_on;
         // A channel that failed is polled again in the next turn; the others continue.
@@ -102,7 +102,7 @@ pub fn run<R: AllocGlobal + Env + Files + Net + Clock, O: Write>(
         let rest = if end.state() == ConnectionState::Closed {
             // The peer must notice the loss, too, before the connection is requested again.
             settings.config.t_max / 4
-        } else if end.channels_seen().received() == before {
+        } else if end.channels_seen().received_count() == before {
             rest(end.next_deadline(), now)
         } else {
             0

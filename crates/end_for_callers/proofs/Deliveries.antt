@@ -24,11 +24,13 @@ map-nil : (o : Option (List SentDatagram)) → o ≡ option_map (λ ys. ys ++ []
 map-nil None = refl
 map-nil (Some ys) = ap Some (sym (append-nil ys))
 
-map-one : (o : Option (List SentDatagram)) (x : SentDatagram) (xs : List SentDatagram) → option_map (λ ys. ys ++ xs) (option_map (λ ys. ys ++ x ∷ []) o) ≡ option_map (λ ys. ys ++ x ∷ xs) o
+map-one : (o : Option (List SentDatagram)) (x : SentDatagram) (xs : List SentDatagram)
+    → option_map (λ ys. ys ++ xs) (option_map (λ ys. ys ++ x ∷ []) o) ≡ option_map (λ ys. ys ++ x ∷ xs) o
 map-one None x xs = refl
 map-one (Some ys) x xs = ap Some (append_assoc ys (x ∷ []) xs)
 
-counted-one : (a m b : ChannelHistory) (x : SentDatagram) (xs : List SentDatagram) (went : Bool) → Sends went a x m → Counted m xs b → Counted a (x ∷ xs) b
+counted-one : (a m b : ChannelHistory) (x : SentDatagram) (xs : List SentDatagram) (went : Bool) → Sends went a x m
+    → Counted m xs b → Counted a (x ∷ xs) b
 counted-one a m b x xs true h k =
     record {
       failed = k.failed;
@@ -44,7 +46,8 @@ counted-one a m b x xs false h k =
       sent = λ none. absurd (omega (arith, none));
     }
 
-counted-all : (a : ChannelHistory) (xs : List SentDatagram) (b : ChannelHistory) → FoldsTo SendsOne a xs b → Counted a xs b
+counted-all : (a : ChannelHistory) (xs : List SentDatagram) (b : ChannelHistory) → FoldsTo SendsOne a xs b
+    → Counted a xs b
 counted-all a [] b e =
     record {
       failed = 0;
@@ -57,7 +60,8 @@ counted-all a (x ∷ xs) b (m, (went, one), rest) = counted-one a m b x xs went 
 some-is : {X : Type 0} (x y : X) → Some x ≡ Some y → x ≡ y
 some-is x y e = cc
 
-pub posted : (o : DatagramQueue) (xs : List SentDatagram) (p : DatagramQueue) → FoldsTo SendsOne (told_of o) xs (told_of p) → Posted o xs p
+pub posted : (o : DatagramQueue) (xs : List SentDatagram) (p : DatagramQueue)
+    → FoldsTo SendsOne (told_of o) xs (told_of p) → Posted o xs p
 posted o xs p h =
     record {
       each = h;
@@ -68,14 +72,19 @@ posted o xs p h =
     }
 
 -- after one without room none is added
-lost-adds : (n : TelegramQueue) (items : List Item) (m : TelegramQueue) → n.lost ≡ true → FoldsTo takes_of n items m → (m.lost ≡ true) × (m.queue.waiting ≡ n.queue.waiting)
+lost-adds : (n : TelegramQueue) (items : List Item) (m : TelegramQueue) → n.lost ≡ true → FoldsTo takes_of n items m
+    → (m.lost ≡ true) × (m.queue.waiting ≡ n.queue.waiting)
 lost-adds n [] m lost e = (ap (λ k. k.lost) (sym e) ∙ lost, ap (λ k. k.queue.waiting) (sym e))
 lost-adds n (i ∷ items) m lost (mid, one, rest) =
-    let is : mid ≡ record n { lost = true } = one ∙ ap (λ l. cond (not l && has_place_for (length i.1) n.queue) (record n { queue = with_piece i n.queue }) (record n { lost = true })) lost in
+    let is : mid ≡ record n { lost = true } = one
+    ∙ ap (λ l. cond (not l && has_place_for (length i.1) n.queue) (record n { queue = with_piece i n.queue })
+    (record n { lost = true })) lost in
     let later = lost-adds mid items m (ap (λ k. k.lost) is) rest in
     (later.0, later.1 ∙ ap (λ k. k.queue.waiting) is)
 
-came-one : (n mid m : TelegramQueue) (i : Item) (items : List Item) (room : Bool) → mid ≡ cond room (record n { queue = with_piece i n.queue }) (record n { lost = true }) → FoldsTo takes_of mid items m → Came mid items m → Came n (i ∷ items) m
+came-one : (n mid m : TelegramQueue) (i : Item) (items : List Item) (room : Bool)
+    → mid ≡ cond room (record n { queue = with_piece i n.queue }) (record n { lost = true })
+    → FoldsTo takes_of mid items m → Came mid items m → Came n (i ∷ items) m
 came-one n mid m i items true is rest k =
     record {
       stays = λ was. k.stays (ap (λ x. x.lost) is ∙ was);
@@ -103,7 +112,8 @@ came n [] m e =
       beginning = ([], refl);
       all = λ _. refl;
     }
-came n (i ∷ items) m (mid, one, rest) = came-one n mid m i items (not n.lost && has_place_for (length i.1) n.queue) one rest (came mid items m rest)
+came n (i ∷ items) m (mid, one, rest) =
+    came-one n mid m i items (not n.lost && has_place_for (length i.1) n.queue) one rest (came mid items m rest)
 
 pub came-none : (n : TelegramQueue) → Came n [] n
 came-none n = came n [] n refl
@@ -112,7 +122,8 @@ came-none n = came n [] n refl
 abbrev pub roomless : ChannelHistory → ChannelHistory
 roomless t = record t { room = λ _. 0 }
 
-sends-roomless : (went : Bool) (a : ChannelHistory) (x : SentDatagram) (b : ChannelHistory) → Sends went a x b → Sends went (roomless a) x (roomless b)
+sends-roomless : (went : Bool) (a : ChannelHistory) (x : SentDatagram) (b : ChannelHistory) → Sends went a x b
+    → Sends went (roomless a) x (roomless b)
 sends-roomless went a x b s =
     record {
       sent = s.sent;
@@ -124,25 +135,40 @@ sends-roomless went a x b s =
       failed_receives = s.failed_receives;
     }
 
-pub folds-roomless : (xs : List SentDatagram) (a b : ChannelHistory) → FoldsTo SendsOne a xs b → FoldsTo SendsOne (roomless a) xs (roomless b)
+pub folds-roomless : (xs : List SentDatagram) (a b : ChannelHistory) → FoldsTo SendsOne a xs b
+    → FoldsTo SendsOne (roomless a) xs (roomless b)
 folds-roomless [] a b h = ap roomless h
-folds-roomless (x ∷ xs) a b (m, (went, s), rest) = (roomless m, (went, sends-roomless went a x m s), folds-roomless xs m b rest)
+folds-roomless (x ∷ xs) a b (m, (went, s), rest) =
+    (roomless m, (went, sends-roomless went a x m s), folds-roomless xs m b rest)
 
 -- the turn of an end, as a caller sees the end
-pub seen-turns : (turn : Inside → Turn Inside) (e v w : EndValue OutboxValue Global) (a b : TelegramQueue) → seen_end v ≡ seen_end e
+pub seen-turns : (turn : Inside → Turn Inside) (e v w : EndValue OutboxValue Global) (a b : TelegramQueue)
+    → seen_end v ≡ seen_end e
     → EndTakesTurn told_in takes_of turn v a w b → EndTakesTurn told_of takes_of turn (seen_end e) a (seen_end w) b
 seen-turns turn e v w a b same h =
     subst (λ (u : EndValue DatagramQueue Global). EndTakesTurn told_of takes_of turn u a (seen_end w) b) same
-    (record { left = h.left; sent = folds-roomless (turn (inside v)).sent (told_in (channels_of v)) (told_in (channels_of w)) h.sent; taken = h.taken })
+    (record {
+      left = h.left;
+      sent = folds-roomless (turn (inside v)).sent (told_in (channels_of v))
+          (told_in (channels_of w)) h.sent;
+      taken = h.taken;
+    })
 
-pub seen-alone : (turn : Inside → Turn Inside) (e v w : EndValue OutboxValue Global) → seen_end v ≡ seen_end e → EndTakesTurnAlone told_in turn v w
+pub seen-alone : (turn : Inside → Turn Inside) (e v w : EndValue OutboxValue Global) → seen_end v ≡ seen_end e
+    → EndTakesTurnAlone told_in turn v w
     → EndTakesTurnAlone told_of turn (seen_end e) (seen_end w)
 seen-alone turn e v w same h =
     subst (λ (u : EndValue DatagramQueue Global). EndTakesTurnAlone told_of turn u (seen_end w)) same
-    (record { left = h.left; sent = folds-roomless (turn (inside v)).sent (told_in (channels_of v)) (told_in (channels_of w)) h.sent; none = h.none })
+    (record {
+      left = h.left;
+      sent = folds-roomless (turn (inside v)).sent (told_in (channels_of v))
+          (told_in (channels_of w)) h.sent;
+      none = h.none;
+    })
 
 -- a call by its end
-pub does-all : (c : Call) (s t : StationValue) → EndTakesTurn told_of takes_of (turn c) s.end s.inbox t.end t.inbox → t.end.time ≡ time_of c → t.reserve ≡ s.reserve
+pub does-all : (c : Call) (s t : StationValue) → EndTakesTurn told_of takes_of (turn c) s.end s.inbox t.end t.inbox
+    → t.end.time ≡ time_of c → t.reserve ≡ s.reserve
     → Does c s t
 does-all c s t h time reserve =
     record {
@@ -153,7 +179,8 @@ does-all c s t h time reserve =
       telegrams = came s.inbox (turn c (inside s.end)).taken t.inbox h.taken;
     }
 
-pub does-alone : (c : Call) (s t : StationValue) → EndTakesTurnAlone told_of (turn c) s.end t.end → t.end.time ≡ time_of c → t.inbox ≡ s.inbox → t.reserve ≡ s.reserve
+pub does-alone : (c : Call) (s t : StationValue) → EndTakesTurnAlone told_of (turn c) s.end t.end
+    → t.end.time ≡ time_of c → t.inbox ≡ s.inbox → t.reserve ≡ s.reserve
     → Does c s t
 does-alone c s t h time same reserve =
     record {
@@ -161,5 +188,6 @@ does-alone c s t h time same reserve =
       left = h.left;
       time = time;
       datagrams = posted (outbox_of s) (turn c (inside s.end)).sent (outbox_of t) h.sent;
-      telegrams = subst (λ items. Came s.inbox items t.inbox) (sym h.none) (subst (λ i. Came s.inbox [] i) (sym same) (came-none s.inbox));
+      telegrams = subst (λ items. Came s.inbox items t.inbox) (sym h.none)
+          (subst (λ i. Came s.inbox [] i) (sym same) (came-none s.inbox));
     }

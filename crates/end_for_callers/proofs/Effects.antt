@@ -45,16 +45,19 @@ module _ (P : MachineTurn → Type 0) (p : Pdu) (now : ℕ) (v : View) (h : Effe
   tested-has : (d : _) → P (decision_turn p now d v) → P (decision_turn p now (decide_by_tests v p now d) v)
   tested-has d k =
       by_cond (λ e. P (decision_turn p now e v)) (cs_fits v p) _ _
-      (λ _. by_cond (λ e. P (decision_turn p now e v)) (cts_fits v p now) _ _ (λ _. k) (λ _. h.leaves ProtocolError ConfirmedTimestamp))
+      (λ _. by_cond (λ e. P (decision_turn p now e v)) (cts_fits v p now) _ _ (λ _. k)
+      (λ _. h.leaves ProtocolError ConfirmedTimestamp))
       (λ _. h.leaves ProtocolError ConfirmedNumber)
 
   down-has : (k : Kind) → p.kind ≡ k → P (decision_turn p now (in_down p k) v)
-  down-has ConnReq e = by_cond (λ d. P (decision_turn p now d v)) (is_ours p.body) _ _ (λ _. h.accepts e) (λ _. h.rejects)
+  down-has ConnReq e =
+      by_cond (λ d. P (decision_turn p now d v)) (is_ours p.body) _ _ (λ _. h.accepts e) (λ _. h.rejects)
   down-has _ e = h.stays
 
   client-has : (k : Kind) → p.kind ≡ k → P (decision_turn p now (as_client v p now k) v)
   client-has ConnResp e =
-      by_cond (λ d. P (decision_turn p now d v)) (is_ours p.body) _ _ (λ _. tested-has _ (h.connects e)) (λ _. h.leaves WrongVersion Unspecified)
+      by_cond (λ d. P (decision_turn p now d v)) (is_ours p.body) _ _ (λ _. tested-has _ (h.connects e))
+      (λ _. h.leaves WrongVersion Unspecified)
   client-has _ e = h.leaves UnexpectedPdu Unspecified
 
   answering-has : (d : ℕ) → P (decision_turn p now (decide_request v p now d) v)
@@ -62,7 +65,8 @@ module _ (P : MachineTurn → Type 0) (p : Pdu) (now : ℕ) (v : View) (h : Effe
       by_cond (λ e. P (decision_turn p now e v)) (nat_le (v.expected + d) v.answered) _ _ (λ _. h.stays)
       (λ _. by_cond (λ e. P (decision_turn p now e v)) (cs_fits v p) _ _
       (λ _. by_cond (λ e. P (decision_turn p now e v)) ((d == 0) && in_turn v.connection) _ _
-      (λ _. by_cond (λ e. P (decision_turn p now e v)) (cts_fits v p now) _ _ (λ _. h.next) (λ _. h.leaves ProtocolError ConfirmedTimestamp))
+      (λ _. by_cond (λ e. P (decision_turn p now e v)) (cts_fits v p now) _ _ (λ _. h.next)
+      (λ _. h.leaves ProtocolError ConfirmedTimestamp))
       (λ _. h.early))
       (λ _. by_cond (λ e. P (decision_turn p now e v)) (nat_le 0x8000_0000 (cs_step v p)) _ _ (λ _. h.stays)
       (λ _. h.leaves RetransmissionImpossible Unspecified)))
@@ -99,7 +103,8 @@ module _ (P : MachineTurn → Type 0) (p : Pdu) (now : ℕ) (v : View) (h : Effe
   request-has d RetrResp = tested-has _ h.resumes
   request-has d _ = h.leaves UnexpectedPdu Unspecified
 
-  cell-has : (d : ℕ) (c : ConnectionState) (next : Bool) (k : Kind) → P (decision_turn p now (by_cell v p now d (cell c next k)) v)
+  cell-has : (d : ℕ) (c : ConnectionState) (next : Bool) (k : Kind)
+      → P (decision_turn p now (by_cell v p now d (cell c next k)) v)
   cell-has d Start next k = start-has d next k
   cell-has d Up next k = up-has d next k
   cell-has d RetrRun next k = run-has d next k
@@ -108,20 +113,24 @@ module _ (P : MachineTurn → Type 0) (p : Pdu) (now : ℕ) (v : View) (h : Effe
 
   table-has : (d : ℕ) → P (decision_turn p now (by_table v p now d) v)
   table-has d =
-      by_cond (λ e. P (decision_turn p now e v)) (nat_le d (REACH * v.settings.n_sendmax)) _ _ (λ _. cell-has d v.connection (d == 0) p.kind) (λ _. h.stays)
+      by_cond (λ e. P (decision_turn p now e v)) (nat_le d (REACH * v.settings.n_sendmax)) _ _
+      (λ _. cell-has d v.connection (d == 0) p.kind) (λ _. h.stays)
 
   connection-has : (c : ConnectionState) → P (decision_turn p now (by_connection v p now c) v)
   connection-has Closed = h.stays
   connection-has Down = down-has p.kind refl
   connection-has Start =
       by_cond (λ d. P (decision_turn p now d v)) (is_goodbye p.kind) _ _ (λ _. h.shuts)
-      (λ _. by_cond (λ d. P (decision_turn p now d v)) v.settings.client _ _ (λ _. client-has p.kind refl) (λ _. table-has (distance v p)))
-  connection-has _ = by_cond (λ d. P (decision_turn p now d v)) (is_goodbye p.kind) _ _ (λ _. h.shuts) (λ _. table-has (distance v p))
+      (λ _. by_cond (λ d. P (decision_turn p now d v)) v.settings.client _ _ (λ _. client-has p.kind refl)
+      (λ _. table-has (distance v p)))
+  connection-has _ =
+      by_cond (λ d. P (decision_turn p now d v)) (is_goodbye p.kind) _ _ (λ _. h.shuts) (λ _. table-has (distance v p))
 
   pub responds-has : P (response_turn p now v)
   responds-has =
       by_cond (λ d. P (decision_turn p now d v)) (is_closed v.connection) _ _ (λ _. h.stays)
-      (λ _. by_cond (λ d. P (decision_turn p now d v)) (is_foreign v.settings p) _ _ (λ _. h.stays) (λ _. connection-has v.connection))
+      (λ _. by_cond (λ d. P (decision_turn p now d v)) (is_foreign v.settings p) _ _ (λ _. h.stays)
+      (λ _. connection-has v.connection))
 
 -- the PDU, if it was read, has a body that fits it
 abbrev pub Fitting : Result Pdu SafeFault → Type 0
@@ -138,7 +147,9 @@ kind-fits (Some kind) rule octets =
 pub read-body : (rule : CodeRule) (octets : List ℕ) → Fitting (safe_seen rule octets)
 read-body rule octets =
     by_cond Fitting (nat_lt (length octets) (SAFE_HEADER + code_octets rule.length)) _ _ (λ _. fault-fits Short)
-    (λ _. by_cond Fitting (nat_lt (SAFE_FRONT_MAX + code_octets rule.length) (length octets)) _ _ (λ _. fault-fits Length)
+    (λ _. by_cond Fitting (nat_lt (SAFE_FRONT_MAX + code_octets rule.length) (length octets)) _ _
+    (λ _. fault-fits Length)
     (λ _. by_cond Fitting (length_field octets == length octets) _ _
-    (λ _. by_cond Fitting (has_code rule octets) _ _ (λ _. kind-fits (kind_of (type_field octets)) rule octets) (λ _. fault-fits Code))
+    (λ _. by_cond Fitting (has_code rule octets) _ _ (λ _. kind-fits (kind_of (type_field octets)) rule octets)
+    (λ _. fault-fits Code))
     (λ _. fault-fits Length)))

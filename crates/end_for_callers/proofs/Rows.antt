@@ -24,7 +24,8 @@ no_text row none =
     elim (cases_Bool (nat_lt (text_size row) (length row))) [
       | inr whole ↦ rw whole refl
       | inl ends ↦ elim (read_cases (take (text_size row) row)) [
-        | inl (reads, name) ↦ absurd (none (IsUtf8-from_ascii (take (text_size row) row) (HasCharacters-ascii (take (text_size row) row) name.2)))
+        | inl (reads, name) ↦ absurd (none (IsUtf8-from_ascii (take (text_size row) row)
+            (HasCharacters-ascii (take (text_size row) row) name.2)))
         | inr (fault, reads) ↦ rw (ends, reads) refl
       ]
     ]
@@ -46,19 +47,22 @@ zeros_first : (n : ℕ) → n ≡ suc (n - 1) → text_size (replicate n 0) ≡ 
 zeros_first n some = rw some refl
 
 -- a name followed by zeros is read as that name
-pub named_row : (name row : List ℕ) → IsName name → row ≡ name ++ drop (length name) (replicate 24 0) → name_in row ≡ Some name
+pub named_row : (name row : List ℕ) → IsName name → row ≡ name ++ drop (length name) (replicate 24 0)
+    → name_in row ≡ Some name
 named_row name row is e =
     let zeros : List ℕ = replicate (24 - length name) 0 in
     let whole : row ≡ name ++ zeros = e ∙ ap (λ (z : List ℕ). name ++ z) (drop-replicate (length name) 24 0) in
     let first : text_size zeros ≡ 0 = zeros_first (24 - length name) (omega (arith, is.1)) in
     let size : text_size row ≡ length name = ap text_size whole ∙ text_size-append name zeros is.2 first in
     let front : take (text_size row) row ≡ name = rw (size, whole) (take-append_seam name zeros) in
-    let long : length name < length row = rw whole (omega (arith, is.1, length-append name zeros, length-replicate {A = ℕ} (24 - length name) 0)) in
+    let long : length name < length row = rw whole
+    (omega (arith, is.1, length-append name zeros, length-replicate {A = ℕ} (24 - length name) 0)) in
     let ends : nat_lt (text_size row) (length row) ≡ true = rw size (lt-ltb (length name) (length row) long) in
     rw (ends, front, name_read-ok name is) refl
 
 -- four words that were written are read
-pub words_back : (ws octets : List ℕ) → length ws ≡ 4 → ((i : ℕ) → get_or ws i 0 < 4294967296) → octets ≡ flat_map (little_bytes 4) ws → words_of octets ≡ ws
+pub words_back : (ws octets : List ℕ) → length ws ≡ 4 → ((i : ℕ) → get_or ws i 0 < 4294967296)
+    → octets ≡ flat_map (little_bytes 4) ws → words_of octets ≡ ws
 words_back [] octets long fits e = absurd (omega (arith, long))
 words_back (a ∷ []) octets long fits e = absurd (omega (arith, long))
 words_back (a ∷ b ∷ []) octets long fits e = absurd (omega (arith, long))
@@ -78,15 +82,18 @@ words_back (a ∷ b ∷ c ∷ d ∷ []) octets long fits e =
 words_back (a ∷ b ∷ c ∷ d ∷ f ∷ ws) octets long fits e = absurd (omega (arith, long))
 
 -- a list at the start of its row is read as that list
-pub front_row : (count : ℕ) (list written behind row : List ℕ) → row ≡ written ++ behind → written ≡ list → count ≡ length list → front_of count row ≡ Some list
+pub front_row : (count : ℕ) (list written behind row : List ℕ) → row ≡ written ++ behind → written ≡ list
+    → count ≡ length list → front_of count row ≡ Some list
 front_row count list written behind row e same long =
     let whole : row ≡ list ++ behind = e ∙ ap (λ (front : List ℕ). front ++ behind) same in
-    let enough : nat_le count (length row) ≡ true = le-leb count (length row) (rw (whole, long) (omega (arith, length-append list behind))) in
+    let enough : nat_le count (length row) ≡ true = le-leb count (length row)
+    (rw (whole, long) (omega (arith, length-append list behind))) in
     let front : take count row ≡ list = rw (long, whole) (take-append_seam list behind) in
     rw (enough, front) refl
 
 -- names and lists, each as it is read
-pub lists_row : (s : PlainSettings) (own peer versions checksum : List ℕ) → name_in s.name ≡ Some own → name_in s.peer_name ≡ Some peer
+pub lists_row : (s : PlainSettings) (own peer versions checksum : List ℕ) → name_in s.name ≡ Some own
+    → name_in s.peer_name ≡ Some peer
     → front_of s.version_count s.versions ≡ Some versions → front_of s.checksum_length s.checksum ≡ Some checksum
     → lists_in s ≡ Some (record { own = own; peer = peer; versions = versions; checksum = checksum })
 lists_row s own peer versions checksum a b c d = rw (a, b, c, d) refl
@@ -101,7 +108,8 @@ config_said s lists protocol words =
     }
 
 -- an end is opened with the settings read
-pub opening_row : (s : PlainSettings) (side : Side) (lists : ListsSeen) (protocol : ℕ) (words : List ℕ) → side_in s.side ≡ Some side
+pub opening_row : (s : PlainSettings) (side : Side) (lists : ListsSeen) (protocol : ℕ) (words : List ℕ)
+    → side_in s.side ≡ Some side
     → s.protocol ≡ protocol → s.protocol ≤ 255 → lists_in s ≡ Some lists → words_of s.initial_value ≡ words
     → opening_of s ≡ Some (record {
       config = config_said s lists protocol words;

@@ -69,14 +69,17 @@ use Rattle.end_for_callers.proofs.Loads.{settled}
 use Rattle.end_for_callers.specs.Loads.{IsPlaced, IsSized, SizeLaw}
 unfoldable use Rattle.safe_machine.specs.View.{text_of}
 
-all-append : {X : Type 0} (P : X → Type 0) (xs ys : List X) → AllByRecursion P xs → AllByRecursion P ys → AllByRecursion P (xs ++ ys)
+all-append : {X : Type 0} (P : X → Type 0) (xs ys : List X) → AllByRecursion P xs → AllByRecursion P ys
+    → AllByRecursion P (xs ++ ys)
 all-append P [] ys h k = k
 all-append P (x ∷ xs) ys h k = (h.0, all-append P xs ys h.1 k)
 
-all-filter : {X : Type 0} (P : X → Type 0) (p : X → Bool) (xs : List X) → AllByRecursion P xs → AllByRecursion P (filter p xs)
+all-filter : {X : Type 0} (P : X → Type 0) (p : X → Bool) (xs : List X) → AllByRecursion P xs
+    → AllByRecursion P (filter p xs)
 all-filter P p [] h = h
 all-filter P p (x ∷ xs) h =
-    by_cond (AllByRecursion P) (p x) (x ∷ filter p xs) (filter p xs) (λ _. (h.0, all-filter P p xs h.1)) (λ _. all-filter P p xs h.1)
+    by_cond (AllByRecursion P) (p x) (x ∷ filter p xs) (filter p xs) (λ _. (h.0, all-filter P p xs h.1))
+    (λ _. all-filter P p xs h.1)
 
 -- A PDU as a datagram.
 
@@ -101,10 +104,12 @@ text-short rule m h = omega (arith, length-text m.pdu rule, code-most rule.lengt
 red-length : (number : ℕ) (upper : List ℕ) → length (red_text number upper) ≡ 8 + length upper
 red-length number upper = omega arith
 
-on-placed : (most n : ℕ) (octets : List ℕ) → n ≤ most → length octets ≤ RED_PDU_MAX → AllByRecursion (IsPlaced most) (on_channels n octets)
+on-placed : (most n : ℕ) (octets : List ℕ) → n ≤ most → length octets ≤ RED_PDU_MAX
+    → AllByRecursion (IsPlaced most) (on_channels n octets)
 on-placed most zero octets h k = tt
 on-placed most (suc n) octets h k =
-    all-append (IsPlaced most) (on_channels n octets) ((suc n, octets) ∷ []) (on-placed most n octets (omega (arith, h)) k)
+    all-append (IsPlaced most) (on_channels n octets) ((suc n, octets) ∷ [])
+    (on-placed most n octets (omega (arith, h)) k)
     (record { least = omega arith; most = h; short = k }, tt)
 
 datagrams-placed : (rule : CodeRule) (channels number : ℕ) (ms : List Made) → AllByRecursion HasShortBody ms
@@ -112,9 +117,11 @@ datagrams-placed : (rule : CodeRule) (channels number : ℕ) (ms : List Made) �
 datagrams-placed rule channels number [] h = tt
 datagrams-placed rule channels number (m ∷ ms) h =
     let octets = red_text number (text_of rule m) in
-    let short : length octets ≤ RED_PDU_MAX = omega (arith, red-length number (text_of rule m), text-short rule m h.0) in
+    let short : length octets ≤ RED_PDU_MAX = omega (arith, red-length number (text_of rule m), text-short rule m h.0)
+    in
     all-append (IsPlaced channels) (on_channels channels octets) (datagrams rule channels (next_number number) ms)
-    (on-placed channels channels octets (omega arith) short) (datagrams-placed rule channels (next_number number) ms h.1)
+    (on-placed channels channels octets (omega arith) short)
+    (datagrams-placed rule channels (next_number number) ms h.1)
 
 -- The machine: it makes PDUs with short bodies, and its units stay short.
 
@@ -128,9 +135,11 @@ keeps-then t next h k = record { made = all-append HasShortBody t.made (next t.l
 still-keeps : (v : View) → AreShortUnits v.ring → Keeps (still v)
 still-keeps v h = record { made = tt; ring = h }
 
-leaves-keeps : (reason : Reason) (detail : Detail) (now : ℕ) (v : View) → AreShortUnits v.ring → Keeps (leave_turn reason detail now v)
+leaves-keeps : (reason : Reason) (detail : Detail) (now : ℕ) (v : View) → AreShortUnits v.ring
+    → Keeps (leave_turn reason detail now v)
 leaves-keeps reason detail now v h =
-    by_cond (λ t. Keeps (moved_to Closed t)) (is_live v.connection) _ _ (λ _. record { made = (omega arith, tt); ring = h })
+    by_cond (λ t. Keeps (moved_to Closed t)) (is_live v.connection) _ _
+    (λ _. record { made = (omega arith, tt); ring = h })
     (λ _. record { made = tt; ring = h })
 
 above-short : (number : ℕ) (us : List Numbered) → AreShortUnits us → AreShortUnits (above number us)
@@ -140,14 +149,17 @@ units-short : (us : List Numbered) → AreShortUnits us → AllByRecursion IsSho
 units-short [] h = tt
 units-short (u ∷ us) h = (h.0, units-short us h.1)
 
-renumbered-short : (first : ℕ) (us : List (List ℕ)) → AllByRecursion IsShortUnit us → AreShortUnits (renumber_units first us)
+renumbered-short : (first : ℕ) (us : List (List ℕ)) → AllByRecursion IsShortUnit us
+    → AreShortUnits (renumber_units first us)
 renumbered-short first [] h = tt
 renumbered-short first (u ∷ us) h = (h.0, renumbered-short (first + 1) us h.1)
 
-resends-keeps : (us : List (List ℕ)) (now : ℕ) (v : View) → AllByRecursion IsShortUnit us → AreShortUnits v.ring → Keeps (resend_turn us now v)
+resends-keeps : (us : List (List ℕ)) (now : ℕ) (v : View) → AllByRecursion IsShortUnit us → AreShortUnits v.ring
+    → Keeps (resend_turn us now v)
 resends-keeps [] now v h k = still-keeps v k
 resends-keeps (u ∷ us) now v h k =
-    keeps-then (sending_turn RetrData u now v) (resend_turn us now) (record { made = (h.0, tt); ring = k }) (resends-keeps us now (sending_turn RetrData u now v).left h.1 k)
+    keeps-then (sending_turn RetrData u now v) (resend_turn us now) (record { made = (h.0, tt); ring = k })
+    (resends-keeps us now (sending_turn RetrData u now v).left h.1 k)
 
 replies-keeps : (now : ℕ) (v : View) → AreShortUnits v.ring → Keeps (reply_turn now v)
 replies-keeps now v h =
@@ -191,12 +203,15 @@ responds-keeps p now v h =
 
 guards-keeps : (now : ℕ) (v : View) → AreShortUnits v.ring → Keeps (guard_turn now v)
 guards-keeps now v h =
-    by_guard-cases Keeps now v (λ reason detail. leave_turn reason detail now v) (still v) (λ reason detail. leaves-keeps reason detail now v h)
+    by_guard-cases Keeps now v (λ reason detail. leave_turn reason detail now v) (still v)
+    (λ reason detail. leaves-keeps reason detail now v h)
     (λ _. still-keeps v h)
 
-heard-keeps : (read : Result Pdu SafeFault) (now : ℕ) (v : View) → AreShortUnits v.ring → Keeps (machine_turn_of (move_of read now) v)
+heard-keeps : (read : Result Pdu SafeFault) (now : ℕ) (v : View) → AreShortUnits v.ring
+    → Keeps (machine_turn_of (move_of read now) v)
 heard-keeps (Ok p) now v h =
-    let g = guards-keeps now v h in keeps-then (guard_turn now v) (response_turn p now) g (responds-keeps p now (guard_turn now v).left g.ring)
+    let g = guards-keeps now v h in keeps-then (guard_turn now v) (response_turn p now) g
+    (responds-keeps p now (guard_turn now v).left g.ring)
 heard-keeps (Err fault) now v h = guards-keeps now v h
 
 hears-keeps : (octets : List ℕ) (now : ℕ) (v : View) → AreShortUnits v.ring → Keeps (machine_octets_turn octets now v)
@@ -207,9 +222,11 @@ ticks-keeps now v h =
     let g = guards-keeps now v h in
     let w = (guard_turn now v).left in
     keeps-then (guard_turn now v) (heartbeat_turn now) g
-    (by_cond Keeps (beat_due now w) _ _ (λ _. record { made = (omega arith, tt); ring = g.ring }) (λ _. still-keeps w g.ring))
+    (by_cond Keeps (beat_due now w) _ _ (λ _. record { made = (omega arith, tt); ring = g.ring })
+    (λ _. still-keeps w g.ring))
 
-sends-keeps : (unit : List ℕ) (now : ℕ) (v : View) → IsShortUnit unit → AreShortUnits v.ring → Keeps (send_turn unit now v)
+sends-keeps : (unit : List ℕ) (now : ℕ) (v : View) → IsShortUnit unit → AreShortUnits v.ring
+    → Keeps (send_turn unit now v)
 sends-keeps unit now v short h =
     by_cond Keeps (has_room v) _ _
     (λ _. record {
@@ -235,7 +252,8 @@ filled-length name h =
     let rest = NAME_LENGTH - length name in
     omega (arith, length-append name (replicate rest FILLING), length-replicate rest FILLING, h)
 
-front-short : (protocol : ℕ) (kind sender receiver payload : List ℕ) → length kind ≡ 2 → length sender ≡ 20 → length receiver ≡ 20
+front-short : (protocol : ℕ) (kind sender receiver payload : List ℕ) → length kind ≡ 2 → length sender ≡ 20
+    → length receiver ≡ 20
     → length payload ≤ PAYLOAD_MAX → IsShortMessage ((protocol ∷ []) ++ kind ++ sender ++ receiver ++ payload)
 front-short protocol kind sender receiver payload two one other few =
     omega (
@@ -249,12 +267,15 @@ front-short protocol kind sender receiver payload two one other few =
       few,
     )
 
-tele-short : (t : Tele) → length t.sender ≤ NAME_LENGTH → length t.receiver ≤ NAME_LENGTH → length t.payload ≤ PAYLOAD_MAX → IsShortMessage (tele_text t)
+tele-short : (t : Tele) → length t.sender ≤ NAME_LENGTH → length t.receiver ≤ NAME_LENGTH
+    → length t.payload ≤ PAYLOAD_MAX → IsShortMessage (tele_text t)
 tele-short t sender receiver payload =
-    front-short t.protocol (little_bytes 2 t.kind) (fill_name t.sender) (fill_name t.receiver) t.payload refl (filled-length t.sender sender)
+    front-short t.protocol (little_bytes 2 t.kind) (fill_name t.sender) (fill_name t.receiver) t.payload refl
+    (filled-length t.sender sender)
     (filled-length t.receiver receiver) payload
 
-payload-short : (checksum : List ℕ) (n : Notice) → length checksum ≤ CHECKSUM_MAX → length (payload_of checksum n) ≤ PAYLOAD_MAX
+payload-short : (checksum : List ℕ) (n : Notice) → length checksum ≤ CHECKSUM_MAX
+    → length (payload_of checksum n) ≤ PAYLOAD_MAX
 payload-short checksum n h = grind arith
 
 sent-short : (s : SessionState) (verdict : Verdict) → Named s → AreShort (texts (sent_by s verdict))
@@ -262,17 +283,21 @@ sent-short s (Answers next n) h =
     (tele-short (notice_tele s n) h.own h.peer (payload-short (checksum_of s.role) n h.checksum), tt)
 sent-short s _ h = tt
 
-put-short : (s : SessionState) (kind : ℕ) (payload : List ℕ) (waits : ℕ) → is_none (put_refusal s kind payload waits) ≡ true → length payload ≤ PAYLOAD_MAX
+put-short : (s : SessionState) (kind : ℕ) (payload : List ℕ) (waits : ℕ)
+    → is_none (put_refusal s kind payload waits) ≡ true → length payload ≤ PAYLOAD_MAX
 put-short s kind payload waits e = grind (arith, nat_tests)
 
 added-short : (e : Event) (s : SessionState) → Named s → AreShort (texts (added_by e s))
 added-short GoesUp s h = sent-short s (at_up s.role s.phase) h
 added-short (Arrives t) s h = sent-short s (session_judged s t) h
 added-short (Puts kind payload waits) s h =
-    by_cond (λ ts. AreShort (texts ts)) (is_none (put_refusal s kind payload waits)) (telegram s.addressing kind payload ∷ []) []
-    (λ none. (tele-short (telegram s.addressing kind payload) h.own h.peer (put-short s kind payload waits none), tt)) (λ _. tt)
+    by_cond (λ ts. AreShort (texts ts)) (is_none (put_refusal s kind payload waits))
+    (telegram s.addressing kind payload ∷ []) []
+    (λ none. (tele-short (telegram s.addressing kind payload) h.own h.peer (put-short s kind payload waits none), tt))
+    (λ _. tt)
 added-short (Completes waits) s h =
-    by_cond (λ ts. AreShort (texts ts)) (is_none (init_refusal s waits)) (sent_by s at_init_done) [] (λ _. sent-short s at_init_done h) (λ _. tt)
+    by_cond (λ ts. AreShort (texts ts)) (is_none (init_refusal s waits)) (sent_by s at_init_done) []
+    (λ _. sent-short s at_init_done h) (λ _. tt)
 added-short Closes s h = tt
 
 record Talks (d : Dialogue) : Type 0 where
@@ -283,10 +308,12 @@ meets-talks : (e : Event) (d : Dialogue) → Talks d → Talks (process_event e 
 meets-talks e d h =
     record {
       named = record { own = h.named.own; peer = h.named.peer; checksum = h.named.checksum };
-      messages = all-append IsShortMessage d.waiting (texts (added_by e (session_in d))) h.messages (added-short e (session_in d) h.named);
+      messages = all-append IsShortMessage d.waiting (texts (added_by e (session_in d))) h.messages
+          (added-short e (session_in d) h.named);
     }
 
-unless-talks : (why : Option Leaving) (first rest : Judgement) → Talks first.left → Talks rest.left → Talks (unless_leaving why first rest).left
+unless-talks : (why : Option Leaving) (first rest : Judgement) → Talks first.left → Talks rest.left
+    → Talks (unless_leaving why first rest).left
 unless-talks None first rest h k = k
 unless-talks (Some why) first rest h k = h
 
@@ -354,10 +381,13 @@ record Good (n : ℕ) (t : Turn Fields) : Type 0 where
   placed : AllByRecursion (IsPlaced n) t.sent
   able : Able n t.left
 
-good-then : (n : ℕ) (t : Turn Fields) (next : Fields → Turn Fields) → Good n t → Good n (next t.left) → Good n (turn_then t next)
-good-then n t next h k = record { placed = all-append (IsPlaced n) t.sent (next t.left).sent h.placed k.placed; able = k.able }
+good-then : (n : ℕ) (t : Turn Fields) (next : Fields → Turn Fields) → Good n t → Good n (next t.left)
+    → Good n (turn_then t next)
+good-then n t next h k =
+    record { placed = all-append (IsPlaced n) t.sent (next t.left).sent h.placed k.placed; able = k.able }
 
-able-as : (n : ℕ) (v w : Fields) → Able n v → AreShortUnits w.machine.ring → AreShort w.waiting → Named w.session → w.max ≡ v.max → w.count ≡ v.count → Able n w
+able-as : (n : ℕ) (v w : Fields) → Able n v → AreShortUnits w.machine.ring → AreShort w.waiting → Named w.session
+    → w.max ≡ v.max → w.count ≡ v.count → Able n w
 able-as n v w h units messages named max count =
     record {
       sized =
@@ -387,23 +417,28 @@ machine-good n t v h k =
       able = able-as n v (machine_turn t v).left h k.ring h.sized.messages (named-in v h.sized) refl refl;
     }
 
-same-good : (n : ℕ) (v w : Fields) → Able n v → w.machine ≡ v.machine → w.waiting ≡ v.waiting → w.session ≡ v.session → w.max ≡ v.max → w.count ≡ v.count
+same-good : (n : ℕ) (v w : Fields) → Able n v → w.machine ≡ v.machine → w.waiting ≡ v.waiting → w.session ≡ v.session
+    → w.max ≡ v.max → w.count ≡ v.count
     → Good n (end_still w)
 same-good n v w h machine waiting session max count =
     record {
       placed = tt;
       able =
-          able-as n v w h (subst (λ (m : View). AreShortUnits m.ring) (sym machine) h.sized.units) (subst AreShort (sym waiting) h.sized.messages)
+          able-as n v w h (subst (λ (m : View). AreShortUnits m.ring) (sym machine) h.sized.units)
+          (subst AreShort (sym waiting) h.sized.messages)
           (subst Named (sym session) (named-in v h.sized)) max count;
     }
 
 session-good : (n : ℕ) (d : Dialogue) (v : Fields) → Able n v → Talks d → Good n (session_turn d v)
-session-good n d v h k = record { placed = tt; able = able-as n v (session_turn d v).left h h.sized.units k.messages k.named refl refl }
+session-good n d v h k =
+    record { placed = tt; able = able-as n v (session_turn d v).left h h.sized.units k.messages k.named refl refl }
 
 settles-good : (n : ℕ) (v : Fields) → Able n v → Good n (end_session_turn v)
 settles-good n v h =
-    by_cond (Good n) (is_closed v.machine.connection) (session_turn (process_event Closes (dialogue_of v)) v) (end_still v)
-    (λ _. session-good n (process_event Closes (dialogue_of v)) v h (meets-talks Closes (dialogue_of v) (talks-of v h.sized)))
+    by_cond (Good n) (is_closed v.machine.connection) (session_turn (process_event Closes (dialogue_of v)) v)
+    (end_still v)
+    (λ _. session-good n (process_event Closes (dialogue_of v)) v h
+    (meets-talks Closes (dialogue_of v) (talks-of v h.sized)))
     (λ _. same-good n v v h refl refl refl refl refl)
 
 end_leaves-good : (n now : ℕ) (why : Option Leaving) (v : Fields) → Able n v → Good n (end_leave_turn now why v)
@@ -424,7 +459,8 @@ part-good n now octets v h =
     let before = v.machine.connection in
     let judged = judge_part now octets v in
     let answer = decoded_answer (safe_seen v.machine.settings.rule octets) now v.machine in
-    let t0 = with_units (octets_units octets now v.machine) (machine_turn (machine_octets_turn octets now v.machine) v) in
+    let t0 = with_units (octets_units octets now v.machine) (machine_turn (machine_octets_turn octets now v.machine) v)
+    in
     let t1 = turn_then t0 (session_turn judged.left) in
     let t2 = turn_then t1 (note_request_turn before octets) in
     let t3 = turn_then t2 (up_turn before) in
@@ -432,21 +468,26 @@ part-good n now octets v h =
     let t5 = turn_then t4 end_session_turn in
     let t6 = turn_then t5 (departure_turn (closing_departure now octets v)) in
     let talk = units-talk (octets_units octets now v.machine) (dialogue_of v) (talks-of v h.sized) in
-    let g = machine-good n (machine_octets_turn octets now v.machine) v h (hears-keeps octets now v.machine h.sized.units) in
+    let g = machine-good n (machine_octets_turn octets now v.machine) v h
+    (hears-keeps octets now v.machine h.sized.units) in
     let h0 : Good n t0 = record { placed = g.placed; able = g.able } in
     let h1 = good-then n t0 (session_turn judged.left) h0 (session-good n judged.left t0.left h0.able talk) in
-    let h2 = good-then n t1 (note_request_turn before octets) h1 (same-good n t1.left (note_request_turn before octets t1.left).left h1.able refl refl refl refl refl) in
+    let h2 = good-then n t1 (note_request_turn before octets) h1
+    (same-good n t1.left (note_request_turn before octets t1.left).left h1.able refl refl refl refl refl) in
     let h3 = good-then n t2 (up_turn before) h2 (goes_up-good n before t2.left h2.able) in
-    let h4 = good-then n t3 (end_leave_turn now judged.leaving) h3 (end_leaves-good n now judged.leaving t3.left h3.able) in
+    let h4 = good-then n t3 (end_leave_turn now judged.leaving) h3
+    (end_leaves-good n now judged.leaving t3.left h3.able) in
     let h5 = good-then n t4 end_session_turn h4 (settles-good n t4.left h4.able) in
-    let h6 = good-then n t5 (departure_turn (closing_departure now octets v)) h5 (departs-good n (closing_departure now octets v) t5.left h5.able) in
+    let h6 = good-then n t5 (departure_turn (closing_departure now octets v)) h5
+    (departs-good n (closing_departure now octets v) t5.left h5.able) in
     good-then n t6 (count_turn answer (waiting_time now v) now) h6
     (same-good n t6.left (count_turn answer (waiting_time now v) now t6.left).left h6.able refl refl refl refl refl)
 
 parts-good : (n now : ℕ) (ps : List Part) (v : Fields) → Able n v → Good n (parts_turn now ps v)
 parts-good n now [] v h = same-good n v v h refl refl refl refl refl
 parts-good n now (p ∷ ps) v h =
-    let one = part-good n now p.1 v h in good-then n (part_turn now p.1 v) (parts_turn now ps) one (parts-good n now ps (part_turn now p.1 v).left one.able)
+    let one = part-good n now p.1 v h in good-then n (part_turn now p.1 v) (parts_turn now ps) one
+    (parts-good n now ps (part_turn now p.1 v).left one.able)
 
 packs-good : (n now : ℕ) (v : Fields) → Able n v → Good n (pack_turn now v)
 packs-good n now v h =
@@ -466,13 +507,15 @@ packs_up_to-good : (n k now : ℕ) (v : Fields) → Able n v → Good n (pack_up
 packs_up_to-good n zero now v h = same-good n v v h refl refl refl refl refl
 packs_up_to-good n (suc k) now v h =
     by_cond (Good n) (can_pack v) (turn_then (pack_turn now v) (pack_up_to_turn k now)) (end_still v)
-    (λ _. let one = packs-good n now v h in good-then n (pack_turn now v) (pack_up_to_turn k now) one (packs_up_to-good n k now (pack_turn now v).left one.able))
+    (λ _. let one = packs-good n now v h in good-then n (pack_turn now v) (pack_up_to_turn k now) one
+    (packs_up_to-good n k now (pack_turn now v).left one.able))
     (λ _. same-good n v v h refl refl refl refl refl)
 
 sends-good : (n now : ℕ) (v : Fields) → Able n v → Good n (end_send_turn now v)
 sends-good n now v h = packs_up_to-good n (length v.waiting) now v h
 
-settled-good : (n : ℕ) (t : MachineTurn) (cause : Option Departure) (v : Fields) → Able n v → Keeps t → Good n (settled t cause v)
+settled-good : (n : ℕ) (t : MachineTurn) (cause : Option Departure) (v : Fields) → Able n v → Keeps t
+    → Good n (settled t cause v)
 settled-good n t cause v h k =
     let t0 = machine_turn t v in
     let t1 = turn_then t0 end_session_turn in
@@ -486,8 +529,10 @@ record AllGood (n : ℕ) (t : Turn Inside) : Type 0 where
   placed : AllByRecursion (IsPlaced n) t.sent
   able : Able n t.left.upper
 
-all-good-then : (n : ℕ) (t : Turn Inside) (next : Inside → Turn Inside) → AllGood n t → AllGood n (next t.left) → AllGood n (turn_then t next)
-all-good-then n t next h k = record { placed = all-append (IsPlaced n) t.sent (next t.left).sent h.placed k.placed; able = k.able }
+all-good-then : (n : ℕ) (t : Turn Inside) (next : Inside → Turn Inside) → AllGood n t → AllGood n (next t.left)
+    → AllGood n (turn_then t next)
+all-good-then n t next h k =
+    record { placed = all-append (IsPlaced n) t.sent (next t.left).sent h.placed k.placed; able = k.able }
 
 above-good : (n : ℕ) (next : Fields → Turn Fields) (v : Inside) → Good n (next v.upper) → AllGood n (above_red next v)
 above-good n next v h = record { placed = h.placed; able = h.able }
@@ -509,8 +554,10 @@ arrives-good n now octets v h =
     let cause = own_departure (overdue now m) now in
     let first = above_red (settled (guard_turn now m) cause) v in
     let g = settled-good n (guard_turn now m) cause v.upper h (guards-keeps now m h.sized.units) in
-    by_cond (AllGood n) (is_over v) (end_still v) (turn_then first (end_goes_on now (Datagram octets now))) (λ _. idle-good n v h)
-    (λ _. all-good-then n first (end_goes_on now (Datagram octets now)) (above-good n (settled (guard_turn now m) cause) v g)
+    by_cond (AllGood n) (is_over v) (end_still v) (turn_then first (end_goes_on now (Datagram octets now)))
+    (λ _. idle-good n v h)
+    (λ _. all-good-then n first (end_goes_on now (Datagram octets now))
+    (above-good n (settled (guard_turn now m) cause) v g)
     (goes_on-good n now (Datagram octets now) first.left g.able))
 
 passes-good : (n now : ℕ) (v : Inside) → Able n v.upper → AllGood n (time_turn now v)
@@ -519,7 +566,8 @@ passes-good n now v h =
     let cause = own_departure (overdue now m) now in
     let first = above_red (settled (tick_turn now m) cause) v in
     let g = settled-good n (tick_turn now m) cause v.upper h (ticks-keeps now m h.sized.units) in
-    by_cond (AllGood n) (is_over v) (end_still v) (turn_then first (end_goes_on now (RedTick now))) (λ _. idle-good n v h)
+    by_cond (AllGood n) (is_over v) (end_still v) (turn_then first (end_goes_on now (RedTick now)))
+    (λ _. idle-good n v h)
     (λ _. all-good-then n first (end_goes_on now (RedTick now)) (above-good n (settled (tick_turn now m) cause) v g)
     (goes_on-good n now (RedTick now) first.left g.able))
 
@@ -547,7 +595,8 @@ completes-good n now v h = meets-then n now (Completes (length v.waiting)) v v h
 
 turn-good : (n : ℕ) (c : Call) (v : Inside) → Able n v.upper → AllGood n (turn c v)
 turn-good n (Close now) v h = above-good n (close_turn now) v (closes-good n now v.upper h)
-turn-good n (Put kind payload now) v h = above-good n (put_turn kind payload now) v (puts-good n kind now payload v.upper h)
+turn-good n (Put kind payload now) v h =
+    above-good n (put_turn kind payload now) v (puts-good n kind now payload v.upper h)
 turn-good n (InitDone now) v h = above-good n (init_done_turn now) v (completes-good n now v.upper h)
 turn-good n (Tick now) v h = passes-good n now v h
 turn-good n (Deliver channel octets now) v h = arrives-good n now octets v h

@@ -46,7 +46,8 @@ use Rattle.end_for_callers.specs.declared.outbox.Shares.{Shares}
 -- The length of the deferral queue stays.
 
 release-q : (now : ℕ) (r : Receiver) → (after_release now r).q ≡ r.q
-release-q now r = by_cond (λ (s : Receiver). s.q ≡ r.q) (is_due now r) (follow now (least_waiting r.waiting) r) r (λ _. refl) (λ _. refl)
+release-q now r = by_cond (λ (s : Receiver). s.q ≡ r.q) (is_due now r) (follow now (least_waiting r.waiting) r) r
+    (λ _. refl) (λ _. refl)
 
 deferred-q : (now : ℕ) (p : Part) (r : Receiver) → (defer now p r).left.q ≡ r.q
 deferred-q now p r =
@@ -57,7 +58,8 @@ arrival-q : (now : ℕ) (p : Part) (r : Receiver) → (arrival now p r).left.q �
 arrival-q now p r =
     by_cond (λ (s : ReceiverStep). s.left.q ≡ r.q) (nat_lt p.0 r.expected) _ _ (λ _. refl)
     (λ _. by_cond (λ (s : ReceiverStep). s.left.q ≡ r.q) (p.0 == r.expected) _ _ (λ _. refl)
-    (λ _. by_cond (λ (s : ReceiverStep). s.left.q ≡ r.q) (nat_lt (r.expected + REACH * r.q) p.0) _ _ (λ _. refl) (λ _. deferred-q now p r)))
+    (λ _. by_cond (λ (s : ReceiverStep). s.left.q ≡ r.q) (nat_lt (r.expected + REACH * r.q) p.0) _ _ (λ _. refl)
+    (λ _. deferred-q now p r)))
 
 heard-q : (now : ℕ) (read : Result Part RedFault) (r : Receiver) → (step_decoded now read r).left.q ≡ r.q
 heard-q now (Ok p) r = arrival-q now p r
@@ -69,15 +71,18 @@ after-q (RedTick now) r = release-q now r
 
 goes-q : (now : ℕ) (i : Input) (v : Inside) → (input_and_send_turn now i v).left.red.q ≡ v.red.q
 goes-q now i v =
-    by_cond (λ (t : Turn Inside). t.left.red.q ≡ v.red.q) (is_over v) (still v) (turn_then (input_turn now i v) (upper_turn (send_turn now))) (λ _. refl)
+    by_cond (λ (t : Turn Inside). t.left.red.q ≡ v.red.q) (is_over v) (still v)
+    (turn_then (input_turn now i v) (upper_turn (send_turn now))) (λ _. refl)
     (λ _. after-q i v.red)
 
 turn-q : (c : Call) (v : Inside) → (turn c v).left.red.q ≡ v.red.q
 turn-q (Tick now) v =
-    by_cond (λ (t : Turn Inside). t.left.red.q ≡ v.red.q) (is_over v) (still v) (turn_then (upper_turn (tick_turn now) v) (input_and_send_turn now (RedTick now))) (λ _. refl)
+    by_cond (λ (t : Turn Inside). t.left.red.q ≡ v.red.q) (is_over v) (still v)
+    (turn_then (upper_turn (tick_turn now) v) (input_and_send_turn now (RedTick now))) (λ _. refl)
     (λ _. goes-q now (RedTick now) (upper_turn (tick_turn now) v).left)
 turn-q (Deliver channel octets now) v =
-    by_cond (λ (t : Turn Inside). t.left.red.q ≡ v.red.q) (is_over v) (still v) (turn_then (upper_turn (guard_turn now) v) (input_and_send_turn now (Datagram octets now)))
+    by_cond (λ (t : Turn Inside). t.left.red.q ≡ v.red.q) (is_over v) (still v)
+    (turn_then (upper_turn (guard_turn now) v) (input_and_send_turn now (Datagram octets now)))
     (λ _. refl) (λ _. goes-q now (Datagram octets now) (upper_turn (guard_turn now) v).left)
 turn-q (Close now) v = refl
 turn-q (Put kind payload now) v = refl
@@ -95,7 +100,8 @@ turned-ready reserve c v w is h =
     })
 
 opens-none : (settings : Settings) (first now : ℕ) → (opening_turn settings first now).left.ring ≡ []
-opens-none settings first now = by_cond (λ (t : MachineTurn). t.left.ring ≡ []) settings.client _ _ (λ _. refl) (λ _. refl)
+opens-none settings first now =
+    by_cond (λ (t : MachineTurn). t.left.ring ≡ []) settings.client _ _ (λ _. refl) (λ _. refl)
 
 no-units : (us : List Numbered) → us ≡ [] → AllByRecursion (λ (u : Numbered). length u.octets ≤ UNIT_MAX) us
 no-units us e = subst (AllByRecursion (λ (u : Numbered). length u.octets ≤ UNIT_MAX)) (sym e) tt
@@ -103,7 +109,8 @@ no-units us e = subst (AllByRecursion (λ (u : Numbered). length u.octets ≤ UN
 no-messages : (ms : List (List ℕ)) → ms ≡ [] → AllByRecursion (λ (m : List ℕ). length m ≤ MESSAGE_MAX) ms
 no-messages ms e = subst (AllByRecursion (λ (m : List ℕ). length m ≤ MESSAGE_MAX)) (sym e) tt
 
-pub reopened-ready : (reserve first now : ℕ) (v w : Inside) → w ≡ (reopening_turn first now v).left → IsReady reserve v → IsReady reserve w
+pub reopened-ready : (reserve first now : ℕ) (v w : Inside) → w ≡ (reopening_turn first now v).left → IsReady reserve v
+    → IsReady reserve w
 reopened-ready reserve first now v w is h =
     subst (IsReady reserve) (sym is)
     (record {
@@ -112,7 +119,8 @@ reopened-ready reserve first now v w is h =
       deferring = h.deferring;
       sized =
           record {
-            units = no-units (opening_turn v.upper.machine.settings first now).left.ring (opens-none v.upper.machine.settings first now);
+            units = no-units (opening_turn v.upper.machine.settings first now).left.ring
+                (opens-none v.upper.machine.settings first now);
             messages = tt;
             together = h.sized.together;
             own = h.sized.own;
@@ -121,7 +129,8 @@ reopened-ready reserve first now v w is h =
           };
     })
 
-limits : (s : EndSettings) → in_limits s ≡ true → (s.channels ≤ CHANNELS_MAX) × (s.n_maxpacket ≤ UNIT_MESSAGES) × (s.q ≤ Q_MAX)
+limits : (s : EndSettings) → in_limits s ≡ true → (s.channels ≤ CHANNELS_MAX) × (s.n_maxpacket ≤ UNIT_MESSAGES)
+    × (s.q ≤ Q_MAX)
 limits s h =
     let packet = nat_le 1 s.n_maxpacket && nat_le s.n_maxpacket UNIT_MESSAGES in
     let queue = nat_le 1 s.q && nat_le s.q Q_MAX in
@@ -130,7 +139,8 @@ limits s h =
     let b = and_parts packet (queue && time) a.1 in
     let c = and_parts queue time b.1 in (
       leb-true s.channels CHANNELS_MAX (and_parts (nat_le 1 s.channels) (nat_le s.channels CHANNELS_MAX) a.0).1,
-      leb-true s.n_maxpacket UNIT_MESSAGES (and_parts (nat_le 1 s.n_maxpacket) (nat_le s.n_maxpacket UNIT_MESSAGES) b.0).1,
+      leb-true s.n_maxpacket UNIT_MESSAGES (and_parts (nat_le 1 s.n_maxpacket) (nat_le s.n_maxpacket UNIT_MESSAGES)
+          b.0).1,
       leb-true s.q Q_MAX (and_parts (nat_le 1 s.q) (nat_le s.q Q_MAX) c.0).1,
     )
 
@@ -151,11 +161,15 @@ name-fits name h =
 fits : (side : Side) (s : EndSettings) → are_fit side s ≡ true → Fit s
 fits side s h =
     let a = and_parts (is_legal s.connection)
-    (in_limits s && (is_addressing s.addressing && (nat_le (length s.checksum) CHECKSUM_MAX && has_versions side s))) h in
-    let b = and_parts (in_limits s) (is_addressing s.addressing && (nat_le (length s.checksum) CHECKSUM_MAX && has_versions side s)) a.1 in
-    let c = and_parts (is_addressing s.addressing) (nat_le (length s.checksum) CHECKSUM_MAX && has_versions side s) b.1 in
+    (in_limits s && (is_addressing s.addressing && (nat_le (length s.checksum) CHECKSUM_MAX && has_versions side s))) h
+    in
+    let b = and_parts (in_limits s) (is_addressing s.addressing
+    && (nat_le (length s.checksum) CHECKSUM_MAX && has_versions side s)) a.1 in
+    let c = and_parts (is_addressing s.addressing) (nat_le (length s.checksum) CHECKSUM_MAX && has_versions side s) b.1
+    in
     let d = and_parts (nat_le (length s.checksum) CHECKSUM_MAX) (has_versions side s) c.1 in
-    let names = and_parts (nat_lt s.addressing.protocol 256) (is_name s.addressing.own && is_name s.addressing.peer) c.0 in
+    let names = and_parts (nat_lt s.addressing.protocol 256) (is_name s.addressing.own && is_name s.addressing.peer) c.0
+    in
     let both = and_parts (is_name s.addressing.own) (is_name s.addressing.peer) names.1 in
     record {
       channels = (limits s b.0).0;
@@ -166,14 +180,16 @@ fits side s h =
       checksum = leb-true (length s.checksum) CHECKSUM_MAX d.0;
     }
 
-role-short : (side : Side) (s : EndSettings) → length s.checksum ≤ CHECKSUM_MAX → length (checksum_of (session_of side s)) ≤ CHECKSUM_MAX
+role-short : (side : Side) (s : EndSettings) → length s.checksum ≤ CHECKSUM_MAX
+    → length (checksum_of (session_of side s)) ≤ CHECKSUM_MAX
 role-short Il s h = omega arith
 role-short Fe s h = h
 
 opened-none : (settings : Settings) (first now : ℕ) → ring_of (new_state settings first now) ≡ []
 opened-none settings first now = opened-cases (λ x. ring_of x ≡ []) settings first now (λ _. refl) (λ _. refl)
 
-pub opened-ready : (side : Side) (s : EndSettings) (first now : ℕ) (v : Inside) → are_fit side s ≡ true → LayersRepresent v (new_end side s first now)
+pub opened-ready : (side : Side) (s : EndSettings) (first now : ℕ) (v : Inside) → are_fit side s ≡ true
+    → LayersRepresent v (new_end side s first now)
     → IsReady (reserve_of s) v
 opened-ready side s first now v fit h =
     let f = fits side s fit in
@@ -184,12 +200,19 @@ opened-ready side s first now v fit h =
       deferring = omega (arith, ap (λ (r : Receiver). r.q) h.red, f.q);
       sized =
           record {
-            units = no-units v.upper.machine.ring (ap (λ (m : View). m.ring) u.machine ∙ opened-none (connection_of side s) first now);
+            units =
+                no-units v.upper.machine.ring (ap (λ (m : View). m.ring) u.machine
+                ∙ opened-none (connection_of side s) first now);
             messages = no-messages v.upper.waiting u.speaks.waits;
             together = omega (arith, u.max, f.together);
             own = omega (arith, ap (λ (t : SessionState). length t.addressing.own) u.speaks.state, f.own);
             peer = omega (arith, ap (λ (t : SessionState). length t.addressing.peer) u.speaks.state, f.peer);
-            checksum = omega (arith, ap (λ (t : SessionState). length (checksum_of t.role)) u.speaks.state, role-short side s f.checksum);
+            checksum =
+                omega (
+                  arith,
+                  ap (λ (t : SessionState). length (checksum_of t.role)) u.speaks.state,
+                  role-short side s f.checksum,
+                );
           };
     }
 
@@ -201,24 +224,29 @@ same-test k n = grind (arith, nat_tests)
 one-here : (k : ℕ) → 1 ≤ (if k == k then 1 else 0)
 one-here k = grind (arith, nat_tests)
 
-sure-one : (x : SentDatagram) (xs : List SentDatagram) (a m b : ChannelHistory) (went : Bool) → Sends went a x m → went ≡ true
+sure-one : (x : SentDatagram) (xs : List SentDatagram) (a m b : ChannelHistory) (went : Bool) → Sends went a x m
+    → went ≡ true
     → ((m.failed_sends ≡ a.failed_sends) → b.failed_sends ≡ a.failed_sends) → b.failed_sends ≡ a.failed_sends
 sure-one x xs a m b true s is rest = rest s.failed
 sure-one x xs a m b false s is rest = absurd (false≢true is)
 
-pub sure-all : (n : ℕ) (xs : List SentDatagram) (a b : ChannelHistory) → FoldsTo SendsOne a xs b → AllByRecursion (IsPlaced n) xs → ((k : ℕ) → sent_on k xs ≤ a.room k)
+pub sure-all : (n : ℕ) (xs : List SentDatagram) (a b : ChannelHistory) → FoldsTo SendsOne a xs b
+    → AllByRecursion (IsPlaced n) xs → ((k : ℕ) → sent_on k xs ≤ a.room k)
     → b.failed_sends ≡ a.failed_sends
 sure-all n [] a b h placed room = ap (λ (t : ChannelHistory). t.failed_sends) (sym h)
 sure-all n (x ∷ xs) a b (m, (went, s), rest) placed room =
     let one : 1 ≤ a.room x.0 = omega (arith, on-append x.0 (x ∷ []) xs, one-here x.0, room x.0) in
     sure-one x xs a m b went s (s.sure one placed.0.short)
-    (λ same. sure-all n xs m b rest placed.1 (λ k. omega (arith, room k, on-append k (x ∷ []) xs, same-test k x.0, s.left k)) ∙ same)
+    (λ same. sure-all n xs m b rest placed.1
+    (λ k. omega (arith, room k, on-append k (x ∷ []) xs, same-test k x.0, s.left k)) ∙ same)
 
-not-there : (n : ℕ) (x : SentDatagram) (k : ℕ) → IsPlaced n x → (k ≡ 0) ⊎ (n < k) → ◌≡◌ {A = ℕ} (if x.0 == k then 1 else 0) 0
+not-there : (n : ℕ) (x : SentDatagram) (k : ℕ) → IsPlaced n x → (k ≡ 0) ⊎ (n < k)
+    → ◌≡◌ {A = ℕ} (if x.0 == k then 1 else 0) 0
 not-there n x k h (inl none) = let apart : x.0 ≢ k = λ e. omega (arith, e, none, h.least) in grind (arith, nat_tests)
 not-there n x k h (inr far) = let apart : x.0 ≢ k = λ e. omega (arith, e, far, h.most) in grind (arith, nat_tests)
 
-none-outside : (n k : ℕ) (xs : List SentDatagram) → AllByRecursion (IsPlaced n) xs → (k ≡ 0) ⊎ (n < k) → sent_on k xs ≡ 0
+none-outside : (n k : ℕ) (xs : List SentDatagram) → AllByRecursion (IsPlaced n) xs → (k ≡ 0) ⊎ (n < k)
+    → sent_on k xs ≡ 0
 none-outside n k [] h out = refl
 none-outside n k (x ∷ xs) h out =
     let apart : ◌≡◌ {A = ℕ} (if x.0 == k then 1 else 0) 0 = not-there n x k h.0 out in
@@ -227,28 +255,34 @@ none-outside n k (x ∷ xs) h out =
 share-within : (n k each : ℕ) → 1 ≤ k → k ≤ n → n ≤ 4 → share_of (shares_of n each) k ≡ each
 share-within n k each least most few = grind (arith, nat_tests)
 
-within-by : (n k : ℕ) (xs : List SentDatagram) (a b : Bool) → nat_le 1 k ≡ a → nat_le k n ≡ b → n ≤ 4 → AllByRecursion (IsPlaced n) xs → sent_on k xs ≤ 333
+within-by : (n k : ℕ) (xs : List SentDatagram) (a b : Bool) → nat_le 1 k ≡ a → nat_le k n ≡ b → n ≤ 4
+    → AllByRecursion (IsPlaced n) xs → sent_on k xs ≤ 333
     → sent_on k xs ≤ share_of (shares_of n 333) k
 within-by n k xs false b e f few h most =
     let none : k ≡ 0 = let low = leb-false 1 k e in omega (arith, low) in
     omega (arith, none-outside n k xs h (inl none))
 within-by n k xs true false e f few h most = omega (arith, none-outside n k xs h (inr (leb-false k n f)))
-within-by n k xs true true e f few h most = omega (arith, share-within n k 333 (leb-true 1 k e) (leb-true k n f) few, most)
+within-by n k xs true true e f few h most =
+    omega (arith, share-within n k 333 (leb-true 1 k e) (leb-true k n f) few, most)
 
-within-shares : (n k : ℕ) (xs : List SentDatagram) → n ≤ 4 → AllByRecursion (IsPlaced n) xs → sent_on k xs ≤ 333 → sent_on k xs ≤ share_of (shares_of n 333) k
+within-shares : (n k : ℕ) (xs : List SentDatagram) → n ≤ 4 → AllByRecursion (IsPlaced n) xs → sent_on k xs ≤ 333
+    → sent_on k xs ≤ share_of (shares_of n 333) k
 within-shares n k xs few h most = within-by n k xs (nat_le 1 k) (nat_le k n) refl refl few h most
 
 -- with room for whatever a call sends, and places set aside for it, no datagram is counted as unsent
-pub loses-none : (c : Call) (reserve k : ℕ) (e v w : EndValue OutboxValue Global) → k ≡ (inside e).upper.count → seen_end v ≡ seen_end e
+pub loses-none : (c : Call) (reserve k : ℕ) (e v w : EndValue OutboxValue Global) → k ≡ (inside e).upper.count
+    → seen_end v ≡ seen_end e
     → IsReady reserve (inside e) → IsBounded (inside v)
     → length (inside v).red.waiting ≤ (inside v).red.q
     → (channels_of v).shares ≡ shares_of k (each_aside k (channels_of e).out)
     → FoldsTo SendsOne (told_in (channels_of v)) (turn c (inside v)).sent (told_in (channels_of w))
-    → has_room ((Q_MAX + 1) * reserve) RED_PDU_MAX (channels_of e).out.queue ≡ true → (channels_of w).out.unsent ≡ (channels_of e).out.unsent
+    → has_room ((Q_MAX + 1) * reserve) RED_PDU_MAX (channels_of e).out.queue ≡ true
+    → (channels_of w).out.unsent ≡ (channels_of e).out.unsent
 loses-none c reserve k e v w is same ready bounded deferring aside sent room =
     let n = (inside e).upper.count in
     let xs = (turn c (inside v)).sent in
-    let now_ready : IsReady reserve (inside v) = subst (λ (u : EndValue DatagramQueue Global). IsReady reserve (inside u)) (sym same) ready in
+    let now_ready : IsReady reserve (inside v) = subst
+    (λ (u : EndValue DatagramQueue Global). IsReady reserve (inside u)) (sym same) ready in
     let count : (inside v).upper.count ≡ n = ap (λ (u : EndValue DatagramQueue Global). (inside u).upper.count) same in
     let enough : has_room (most_on_channel * k) RED_PDU_MAX (channels_of e).out.queue ≡ true =
     subst (λ m. has_room m RED_PDU_MAX (channels_of e).out.queue ≡ true) (omega (arith, ready.reserved, is)) room in
@@ -257,6 +291,8 @@ loses-none c reserve k e v w is same ready bounded deferring aside sent room =
     let placed : AllByRecursion (IsPlaced n) xs =
     subst (λ m. AllByRecursion (IsPlaced m) xs) count (size_law_holds c (inside v) now_ready.sized).placed in
     let most = load_law_holds c (inside v) bounded (omega (arith, deferring, now_ready.deferring)) in
-    let kept : (channels_of w).out.unsent ≡ (channels_of v).out.unsent = sure-all n xs (told_in (channels_of v)) (told_in (channels_of w)) sent placed
-    (λ j. subst (λ (s : Shares). sent_on j xs ≤ share_of s j) (sym set) (within-shares n j xs ready.channels placed (most j))) in
+    let kept : (channels_of w).out.unsent ≡ (channels_of v).out.unsent = sure-all n xs (told_in (channels_of v))
+    (told_in (channels_of w)) sent placed
+    (λ j. subst (λ (s : Shares). sent_on j xs ≤ share_of s j) (sym set)
+    (within-shares n j xs ready.channels placed (most j))) in
     kept ∙ ap (λ (u : EndValue DatagramQueue Global). (channels_of u).unsent) same

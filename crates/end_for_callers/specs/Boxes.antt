@@ -21,7 +21,8 @@ pub record DatagramQueue : Type 0 where
 
 -- no datagram waits, there is room for this number, and no note is kept
 abbrev pub new_outgoing : ℕ → DatagramQueue
-new_outgoing datagrams = record { queue = new_queue datagrams (datagrams * RED_PDU_MAX); unsent = 0; notes = heard_anew false }
+new_outgoing datagrams =
+    record { queue = new_queue datagrams (datagrams * RED_PDU_MAX); unsent = 0; notes = heard_anew false }
 
 -- no datagram waits, and none is counted; the notes stay
 abbrev pub clear_outgoing : DatagramQueue → DatagramQueue
@@ -29,7 +30,14 @@ clear_outgoing o = record o { queue = empty_queue o.queue; unsent = 0 }
 
 -- what the contracts of an end know of these datagrams as its channels
 abbrev pub told_of : DatagramQueue → ChannelHistory
-told_of o = record { sent = Some o.queue.waiting; answers = None; asked = None; failed_sends = o.unsent; failed_receives = 0; room = λ _. 0 }
+told_of o = record {
+  sent = Some o.queue.waiting;
+  answers = None;
+  asked = None;
+  failed_sends = o.unsent;
+  failed_receives = 0;
+  room = λ _. 0;
+}
 
 -- the places set aside for a channel
 abbrev pub share_of : Shares → ℕ → ℕ
@@ -101,7 +109,8 @@ pub record TelegramQueue : Type 0 where
   -- one found no room, and nothing was added since
   pub lost : Bool
 
--- after a telegram: it is appended if it fits and none was lost; otherwise one is lost, so the queue stays a prefix of what was taken
+-- after a telegram: it is appended if it fits and none was lost; otherwise one is lost, so the queue stays a prefix of
+-- what was taken
 abbrev pub with_item : Item → TelegramQueue → TelegramQueue
 with_item i n =
     if not n.lost && has_place_for (length i.1) n.queue

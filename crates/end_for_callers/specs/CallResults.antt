@@ -23,7 +23,8 @@ abbrev pub Pop : Type 0
 Pop = Result (Option (ℕ × ℕ)) TooSmall
 
 -- a successful opening: these are the clauses of `Station::open`
-pub record IsOpened (side : Side) (config : EndConfig) (first_sn : ℕ) (rooms : Rooms) (now : ℕ) (s : StationValue) : Type 0 where
+pub record IsOpened (side : Side) (config : EndConfig) (first_sn : ℕ) (rooms : Rooms) (now : ℕ)
+    (s : StationValue) : Type 0 where
   -- nothing refuses it
   pub answer : refusal_to_open side (settings_of config) rooms now ≡ None
   -- the end is new

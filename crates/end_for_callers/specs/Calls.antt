@@ -73,8 +73,9 @@ outbox_of s = channels_of s.end
 abbrev pub is_time : ℕ → StationValue → Bool
 is_time now s = nat_le s.time now && nat_le now TIME_MAX
 
--- how many datagrams must have room before a call: on each channel the PDUs of one part and a retransmission. The peer sets how many of this end's PDUs can
--- wait for confirmation, so the window counted is the greatest that a peer may have.
+-- how many datagrams must have room before a call: on each channel the PDUs of one part and a retransmission. The peer
+-- sets how many of this end's PDUs can wait for confirmation, so the window counted is the greatest that a peer may
+-- have.
 abbrev pub reserve_of : EndSettings → ℕ
 reserve_of s = (WINDOW_MAX + PART_PDUS) * s.channels
 
@@ -83,7 +84,8 @@ abbrev pub refusal_to_open : Side → EndSettings → Rooms → ℕ → Option S
 refusal_to_open side settings rooms now =
     if not (nat_le now TIME_MAX) then Some opening.Time
     else if not (are_fit (side_of side) settings) then Some opening.BadConfig
-    else if not (nat_le CALL_TELEGRAMS rooms.telegrams && nat_le (reserve_of settings) rooms.datagrams) then Some opening.Rooms
+    else if not (nat_le CALL_TELEGRAMS rooms.telegrams && nat_le (reserve_of settings) rooms.datagrams)
+    then Some opening.Rooms
     else None
 
 -- the queue has room for this number of pieces of this size
@@ -133,7 +135,8 @@ or_else None y = y
 
 -- the first reason to refuse a put: the station's, then the session's
 abbrev pub refusal_to_put : (now kind : ℕ) → List ℕ → StationValue → Option CallFault
-refusal_to_put now kind payload s = or_else (refusal_to_send now s) (option_map fault.Put (put_answer kind payload (inside s.end).upper))
+refusal_to_put now kind payload s =
+    or_else (refusal_to_send now s) (option_map fault.Put (put_answer kind payload (inside s.end).upper))
 
 -- the first reason to refuse the end of the initialisation: the station's, then the session's
 abbrev pub refusal_to_init : ℕ → StationValue → Option CallFault

@@ -17,15 +17,16 @@ use Rattle.end_for_callers.specs.Calls.{has_room}
 abbrev pub sent_on : ℕ → List SentDatagram → ℕ
 sent_on channel xs = count_by (λ x. x.0 == channel) xs
 
--- the most datagrams of one call on one channel: those of nine parts, the one that arrives and the eight of the longest deferral queue, each with a
--- retransmission of the greatest window
+-- the most datagrams of one call on one channel: those of nine parts, the one that arrives and the eight of the longest
+-- deferral queue, each with a retransmission of the greatest window
 abbrev pub most_on_channel : ℕ
 most_on_channel = (Q_MAX + 1) * (WINDOW_MAX + PART_PDUS)
 
 -- whatever an end keeps within its bounds, no call sends more on any channel
 abbrev pub LoadLaw : Type 0
 LoadLaw =
-    (c : Call) (v : Inside) → IsBounded v → length v.red.waiting ≤ Q_MAX → (channel : ℕ) → sent_on channel (turn c v).sent ≤ most_on_channel
+    (c : Call) (v : Inside) → IsBounded v → length v.red.waiting ≤ Q_MAX → (channel : ℕ)
+    → sent_on channel (turn c v).sent ≤ most_on_channel
 
 -- what an end keeps from which it makes PDUs has the sizes that units, messages and names have
 pub record IsSized (v : Fields) : Type 0 where
@@ -44,7 +45,8 @@ pub record IsPlaced (channels : ℕ) (x : SentDatagram) : Type 0 where
 
 -- what a call sends at such sizes, and what it leaves
 pub record Sized (c : Call) (v : Inside) : Type 0 where
-  pub placed : AllByRecursion (IsPlaced v.upper.count) (turn c v).sent  -- each datagram is on a channel of the end, with at most 1,258 bytes
+  -- each datagram is on a channel of the end, with at most 1,258 bytes
+  pub placed : AllByRecursion (IsPlaced v.upper.count) (turn c v).sent
   pub sized : IsSized (turn c v).left.upper  -- the sizes still hold
   pub count : (turn c v).left.upper.count ≡ v.upper.count  -- the number of channels stays
 
@@ -52,13 +54,15 @@ pub record Sized (c : Call) (v : Inside) : Type 0 where
 abbrev pub SizeLaw : Type 0
 SizeLaw = (c : Call) (v : Inside) → IsSized v.upper → Sized c v
 
--- what holds of the end of a station at any time: the reserve is for its channels, its numbers are within their limits, and its sizes hold
+-- what holds of the end of a station at any time: the reserve is for its channels, its numbers are within their limits,
+-- and its sizes hold
 pub record IsReady (reserve : ℕ) (v : Inside) : Type 0 where
   pub reserved : reserve ≡ (WINDOW_MAX + PART_PDUS) * v.upper.count  -- the reserve
   pub channels : v.upper.count ≤ CHANNELS_MAX  -- the number of channels
   pub deferring : v.red.q ≤ Q_MAX  -- the length of the deferral queue
   pub sized : IsSized v.upper  -- units, messages and names
 
--- how many places are set aside for each of this number of channels: with room for whatever one call sends, as many as that, and otherwise none
+-- how many places are set aside for each of this number of channels: with room for whatever one call sends, as many as
+-- that, and otherwise none
 abbrev pub each_aside : ℕ → DatagramQueue → ℕ
 each_aside channels o = if has_room (most_on_channel * channels) RED_PDU_MAX o.queue then most_on_channel else 0

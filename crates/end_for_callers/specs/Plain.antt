@@ -65,19 +65,26 @@ pub record ListsSeen : Type 0 where
 -- the same of the type in the code
 abbrev pub lists_seen : Lists → ListsSeen
 lists_seen l =
-    record { own = owned_characters l.own; peer = owned_characters l.peer; versions = versions_in l.versions; checksum = checksum_in l.checksum }
+    record {
+      own = owned_characters l.own;
+      peer = owned_characters l.peer;
+      versions = versions_in l.versions;
+      checksum = checksum_in l.checksum;
+    }
 
 -- the names and lists of plain settings, if all four can be read
 abbrev pub lists_in : PlainSettings → Option ListsSeen
 lists_in s =
     option_and_then (λ own. option_and_then (λ peer. option_and_then (λ versions. option_map (λ checksum.
     record { own = own; peer = peer; versions = versions; checksum = checksum })
-    (front_of s.checksum_length s.checksum)) (front_of s.version_count s.versions)) (name_in s.peer_name)) (name_in s.name)
+    (front_of s.checksum_length s.checksum)) (front_of s.version_count s.versions)) (name_in s.peer_name))
+    (name_in s.name)
 
 -- the four words of sixteen bytes, least significant byte first
 abbrev pub words_of : List ℕ → List ℕ
 words_of octets =
-    little_number 4 octets ∷ little_number 4 (drop 4 octets) ∷ little_number 4 (drop 8 octets) ∷ little_number 4 (drop 12 octets) ∷ []
+    little_number 4 octets ∷ little_number 4 (drop 4 octets) ∷ little_number 4 (drop 8 octets) ∷
+    little_number 4 (drop 12 octets) ∷ []
 
 -- the settings with the numbers of plain settings and these lists
 abbrev pub config_with : PlainSettings → ListsSeen → EndSettings
@@ -107,7 +114,12 @@ config_with s l =
 abbrev pub opening_of : PlainSettings → Option OpeningSeen
 opening_of s =
     option_and_then (λ side. option_and_then (λ protocol. option_map (λ lists.
-    record { config = config_with s lists; side = side; first_sn = s.first_sn; rooms = record { telegrams = s.telegram_room; datagrams = s.datagram_room } })
+    record {
+      config = config_with s lists;
+      side = side;
+      first_sn = s.first_sn;
+      rooms = record { telegrams = s.telegram_room; datagrams = s.datagram_room };
+    })
     (lists_in s)) (protocol_in s.protocol)) (side_in s.side)
 
 -- a number fits a field of plain settings
@@ -117,5 +129,6 @@ is_plain number = nat_le number 4_294_967_295
 -- each number that may be wider fits a field
 abbrev pub are_plain : EndConfig → Bool
 are_plain c =
-    is_plain c.code && (is_plain c.channels && (is_plain c.n_sendmax && (is_plain c.n_maxpacket && (is_plain c.q && (is_plain c.t_max
+    is_plain c.code && (is_plain c.channels && (is_plain c.n_sendmax
+    && (is_plain c.n_maxpacket && (is_plain c.q && (is_plain c.t_max
     && (is_plain c.t_h && (is_plain c.t_seq && (is_plain c.mwa && is_plain c.pdu_limit))))))))

@@ -33,7 +33,8 @@ abbrev pub with_piece : {T : Type 0} → T × List ℕ → Queued T → Queued T
 with_piece p q = record { waiting = q.waiting ++ p ∷ []; places = q.places - 1; room = q.room - length p.1 }
 
 -- the oldest piece was fetched, with this tag and size
-pub record TookOldest {T : Type 0} (tag : T) (size : ℕ) (q : Queued T) (buffer : List ℕ) (r : Queued T) (after : List ℕ) : Type 0 where
+pub record TookOldest {T : Type 0} (tag : T) (size : ℕ) (q : Queued T) (buffer : List ℕ) (r : Queued T)
+    (after : List ℕ) : Type 0 where
   -- its bytes
   pub piece : List ℕ
   -- it was the first; the others still wait

@@ -25,4 +25,5 @@ pub addressed : (a : Addressing) → a.protocol < 256 → IsName a.own → IsNam
 addressed a p own peer = both _ _ (le-leb (suc a.protocol) 256 p) (both _ _ (named a.own own) (named a.peer peer))
 
 pub checked : (c : Checksum) → nat_le (length (checksum_in c)) CHECKSUM_MAX ≡ true
-checked c = let count = c.in_range in le-leb (length (checksum_in c)) CHECKSUM_MAX (omega (arith, length-take c.count c.octets))
+checked c = let count =
+    c.in_range in le-leb (length (checksum_in c)) CHECKSUM_MAX (omega (arith, length-take c.count c.octets))

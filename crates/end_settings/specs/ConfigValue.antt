@@ -23,7 +23,8 @@ abbrev pub role_of : Side → Role
 role_of Interlocking = Client
 role_of FieldElement = Server
 
--- the length of the safety code for a number of bytes: 8 and 16 are lengths of an end's code, all other numbers mean Zero
+-- the length of the safety code for a number of bytes: 8 and 16 are lengths of an end's code, all other numbers mean
+-- Zero
 abbrev pub code_of : ℕ → CodeLength
 code_of octets = if octets == 8 then Eight else (if octets == 16 then Sixteen else Zero)
 

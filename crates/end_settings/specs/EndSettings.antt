@@ -59,10 +59,12 @@ has_versions Fe s = are_versions s.versions
 -- the numbers of the other layers are in their ranges
 abbrev pub in_limits : EndSettings → Bool
 in_limits s =
-    (nat_le 1 s.channels && nat_le s.channels CHANNELS_MAX) && ((nat_le 1 s.n_maxpacket && nat_le s.n_maxpacket UNIT_MESSAGES)
+    (nat_le 1 s.channels && nat_le s.channels CHANNELS_MAX)
+    && ((nat_le 1 s.n_maxpacket && nat_le s.n_maxpacket UNIT_MESSAGES)
     && ((nat_le 1 s.q && nat_le s.q Q_MAX) && (nat_le T_SEQ_LOWEST s.t_seq && nat_le s.t_seq T_SEQ_MAX)))
 
 -- an end can be opened with these settings; all others are BadConfig
 abbrev pub are_fit : Side → EndSettings → Bool
 are_fit side s =
-    is_legal s.connection && (in_limits s && (is_addressing s.addressing && (nat_le (length s.checksum) CHECKSUM_MAX && has_versions side s)))
+    is_legal s.connection && (in_limits s && (is_addressing s.addressing
+    && (nat_le (length s.checksum) CHECKSUM_MAX && has_versions side s)))

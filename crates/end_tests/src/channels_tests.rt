@@ -110,8 +110,8 @@ fn carries_datagrams_over_sockets(rt: HostRuntime) -> Result<(), Fail> {
     assert_equal(&rt, buffer[2], 3);
     assert_equal(&rt, right.receive(&mut buffer), Ok(None));
     assert_equal(&rt, left.receive(&mut buffer), Ok(None));
-    assert_equal(&rt, right.received(), 3);
-    assert_equal(&rt, left.received(), 0);
+    assert_equal(&rt, right.received_count(), 3);
+    assert_equal(&rt, left.received_count(), 0);
     Ok(())
 }
 

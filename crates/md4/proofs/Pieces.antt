@@ -16,30 +16,42 @@ abbrev pub words_after : List ℕ → ℕ → List ℕ → List ℕ
 words_after iv n xs = fold after_block iv (first_chunks 64 n xs)
 
 -- one more chunk at the end
-first_chunks-suc : {X : Type 0} (n k : ℕ) (xs : List X) → first_chunks n (suc k) xs ≡ first_chunks n k xs ++ take n (drop (k * n) xs) ∷ []
+first_chunks-suc : {X : Type 0} (n k : ℕ) (xs : List X)
+    → first_chunks n (suc k) xs ≡ first_chunks n k xs ++ take n (drop (k * n) xs) ∷ []
 first_chunks-suc n zero xs = let none : zero * n ≡ 0 = omega arith in rw none refl
 first_chunks-suc {X} n (suc k) xs =
     let place : suc k * n ≡ n + k * n = omega (arith, suc-mul k n) in
     ap (λ (rest : List (List X)). take n xs ∷ rest) (first_chunks-suc n k (drop n xs))
-    ∙ ap (λ (part : List X). take n xs ∷ first_chunks n k (drop n xs) ++ take n part ∷ []) (drop-drop (k * n) n xs ∙ ap (λ (m : ℕ). drop m xs) (sym place))
+    ∙ ap (λ (part : List X). take n xs ∷ first_chunks n k (drop n xs) ++ take n part ∷ []) (drop-drop (k * n) n xs
+    ∙ ap (λ (m : ℕ). drop m xs) (sym place))
 
-pub words_after-next : (iv : List ℕ) (n : ℕ) (xs : List ℕ) → words_after iv (n + 1) xs ≡ after_block (words_after iv n xs) (take 64 (drop (n * 64) xs))
+pub words_after-next : (iv : List ℕ) (n : ℕ) (xs : List ℕ)
+    → words_after iv (n + 1) xs ≡ after_block (words_after iv n xs) (take 64 (drop (n * 64) xs))
 words_after-next iv n xs =
-    rw (add-one, first_chunks-suc 64 n xs) (fold-append after_block iv (first_chunks 64 n xs) (take 64 (drop (n * 64) xs) ∷ []))
+    rw (add-one, first_chunks-suc 64 n xs) (fold-append after_block iv (first_chunks 64 n xs)
+    (take 64 (drop (n * 64) xs) ∷ []))
 
 -- more bytes at the end do not change the chunks before
-first_chunks-append : (k : ℕ) (xs ys : List ℕ) → k * 64 ≤ length xs → first_chunks 64 k (xs ++ ys) ≡ first_chunks 64 k xs
+first_chunks-append : (k : ℕ) (xs ys : List ℕ) → k * 64 ≤ length xs
+    → first_chunks 64 k (xs ++ ys) ≡ first_chunks 64 k xs
 first_chunks-append zero xs ys fits = refl
 first_chunks-append (suc k) xs ys fits =
     let rest : k * 64 ≤ length (drop 64 xs) = omega (arith, length-drop 64 xs) in
-    rw (take-append-le 64 xs ys (omega arith), drop-append-le 64 xs ys (omega arith), first_chunks-append k (drop 64 xs) ys rest) refl
+    rw (
+      take-append-le 64 xs ys (omega arith),
+      drop-append-le 64 xs ys (omega arith),
+      first_chunks-append k (drop 64 xs) ys rest,
+    ) refl
 
-words_after-append : (iv : List ℕ) (n : ℕ) (xs ys : List ℕ) → n * 64 ≤ length xs → words_after iv n (xs ++ ys) ≡ words_after iv n xs
+words_after-append : (iv : List ℕ) (n : ℕ) (xs ys : List ℕ) → n * 64 ≤ length xs
+    → words_after iv n (xs ++ ys) ≡ words_after iv n xs
 words_after-append iv n xs ys fits = ap (fold after_block iv) (first_chunks-append n xs ys fits)
 
 -- a piece that does not fill the incomplete block
-pub HasTaken-short : (words part next iv fed piece : List ℕ) → HasTaken words part iv fed → length fed % 64 + length piece < 64
-    → take (length fed % 64 + length piece) next ≡ take (length fed % 64) part ++ piece → HasTaken words next iv (fed ++ piece)
+pub HasTaken-short : (words part next iv fed piece : List ℕ) → HasTaken words part iv fed
+    → length fed % 64 + length piece < 64
+    → take (length fed % 64 + length piece) next ≡ take (length fed % 64) part ++ piece
+    → HasTaken words next iv (fed ++ piece)
 HasTaken-short words part next iv fed piece taken short front =
     let whole : ℕ = length fed / 64 in
     let same : length (fed ++ piece) / 64 ≡ whole = omega (arith, length-append fed piece) in
@@ -50,17 +62,25 @@ HasTaken-short words part next iv fed piece taken short front =
     }
 
 -- a piece that fills the incomplete block: the words take it in, and no byte of it counts any more
-pub HasTaken-full : (words part next iv fed piece block : List ℕ) → HasTaken words part iv fed → length fed % 64 + length piece ≡ 64
+pub HasTaken-full : (words part next iv fed piece block : List ℕ) → HasTaken words part iv fed
+    → length fed % 64 + length piece ≡ 64
     → block ≡ take (length fed % 64) part ++ piece → HasTaken (after_block words block) next iv (fed ++ piece)
 HasTaken-full words part next iv fed piece block taken full parts =
     let whole : ℕ = length fed / 64 in
     let size : length (fed ++ piece) ≡ length fed + length piece = length-append fed piece in
     let count : length (fed ++ piece) / 64 ≡ whole + 1 = omega arith in
     let left : length (fed ++ piece) % 64 ≡ 0 = omega arith in
-    let last : drop (whole * 64) (fed ++ piece) ≡ block = drop-append-le (whole * 64) fed piece (omega arith) ∙ rw (← taken.behind) (sym parts) in
+    let last : drop (whole * 64) (fed ++ piece) ≡ block = drop-append-le (whole * 64) fed piece (omega arith)
+    ∙ rw (← taken.behind) (sym parts) in
     let block_size : length block ≡ 64 = omega (arith, ap length last, length-drop (whole * 64) (fed ++ piece)) in
     let next_words : words_after iv (whole + 1) (fed ++ piece) ≡ after_block words block =
-    rw (words_after-next iv whole (fed ++ piece), words_after-append iv whole fed piece (omega arith), ← taken.blocks, last, take_all 64 block (omega arith)) refl in
+    rw (
+      words_after-next iv whole (fed ++ piece),
+      words_after-append iv whole fed piece (omega arith),
+      ← taken.blocks,
+      last,
+      take_all 64 block (omega arith),
+    ) refl in
     record {
       blocks = rw count (sym next_words);
       behind = rw (left, count) (sym (drop_all ((whole + 1) * 64) (fed ++ piece) (omega arith)));
@@ -74,18 +94,22 @@ pub StandsFor-taken : (md4 : Md4) (iv fed : List ℕ) → StandsFor md4 iv fed �
 unfolding StandsFor
 StandsFor-taken md4 iv fed stands = stands.1
 
-pub StandsFor-from : (md4 : Md4) (iv fed : List ℕ) → md4.total ≡ length fed % 2 ^ 64 → HasTaken md4.words md4.part iv fed → StandsFor md4 iv fed
+pub StandsFor-from : (md4 : Md4) (iv fed : List ℕ) → md4.total ≡ length fed % 2 ^ 64
+    → HasTaken md4.words md4.part iv fed → StandsFor md4 iv fed
 unfolding StandsFor
 StandsFor-from md4 iv fed total taken = (total, taken)
 
 -- the count after one more piece
-pub total-append : (old new : ℕ) (fed piece : List ℕ) → old ≡ length fed % 2 ^ 64 → new ≡ (old + length piece) % 2 ^ 64 → new ≡ length (fed ++ piece) % 2 ^ 64
+pub total-append : (old new : ℕ) (fed piece : List ℕ) → old ≡ length fed % 2 ^ 64 → new ≡ (old + length piece) % 2 ^ 64
+    → new ≡ length (fed ++ piece) % 2 ^ 64
 total-append old new fed piece e n = omega (arith, length-append fed piece)
 
 -- the state after `update` if the piece does not fill the incomplete block
-pub StandsFor-short : (old new : Md4) (iv fed piece copied : List ℕ) (at size : ℕ) → StandsFor old iv fed → length old.part ≡ 64
+pub StandsFor-short : (old new : Md4) (iv fed piece copied : List ℕ) (at size : ℕ) → StandsFor old iv fed
+    → length old.part ≡ 64
     → at ≡ old.total % 64 → at + length piece < 64 → copied ≡ piece
-    → new.total ≡ (old.total + length piece) % 2 ^ 64 → new.words ≡ old.words → new.part ≡ put_mid at size old.part copied
+    → new.total ≡ (old.total + length piece) % 2 ^ 64 → new.words ≡ old.words
+    → new.part ≡ put_mid at size old.part copied
     → StandsFor new iv (fed ++ piece)
 StandsFor-short old new iv fed piece copied at size stands full place short same total words part =
     let counted : old.total ≡ length fed % 2 ^ 64 = StandsFor-total old iv fed stands in
@@ -93,20 +117,26 @@ StandsFor-short old new iv fed piece copied at size stands full place short same
     let front : take (at + length piece) new.part ≡ take at old.part ++ piece =
     rw (part, same) (take-put_mid at size old.part piece (at + length piece) refl (omega arith)) in
     StandsFor-from new iv (fed ++ piece) (total-append old.total new.total fed piece counted total)
-    (rw words (HasTaken-short old.words old.part new.part iv fed piece (StandsFor-taken old iv fed stands) (omega arith) (rw (← ends) front)))
+    (rw words (HasTaken-short old.words old.part new.part iv fed piece (StandsFor-taken old iv fed stands) (omega arith)
+    (rw (← ends) front)))
 
 -- 64 more bytes of a piece
 take-block : (piece : List ℕ) (at : ℕ) → take (at + 64) piece ≡ take at piece ++ take 64 (drop at piece)
 take-block piece at =
-    let whole : take at (take (at + 64) piece) ++ drop at (take (at + 64) piece) ≡ take (at + 64) piece = take-append-drop at (take (at + 64) piece) in
+    let whole : take at (take (at + 64) piece) ++ drop at (take (at + 64) piece)
+    ≡ take (at + 64) piece = take-append-drop at (take (at + 64) piece) in
     sym (rw (take-take at (at + 64) piece (omega arith), drop-take at 64 piece) at whole)
 
 -- the next block of a piece, if the bytes fed before end with a complete block
-pub HasTaken-block : (words part iv fed piece block : List ℕ) (at : ℕ) → HasTaken words part iv (fed ++ take at piece) → (length fed + at) % 64 ≡ 0
-    → at + 64 ≤ length piece → block ≡ take 64 (drop at piece) → HasTaken (after_block words block) part iv (fed ++ take (at + 64) piece)
+pub HasTaken-block : (words part iv fed piece block : List ℕ) (at : ℕ) → HasTaken words part iv (fed ++ take at piece)
+    → (length fed + at) % 64 ≡ 0
+    → at + 64 ≤ length piece → block ≡ take 64 (drop at piece)
+    → HasTaken (after_block words block) part iv (fed ++ take (at + 64) piece)
 HasTaken-block words part iv fed piece block at taken edge fits e =
-    let size : length (fed ++ take at piece) ≡ length fed + at = length-append fed (take at piece) ∙ ap (λ (k : ℕ). length fed + k) (length-take-le at piece (omega arith)) in
-    let block_size : length block ≡ 64 = ap length e ∙ length-take-le 64 (drop at piece) (omega (arith, length-drop at piece)) in
+    let size : length (fed ++ take at piece) ≡ length fed + at = length-append fed (take at piece)
+    ∙ ap (λ (k : ℕ). length fed + k) (length-take-le at piece (omega arith)) in
+    let block_size : length block ≡ 64 = ap length e
+    ∙ length-take-le 64 (drop at piece) (omega (arith, length-drop at piece)) in
     let start : length (fed ++ take at piece) % 64 ≡ 0 = omega arith in
     let filled : HasTaken (after_block words block) part iv ((fed ++ take at piece) ++ block) =
     HasTaken-full words part part iv (fed ++ take at piece) block block taken (omega arith) (rw start refl) in
@@ -114,7 +144,8 @@ HasTaken-block words part iv fed piece block at taken edge fits e =
     rw (grown, ← append_assoc) filled
 
 -- the state before the loop of `update` if the incomplete block held bytes and is now full
-pub start-filled : (old new : Md4) (iv fed piece copied words : List ℕ) (at size start total : ℕ) → StandsFor old iv fed → length old.part ≡ 64
+pub start-filled : (old new : Md4) (iv fed piece copied words : List ℕ) (at size start total : ℕ) → StandsFor old iv fed
+    → length old.part ≡ 64
     → at ≡ old.total % 64 → start ≡ 64 - at → start ≤ length piece → size ≡ start → copied ≡ take start piece
     → words ≡ after_block old.words (put_mid at size old.part copied)
     → new ≡ record { words = words; part = put_mid at size old.part copied; total = total }
@@ -124,15 +155,19 @@ start-filled old new iv fed piece copied words at size start total stands full p
     let ends : at ≡ length fed % 64 = omega arith in
     let head : List ℕ = take start piece in
     let head_size : length head ≡ start = length-take-le start piece fits in
-    let rest : post_of at size old.part ≡ [] = drop_all size (drop at old.part) (omega (arith, length-drop at old.part)) in
-    let parts : put_mid at size old.part copied ≡ take (length fed % 64) old.part ++ head = rw (rest, append-nil, ey, ← ends) refl in
+    let rest : post_of at size old.part ≡ [] = drop_all size (drop at old.part) (omega (arith, length-drop at old.part))
+    in
+    let parts : put_mid at size old.part copied ≡ take (length fed % 64) old.part
+    ++ head = rw (rest, append-nil, ey, ← ends) refl in
     let taken : HasTaken (after_block old.words (put_mid at size old.part copied)) new.part iv (fed ++ head) =
-    HasTaken-full old.words old.part new.part iv fed head (put_mid at size old.part copied) (StandsFor-taken old iv fed stands) (omega arith) parts in
+    HasTaken-full old.words old.part new.part iv fed head (put_mid at size old.part copied)
+    (StandsFor-taken old iv fed stands) (omega arith) parts in
     let hn : new.words ≡ words = ap (λ (r : Md4). r.words) en in
     (rw (add-zero, hn, eh) taken, omega arith)
 
 -- the same if the incomplete block held no bytes
-pub start-empty : (old new : Md4) (iv fed piece : List ℕ) (start total : ℕ) → StandsFor old iv fed → old.total % 64 ≤ 0 → start ≡ 0
+pub start-empty : (old new : Md4) (iv fed piece : List ℕ) (start total : ℕ) → StandsFor old iv fed → old.total % 64 ≤ 0
+    → start ≡ 0
     → new ≡ record { words = old.words; part = old.part; total = total }
     → HasTaken new.words new.part iv (fed ++ take (start + 0) piece) × ((length fed + start) % 64 ≡ 0)
 start-empty old new iv fed piece start total stands empty es en =
@@ -143,25 +178,36 @@ start-empty old new iv fed piece start total stands empty es en =
     (rw (hn, bn, es) none, omega arith)
 
 -- the bytes after the last complete block of a piece
-pub HasTaken-behind : (next words part iv fed piece behind : List ℕ) (at size : ℕ) → HasTaken words part iv (fed ++ take at piece) → (length fed + at) % 64 ≡ 0
-    → at ≤ length piece → length piece - at < 64 → next ≡ behind ++ post_of 0 size part → behind ≡ drop at piece → HasTaken words next iv (fed ++ piece)
+pub HasTaken-behind : (next words part iv fed piece behind : List ℕ) (at size : ℕ)
+    → HasTaken words part iv (fed ++ take at piece) → (length fed + at) % 64 ≡ 0
+    → at ≤ length piece → length piece - at < 64 → next ≡ behind ++ post_of 0 size part → behind ≡ drop at piece
+    → HasTaken words next iv (fed ++ piece)
 HasTaken-behind next words part iv fed piece behind at size taken edge fits short eb ey =
-    let before : length (fed ++ take at piece) ≡ length fed + at = length-append fed (take at piece) ∙ ap (λ (k : ℕ). length fed + k) (length-take-le at piece fits) in
+    let before : length (fed ++ take at piece) ≡ length fed + at = length-append fed (take at piece)
+    ∙ ap (λ (k : ℕ). length fed + k) (length-take-le at piece fits) in
     let left : length (drop at piece) ≡ length piece - at = length-drop at piece in
     let ends : length (fed ++ take at piece) % 64 ≡ 0 = omega arith in
-    let front : take (length (fed ++ take at piece) % 64 + length (drop at piece)) next ≡ take (length (fed ++ take at piece) % 64) part ++ drop at piece =
+    let front : take (length (fed ++ take at piece) % 64 + length (drop at piece)) next
+    ≡ take (length (fed ++ take at piece) % 64) part ++ drop at piece =
     rw (ends, eb, ← ey) (take_at behind (post_of 0 size part) (0 + length behind) (omega arith)) in
-    let taken_all : HasTaken words next iv ((fed ++ take at piece) ++ drop at piece) = HasTaken-short words part next iv (fed ++ take at piece) (drop at piece) taken (omega arith) front in
-    let whole : (fed ++ take at piece) ++ drop at piece ≡ fed ++ piece = append_assoc fed (take at piece) (drop at piece) ∙ ap (λ (x : List ℕ). fed ++ x) (take-append-drop at piece) in
+    let taken_all : HasTaken words next iv ((fed ++ take at piece) ++ drop at piece) = HasTaken-short words part next iv
+    (fed ++ take at piece) (drop at piece) taken (omega arith) front in
+    let whole : (fed ++ take at piece) ++ drop at piece
+    ≡ fed ++ piece =
+    append_assoc fed (take at piece) (drop at piece)
+    ∙ ap (λ (x : List ℕ). fed ++ x) (take-append-drop at piece) in
     rw (← whole) taken_all
 
 -- the digest, after the filling and the number of bits are fed
-pub digest-padded : (md4 : Md4) (iv fed zeros bits : List ℕ) → StandsFor md4 iv ((fed ++ zeros) ++ bits) → zeros ≡ padding_octets (length fed)
+pub digest-padded : (md4 : Md4) (iv fed zeros bits : List ℕ) → StandsFor md4 iv ((fed ++ zeros) ++ bits)
+    → zeros ≡ padding_octets (length fed)
     → bits ≡ bit_count (length fed) → octets_of_words md4.words ≡ digest iv fed
 unfolding digest
 digest-padded md4 iv fed zeros bits stands ez eb =
-    let all : (fed ++ zeros) ++ bits ≡ pad fed = ap (λ (z : List ℕ). (fed ++ z) ++ bits) ez ∙ ap (λ (b : List ℕ). (fed ++ padding_octets (length fed)) ++ b) eb in
-    ap octets_of_words ((StandsFor-taken md4 iv ((fed ++ zeros) ++ bits) stands).blocks ∙ ap (λ (octets : List ℕ). fold after_block iv (blocks_of octets)) all)
+    let all : (fed ++ zeros) ++ bits ≡ pad fed = ap (λ (z : List ℕ). (fed ++ z) ++ bits) ez
+    ∙ ap (λ (b : List ℕ). (fed ++ padding_octets (length fed)) ++ b) eb in
+    ap octets_of_words ((StandsFor-taken md4 iv ((fed ++ zeros) ++ bits) stands).blocks
+    ∙ ap (λ (octets : List ℕ). fold after_block iv (blocks_of octets)) all)
 
 -- the first bytes of the longest filling
 pub take-filling : (x y z : ℕ) → z ≤ 63 → take (z + 1) (x ∷ replicate 63 y) ≡ x ∷ replicate z y

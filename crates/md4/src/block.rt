@@ -46,8 +46,8 @@ fn parity(x: u32, y: u32, z: u32) -> u32
 
 /// Returns the new word of a step, whose constant is already in `word`.
 #[inline(always)]
-fn stepped(a: u32, mixed: u32, word: u32, shift: u32) -> u32
-    // The result of `stepped` is the sum of `a`, `mixed` and `word` modulo 2^32, rotated left by `shift`.
+fn step_word(a: u32, mixed: u32, word: u32, shift: u32) -> u32
+    // The result of `step_word` is the sum of `a`, `mixed` and `word` modulo 2^32, rotated left by `shift`.
     ensures { result ≡ rotate_sum a mixed word 0 shift }
 {
     // `mixed` waits for the previous step, so it is added last.
@@ -61,10 +61,10 @@ fn first_four(v: [u32; 4], row: [u32; 4]) -> [u32; 4]
     ensures { result ≡ four_steps first_round v row }
 {
     let [a, b, c, d] = v;
-    let a = stepped(a, conditional(b, c, d), row[0], 3);
-    let d = stepped(d, conditional(a, b, c), row[1], 7);
-    let c = stepped(c, conditional(d, a, b), row[2], 11);
-    let b = stepped(b, conditional(c, d, a), row[3], 19);
+    let a = step_word(a, conditional(b, c, d), row[0], 3);
+    let d = step_word(d, conditional(a, b, c), row[1], 7);
+    let c = step_word(c, conditional(d, a, b), row[2], 11);
+    let b = step_word(b, conditional(c, d, a), row[3], 19);
     [a, b, c, d]
 }
 
@@ -76,10 +76,10 @@ fn second_four(v: [u32; 4], row: [u32; 4]) -> [u32; 4]
     ensures { (words : List ℕ) → HasAdded second_round words row → result ≡ four_steps second_round v words }
 {
     let [a, b, c, d] = v;
-    let a = stepped(a, majority(b, c, d), row[0], 3);
-    let d = stepped(d, majority(a, b, c), row[1], 5);
-    let c = stepped(c, majority(d, a, b), row[2], 9);
-    let b = stepped(b, majority(c, d, a), row[3], 13);
+    let a = step_word(a, majority(b, c, d), row[0], 3);
+    let d = step_word(d, majority(a, b, c), row[1], 5);
+    let c = step_word(c, majority(d, a, b), row[2], 9);
+    let b = step_word(b, majority(c, d, a), row[3], 13);
     [a, b, c, d]
 }
 
@@ -91,10 +91,10 @@ fn third_four(v: [u32; 4], row: [u32; 4]) -> [u32; 4]
     ensures { (words : List ℕ) → HasAdded third_round words row → result ≡ four_steps third_round v words }
 {
     let [a, b, c, d] = v;
-    let a = stepped(a, parity(b, c, d), row[0], 3);
-    let d = stepped(d, parity(a, b, c), row[1], 9);
-    let c = stepped(c, parity(d, a, b), row[2], 11);
-    let b = stepped(b, parity(c, d, a), row[3], 15);
+    let a = step_word(a, parity(b, c, d), row[0], 3);
+    let d = step_word(d, parity(a, b, c), row[1], 9);
+    let c = step_word(c, parity(d, a, b), row[2], 11);
+    let b = step_word(b, parity(c, d, a), row[3], 15);
     [a, b, c, d]
 }
 
@@ -102,7 +102,7 @@ fn third_four(v: [u32; 4], row: [u32; 4]) -> [u32; 4]
 /// adds the constant last in each step, and the next step waits for it (about a sixth more time for a long
 /// message).
 #[inline(never)]
-fn with_added(w: &[u32; 16], added: u32) -> [u32; 16]
+fn add_constant(w: &[u32; 16], added: u32) -> [u32; 16]
     // Each of the sixteen words is that of the block plus `added`, modulo 2^32.
     ensures { (k : ℕ) → k < 16 → slice_index result k ≡ (slice_index w.now k + added) % 2 ^ 32 }
 {
@@ -131,7 +131,7 @@ fn after_second(w: &[u32; 16], v: [u32; 4]) -> [u32; 4]
     // The result of `after_second` is the four words after all of `second_round` over the block's words.
     ensures { result ≡ after_round second_round w.now v }
 {
-    let w = with_added(w, SECOND_ADDED);
+    let w = add_constant(w, SECOND_ADDED);
     let v = second_four(v, [w[0], w[4], w[8], w[12]]);
     let v = second_four(v, [w[1], w[5], w[9], w[13]]);
     let v = second_four(v, [w[2], w[6], w[10], w[14]]);
@@ -144,7 +144,7 @@ fn after_third(w: &[u32; 16], v: [u32; 4]) -> [u32; 4]
     // The result of `after_third` is the four words after all of `third_round` over the block's words.
     ensures { result ≡ after_round third_round w.now v }
 {
-    let w = with_added(w, THIRD_ADDED);
+    let w = add_constant(w, THIRD_ADDED);
     let v = third_four(v, [w[0], w[8], w[4], w[12]]);
     let v = third_four(v, [w[2], w[10], w[6], w[14]]);
     let v = third_four(v, [w[1], w[9], w[5], w[13]]);
@@ -169,7 +169,7 @@ pub fn take_in(words: &mut [u32; 4], block: &[u8])
 }
 
 /// Returns the four words as bytes.
-pub fn spelled(words: [u32; 4]) -> [u8; 16]
+pub fn bytes_of_words(words: [u32; 4]) -> [u8; 16]
     // The result is the four words in order, each least significant byte first.
     ensures { result ≡ octets_of_words words }
 {

@@ -15,7 +15,7 @@ const FILLING: [u8; BLOCK_SIZE] = [
 
 /// Returns the filling between a message and its number of bits, if the last block has `used` bytes of the
 /// message.
-pub fn filling(used: usize) -> &'static [u8]
+pub fn padding_bytes(used: usize) -> &'static [u8]
     requires { used < 64 }
     // The result is the byte 0x80 and the fewest zeros that make the number of bytes 56 modulo 64.
     ensures { result.now ≡ padding_octets used }
@@ -38,7 +38,7 @@ pub fn begun(behind: &[u8]) -> [u8; BLOCK_SIZE]
 
 /// Returns the block with the number of the message's bits in its last 8 bytes.
 #[inline(always)]
-pub fn closed(mut block: [u8; BLOCK_SIZE], bits: u64) -> [u8; BLOCK_SIZE]
+pub fn with_bit_count(mut block: [u8; BLOCK_SIZE], bits: u64) -> [u8; BLOCK_SIZE]
     // The result is the first 56 bytes of the block and then `bits`, least significant byte first.
     ensures { result ≡ take 56 block ++ little_bytes 8 bits }
 {

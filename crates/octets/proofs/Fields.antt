@@ -14,13 +14,15 @@ FitOctets xs = (i : ℕ) → Fits w8 (get_or xs i 0)
 byte_at-suc : (i x : ℕ) → byte_at (suc i) x ≡ byte_at i (x / 256)
 byte_at-suc zero x = refl
 byte_at-suc (suc i) x =
-    ap (λ (p : ℕ). x / p % 256) (pow-succ' 256 (suc i)) ∙ ap (λ (q : ℕ). q % 256) (sym (div-div-eq-div-mul x 256 (256 ^ suc i)))
+    ap (λ (p : ℕ). x / p % 256) (pow-succ' 256 (suc i))
+    ∙ ap (λ (q : ℕ). q % 256) (sym (div-div-eq-div-mul x 256 (256 ^ suc i)))
 
 bytes_low_first-suc : (k i x : ℕ) → bytes_low_first (suc i) k x ≡ bytes_low_first i k (x / 256)
 bytes_low_first-suc zero i x = refl
 bytes_low_first-suc (suc k) i x = rw (byte_at-suc i x, bytes_low_first-suc k (suc i) x) refl
 
-little_spelled : (k i : ℕ) (xs : List ℕ) → FitOctets xs → i + k ≤ length xs → bytes_low_first 0 k (little_from i k xs) ≡ take k (drop i xs)
+little_spelled : (k i : ℕ) (xs : List ℕ) → FitOctets xs → i + k ≤ length xs
+    → bytes_low_first 0 k (little_from i k xs) ≡ take k (drop i xs)
 little_spelled zero i xs fits long = refl
 little_spelled (suc k) i xs fits long =
     let tail : ℕ = little_from (suc i) k xs in
@@ -43,15 +45,18 @@ pub Splits-then : {whole a mid b rest : List ℕ} → Splits whole a mid → Spl
 Splits-then {whole} {a} {mid} {b} {rest} p q = record { parts = rw (p.parts, q.parts) (sym (append_assoc a b rest)) }
 
 -- a field of n bytes at a place that reads as x is the encoding of x, followed by the bytes after it
-pub field_at : (n place x : ℕ) (xs : List ℕ) → FitOctets xs → place + n ≤ length xs → x ≡ little_number n (drop place xs)
+pub field_at : (n place x : ℕ) (xs : List ℕ) → FitOctets xs → place + n ≤ length xs
+    → x ≡ little_number n (drop place xs)
     → Splits (drop place xs) (little_bytes n x) (drop (place + n) xs)
 field_at n place x xs fits long reads =
-    let spelled = little_spelled n 0 (drop place xs) (FitOctets-drop place xs fits) (omega (arith, length-drop place xs)) in
+    let spelled = little_spelled n 0 (drop place xs) (FitOctets-drop place xs fits)
+    (omega (arith, length-drop place xs)) in
     record { parts = rw (reads, spelled, ← drop-drop n place xs) (sym (take-append-drop n (drop place xs))) }
 
 -- a field of n bytes is below 256 ^ n
 pub field_below : (n place x : ℕ) (xs : List ℕ) → FitOctets xs → x ≡ little_number n (drop place xs) → x < 256 ^ n
-field_below n place x xs fits reads = rw reads (little_from-lt 0 n (drop place xs) (λ i. omega (arith, FitOctets-drop place xs fits i)))
+field_below n place x xs fits reads =
+    rw reads (little_from-lt 0 n (drop place xs) (λ i. omega (arith, FitOctets-drop place xs fits i)))
 
 -- a field at the start reads as its number
 pub field_reads : (n x : ℕ) (xs rest : List ℕ) → x < 256 ^ n → xs ≡ little_bytes n x ++ rest → little_number n xs ≡ x

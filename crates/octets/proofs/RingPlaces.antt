@@ -10,8 +10,10 @@ record Behind (n p q : ℕ) : Type 0 where
 
 behind : (n p : ℕ) → p < n → Behind n p (place_behind n p)
 behind n p lt =
-    ⊎_elim (λ (end : (eqb (p + 1) n ≡ true) × (p + 1 ≡ n)). rw end.0 (record { inside = omega arith; far = inr (refl, end.1) }))
-    (λ (more : (eqb (p + 1) n ≡ false) × (p + 1 ≢ n)). rw more.0 (record { inside = omega (arith, more.1); far = inl refl })) (eqb_tells (p + 1) n)
+    ⊎_elim (λ (end : (eqb (p + 1) n ≡ true) × (p + 1 ≡ n)).
+    rw end.0 (record { inside = omega arith; far = inr (refl, end.1) }))
+    (λ (more : (eqb (p + 1) n ≡ false) × (p + 1 ≢ n)).
+    rw more.0 (record { inside = omega (arith, more.1); far = inl refl })) (eqb_tells (p + 1) n)
 
 pub behind-inside : (n p : ℕ) → p < n → place_behind n p < n
 behind-inside n p lt = (behind n p lt).inside
@@ -24,7 +26,8 @@ far_next n p far q lt h = (
       (λ (next : place_behind n p ≡ p + 1).
       ⊎_elim (λ (up : q ≡ p + suc far). inl (omega arith)) (λ (round : q + n ≡ p + suc far). inr (omega arith)) h.1)
       (λ (first : (place_behind n p ≡ 0) × (p + 1 ≡ n)).
-      ⊎_elim (λ (up : q ≡ p + suc far). absurd (omega (arith, h.0, first.1))) (λ (round : q + n ≡ p + suc far). inl (omega (arith, first.0, first.1))) h.1)
+      ⊎_elim (λ (up : q ≡ p + suc far). absurd (omega (arith, h.0, first.1)))
+      (λ (round : q + n ≡ p + suc far). inl (omega (arith, first.0, first.1))) h.1)
       (behind n p lt).far,
 )
 

@@ -42,29 +42,35 @@ none_counts : (xs : List ℕ) → count xs ≡ 0 → list_all (λ octet. octet =
 none_counts [] h = refl
 none_counts (x ∷ xs) h =
     elim (cases_Bool (x == FILLING)) [
-      | inl is ↦ let none : counts x ≡ 0 = rw is refl in rw is (none_counts xs (omega (arith, h, sum_by-cons counts x xs, none)))
+      | inl is ↦ let none : counts x ≡ 0 =
+          rw is refl in rw is (none_counts xs (omega (arith, h, sum_by-cons counts x xs, none)))
       | inr other ↦ let one : counts x ≡ 1 = rw other refl in absurd (omega (arith, h, sum_by-cons counts x xs, one))
     ]
 
 -- if as many characters as counted come first, they are a name with its filling
-front_named : (field : List ℕ) → length field ≡ NAME_LENGTH → IsName (take (count field) field) → field ≡ fill_name (take (count field) field)
+front_named : (field : List ℕ) → length field ≡ NAME_LENGTH → IsName (take (count field) field)
+    → field ≡ fill_name (take (count field) field)
 front_named field long is =
     let front : List ℕ = take (count field) field in
-    let size : length front ≡ count field = omega (arith, length-take (count field) field, count_by-le-length (λ (octet : ℕ). not (octet == FILLING)) field) in
+    let size : length front ≡ count field = omega
+    (arith, length-take (count field) field, count_by-le-length (λ (octet : ℕ). not (octet == FILLING)) field) in
     let back : count (drop (count field) field) ≡ 0 =
     omega (arith, size, count-characters front is.2, sum_by-take-drop counts field (count field))
     in
     (spelled_at (count field) field long is (none_counts (drop (count field) field) back)).spelled
 
 -- a name that is read is at the start
-seen_front : (field name : List ℕ) → length field ≡ NAME_LENGTH → Some name ≡ name_seen field → (take (count field) field ≡ name) × IsName name
+seen_front : (field name : List ℕ) → length field ≡ NAME_LENGTH → Some name ≡ name_seen field
+    → (take (count field) field ≡ name) × IsName name
 seen_front field name long seen =
     let found = seen_spelled field name long seen in
     let size : count field ≡ length name = ap count found.spelled ∙ count-filled name found.is.2 in
-    let front : take (count field) field ≡ name = rw (size, found.spelled) (take-append_seam name (replicate (NAME_LENGTH - length name) FILLING)) in
+    let front : take (count field) field ≡ name = rw (size, found.spelled)
+    (take-append_seam name (replicate (NAME_LENGTH - length name) FILLING)) in
     (front, found.is)
 
-none_seen : (seen : Option (List ℕ)) (field : List ℕ) (fault : NameFault) → seen ≡ name_seen field → length field ≡ NAME_LENGTH
+none_seen : (seen : Option (List ℕ)) (field : List ℕ) (fault : NameFault) → seen ≡ name_seen field
+    → length field ≡ NAME_LENGTH
     → name_read (take (count field) field) ≡ Err fault → None ≡ name_seen field
 none_seen None field fault is long reads = is
 none_seen (Some name) field fault is long reads =
@@ -73,7 +79,8 @@ none_seen (Some name) field fault is long reads =
     absurd cc
 
 -- the characters at the start are read as the name
-pub front_seen : (field : List ℕ) → length field ≡ NAME_LENGTH → result_ok (name_read (take (count field) field)) ≡ name_seen field
+pub front_seen : (field : List ℕ) → length field ≡ NAME_LENGTH
+    → result_ok (name_read (take (count field) field)) ≡ name_seen field
 front_seen field long =
     elim (read_cases (take (count field) field)) [
       | inl (reads, is) ↦ rw (reads, filled_seen (take (count field) field) field is (front_named field long is)) refl

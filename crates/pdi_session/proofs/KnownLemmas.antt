@@ -18,7 +18,8 @@ use Rattle.pdi_session.proofs.TeleLemmas.{length-filled, same_tele}
 
 field_made : (field name : List ℕ) → IsName name → field ≡ fill_name name → IsField (length name) field
 field_made field name is e =
-    let front : take (length name) field ≡ name = rw e (take-append_seam name (replicate (NAME_LENGTH - length name) FILLING)) in
+    let front : take (length name) field ≡ name = rw e
+    (take-append_seam name (replicate (NAME_LENGTH - length name) FILLING)) in
     (rw front is, e ∙ ap fill_name (sym front), ap length front)
 
 -- the names written one after the other
@@ -26,7 +27,8 @@ pub record Written (octets one other : List ℕ) : Type 0 where
   pub front : take NAME_LENGTH octets ≡ fill_name one
   pub behind : drop NAME_LENGTH octets ≡ fill_name other
 
-pub written : (octets first none one other : List ℕ) → IsName one → length octets ≡ 40 → take 20 first ≡ none ++ fill_name one → none ≡ []
+pub written : (octets first none one other : List ℕ) → IsName one → length octets ≡ 40
+    → take 20 first ≡ none ++ fill_name one → none ≡ []
     → take 40 octets ≡ take 20 first ++ fill_name other → Written octets one other
 written octets first none one other is long before nothing after =
     let whole : octets ≡ fill_name one ++ fill_name other =
@@ -36,39 +38,55 @@ written octets first none one other is long before nothing after =
     in
     let size = length-filled one is in
     record {
-      front = ap (take NAME_LENGTH) whole ∙ ap (λ (n : ℕ). take n (fill_name one ++ fill_name other)) (sym size) ∙ take-append_seam (fill_name one) (fill_name other);
-      behind = ap (drop NAME_LENGTH) whole ∙ ap (λ (n : ℕ). drop n (fill_name one ++ fill_name other)) (sym size) ∙ drop-append_seam (fill_name one) (fill_name other);
+      front = ap (take NAME_LENGTH) whole ∙ ap (λ (n : ℕ). take n (fill_name one ++ fill_name other)) (sym size)
+          ∙ take-append_seam (fill_name one) (fill_name other);
+      behind = ap (drop NAME_LENGTH) whole ∙ ap (λ (n : ℕ). drop n (fill_name one ++ fill_name other)) (sym size)
+          ∙ drop-append_seam (fill_name one) (fill_name other);
     }
 
-pub pair_made : (octets one other : List ℕ) → IsName one → IsName other → length octets ≡ 40 → Written octets one other → IsPair octets (length one) (length other)
-pair_made octets one other is also long w =
-    (field_made (take NAME_LENGTH octets) one is w.front, field_made (drop NAME_LENGTH octets) other also w.behind, long)
+pub pair_made : (octets one other : List ℕ) → IsName one → IsName other → length octets ≡ 40 → Written octets one other
+    → IsPair octets (length one) (length other)
+pair_made octets one other is also long w = (
+  field_made (take NAME_LENGTH octets) one is w.front,
+  field_made (drop NAME_LENGTH octets) other also w.behind,
+  long,
+)
 
 -- a place with the bytes of a field
 pub record Holds (size : ℕ) (octets : List ℕ) : Type 0 where
   pub is : IsName (take size octets)
   pub seen : name_seen (take NAME_LENGTH octets) ≡ Some (take size octets)
 
-pub holds : (size : ℕ) (field octets : List ℕ) → IsField size field → take NAME_LENGTH octets ≡ field → Holds size octets
+pub holds : (size : ℕ) (field octets : List ℕ) → IsField size field → take NAME_LENGTH octets ≡ field
+    → Holds size octets
 holds size field octets known there =
     let few : size ≤ NAME_LENGTH = omega (arith, known.0.1, known.2) in
-    let same : take size octets ≡ take size field = sym (take-take size NAME_LENGTH octets few) ∙ ap (take size) there in
-    record { is = rw same known.0; seen = rw same (filled_seen (take size field) (take NAME_LENGTH octets) known.0 (there ∙ known.1)) }
+    let same : take size octets ≡ take size field = sym (take-take size NAME_LENGTH octets few)
+    ∙ ap (take size) there in
+    record {
+      is = rw same known.0;
+      seen =
+          rw same (filled_seen (take size field) (take NAME_LENGTH octets) known.0 (there ∙ known.1));
+    }
 
 -- the place of both names
 pub there_front : (octets pair : List ℕ) → take 40 octets ≡ pair → take NAME_LENGTH octets ≡ take NAME_LENGTH pair
 there_front octets pair e = sym (take-take NAME_LENGTH 40 octets (omega arith)) ∙ ap (take NAME_LENGTH) e
 
-pub there_behind : (octets pair : List ℕ) → take 40 octets ≡ pair → take NAME_LENGTH (drop NAME_LENGTH octets) ≡ drop NAME_LENGTH pair
+pub there_behind : (octets pair : List ℕ) → take 40 octets ≡ pair
+    → take NAME_LENGTH (drop NAME_LENGTH octets) ≡ drop NAME_LENGTH pair
 there_behind octets pair e = sym (drop-take NAME_LENGTH NAME_LENGTH octets) ∙ ap (drop NAME_LENGTH) e
 
 pub all_same : (xs ys : List ℕ) (i : ℕ) → length xs ≡ 40 → length ys ≡ 40 → 40 ≤ i → take i xs ≡ take i ys → xs ≡ ys
 all_same xs ys i long also past same = sym (take_all i xs (omega arith)) ∙ same ∙ take_all i ys (omega arith)
 
 -- bytes with valid names are read as the fields at their places
-pub known_read : (octets sender receiver : List ℕ) (t : Tele) → MESSAGE_MIN ≤ length octets → length octets ≤ MESSAGE_MAX
-    → name_seen (sender_field octets) ≡ Some sender → name_seen (receiver_field octets) ≡ Some receiver → t.protocol ≡ slice_index octets 0
-    → t.kind ≡ little_number 2 (drop KIND octets) → t.sender ≡ sender → t.receiver ≡ receiver → t.payload ≡ drop MESSAGE_MIN octets
+pub known_read : (octets sender receiver : List ℕ) (t : Tele) → MESSAGE_MIN ≤ length octets
+    → length octets ≤ MESSAGE_MAX
+    → name_seen (sender_field octets) ≡ Some sender → name_seen (receiver_field octets) ≡ Some receiver
+    → t.protocol ≡ slice_index octets 0
+    → t.kind ≡ little_number 2 (drop KIND octets) → t.sender ≡ sender → t.receiver ≡ receiver
+    → t.payload ≡ drop MESSAGE_MIN octets
     → Ok t ≡ tele_seen octets
 unfolding tele_seen
 known_read octets sender receiver t long short one other protocol kind from to payload =
@@ -87,10 +105,13 @@ known_read octets sender receiver t long short one other protocol kind from to p
     protocol kind from to payload))
 
 -- bytes with the names of a pair
-pub holds_front : (octets pair : List ℕ) (sender receiver : ℕ) → IsPair pair sender receiver → take 40 (drop 3 octets) ≡ pair → Holds sender (drop 3 octets)
-holds_front octets pair sender receiver is e = holds sender (take NAME_LENGTH pair) (drop 3 octets) is.0 (there_front (drop 3 octets) pair e)
+pub holds_front : (octets pair : List ℕ) (sender receiver : ℕ) → IsPair pair sender receiver
+    → take 40 (drop 3 octets) ≡ pair → Holds sender (drop 3 octets)
+holds_front octets pair sender receiver is e =
+    holds sender (take NAME_LENGTH pair) (drop 3 octets) is.0 (there_front (drop 3 octets) pair e)
 
-pub holds_behind : (octets pair : List ℕ) (sender receiver : ℕ) → IsPair pair sender receiver → take 40 (drop 3 octets) ≡ pair
+pub holds_behind : (octets pair : List ℕ) (sender receiver : ℕ) → IsPair pair sender receiver
+    → take 40 (drop 3 octets) ≡ pair
     → Holds receiver (drop 23 octets)
 holds_behind octets pair sender receiver is e =
     let there : take NAME_LENGTH (drop 23 octets) ≡ drop NAME_LENGTH pair =
@@ -99,16 +120,20 @@ holds_behind octets pair sender receiver is e =
     holds receiver (drop NAME_LENGTH pair) (drop 23 octets) is.1 there
 
 -- a place with a field's bytes is read as the name of the field
-held : (size : ℕ) (field octets : List ℕ) → IsField size field → take NAME_LENGTH octets ≡ field → take size octets ≡ take size field
+held : (size : ℕ) (field octets : List ℕ) → IsField size field → take NAME_LENGTH octets ≡ field
+    → take size octets ≡ take size field
 held size field octets known there =
     let few : size ≤ NAME_LENGTH = omega (arith, known.0.1, known.2) in
     sym (take-take size NAME_LENGTH octets few) ∙ ap (take size) there
 
-pub held_front : (octets pair : List ℕ) (sender receiver : ℕ) → IsPair pair sender receiver → take 40 (drop 3 octets) ≡ pair
+pub held_front : (octets pair : List ℕ) (sender receiver : ℕ) → IsPair pair sender receiver
+    → take 40 (drop 3 octets) ≡ pair
     → take sender (drop 3 octets) ≡ first_name pair sender
-held_front octets pair sender receiver is e = held sender (take NAME_LENGTH pair) (drop 3 octets) is.0 (there_front (drop 3 octets) pair e)
+held_front octets pair sender receiver is e =
+    held sender (take NAME_LENGTH pair) (drop 3 octets) is.0 (there_front (drop 3 octets) pair e)
 
-pub held_behind : (octets pair : List ℕ) (sender receiver : ℕ) → IsPair pair sender receiver → take 40 (drop 3 octets) ≡ pair
+pub held_behind : (octets pair : List ℕ) (sender receiver : ℕ) → IsPair pair sender receiver
+    → take 40 (drop 3 octets) ≡ pair
     → take receiver (drop 23 octets) ≡ second_name pair receiver
 held_behind octets pair sender receiver is e =
     let there : take NAME_LENGTH (drop 23 octets) ≡ drop NAME_LENGTH pair =
@@ -117,11 +142,15 @@ held_behind octets pair sender receiver is e =
     held receiver (drop NAME_LENGTH pair) (drop 23 octets) is.1 there
 
 -- eight more bytes are equal
-more_alike : (at : ℕ) (xs ys : List ℕ) → take at xs ≡ take at ys → take 8 (drop at xs) ≡ take 8 (drop at ys) → take (at + 8) xs ≡ take (at + 8) ys
-more_alike at xs ys front next = take-add at 8 xs ∙ ap (λ (zs : List ℕ). zs ++ take 8 (drop at xs)) front ∙ ap (λ (zs : List ℕ). take at ys ++ zs) next ∙ sym (take-add at 8 ys)
+more_alike : (at : ℕ) (xs ys : List ℕ) → take at xs ≡ take at ys → take 8 (drop at xs) ≡ take 8 (drop at ys)
+    → take (at + 8) xs ≡ take (at + 8) ys
+more_alike at xs ys front next = take-add at 8 xs ∙ ap (λ (zs : List ℕ). zs ++ take 8 (drop at xs)) front
+    ∙ ap (λ (zs : List ℕ). take at ys ++ zs) next ∙ sym (take-add at 8 ys)
 
-pub five_alike : (xs ys : List ℕ) → length xs ≡ 40 → length ys ≡ 40 → take 8 (drop 0 xs) ≡ take 8 (drop 0 ys) → take 8 (drop 8 xs) ≡ take 8 (drop 8 ys)
-    → take 8 (drop 16 xs) ≡ take 8 (drop 16 ys) → take 8 (drop 24 xs) ≡ take 8 (drop 24 ys) → take 8 (drop 32 xs) ≡ take 8 (drop 32 ys) → xs ≡ ys
+pub five_alike : (xs ys : List ℕ) → length xs ≡ 40 → length ys ≡ 40 → take 8 (drop 0 xs) ≡ take 8 (drop 0 ys)
+    → take 8 (drop 8 xs) ≡ take 8 (drop 8 ys)
+    → take 8 (drop 16 xs) ≡ take 8 (drop 16 ys) → take 8 (drop 24 xs) ≡ take 8 (drop 24 ys)
+    → take 8 (drop 32 xs) ≡ take 8 (drop 32 ys) → xs ≡ ys
 five_alike xs ys long also a b c d e =
     all_same xs ys 40 long also (omega arith)
     (more_alike 32 xs ys (more_alike 24 xs ys (more_alike 16 xs ys (more_alike 8 xs ys a b) c) d) e)
@@ -140,7 +169,9 @@ and_both false b h = cc
 
 -- the names of what was written
 pub made_front : (octets one other : List ℕ) → Written octets one other → first_name octets (length one) ≡ one
-made_front octets one other w = ap (take (length one)) w.front ∙ take-append_seam one (replicate (NAME_LENGTH - length one) FILLING)
+made_front octets one other w =
+    ap (take (length one)) w.front ∙ take-append_seam one (replicate (NAME_LENGTH - length one) FILLING)
 
 pub made_behind : (octets one other : List ℕ) → Written octets one other → second_name octets (length other) ≡ other
-made_behind octets one other w = ap (take (length other)) w.behind ∙ take-append_seam other (replicate (NAME_LENGTH - length other) FILLING)
+made_behind octets one other w =
+    ap (take (length other)) w.behind ∙ take-append_seam other (replicate (NAME_LENGTH - length other) FILLING)

@@ -54,14 +54,18 @@ name_size-append (c ∷ cs) rest h none =
     rw (plain, inner) (omega arith)
 
 -- the text is a name and is read as it, or has a fault
-pub read_cases : (text : List ℕ) → ((name_read text ≡ Ok text) × IsName text) ⊎ ((f : NameFault) × (name_read text ≡ Err f))
+pub read_cases : (text : List ℕ) → ((name_read text ≡ Ok text) × IsName text) ⊎ ((f : NameFault)
+    × (name_read text ≡ Err f))
 read_cases text =
     elim (cases_Bool (length text == 0)) [
       | inl none ↦ inr (Empty, rw none refl)
       | inr some ↦ elim (cases_Bool (nat_lt NAME_LENGTH (length text))) [
         | inl long ↦ inr (Long, rw (some, long) refl)
         | inr short ↦ elim (cases_Bool (list_all is_character text)) [
-          | inl all ↦ inl (rw (some, short, all) refl, (omega (arith, eqb-false (length text) 0 some), ltb-false NAME_LENGTH (length text) short, all))
+          | inl all ↦ inl (
+            rw (some, short, all) refl,
+            (omega (arith, eqb-false (length text) 0 some), ltb-false NAME_LENGTH (length text) short, all),
+          )
           | inr bad ↦ inr (Character, rw (some, short, bad) refl)
         ]
       ]
@@ -73,7 +77,8 @@ name_read-ok text h =
     let short = le-ltb NAME_LENGTH (length text) h.1 in
     rw (some, short, h.2) refl
 
-name_at-some : (size : ℕ) (field name : List ℕ) → take size field ≡ name → list_all (λ octet. octet == FILLING) (drop size field) ≡ true
+name_at-some : (size : ℕ) (field name : List ℕ) → take size field ≡ name
+    → list_all (λ octet. octet == FILLING) (drop size field) ≡ true
     → name_read name ≡ Ok name → name_at size field ≡ Some name
 name_at-some size field name front filling reads = rw (filling, front, reads) refl
 
@@ -81,10 +86,12 @@ name_at-some size field name front filling reads = rw (filling, front, reads) re
 pub filled_seen : (name field : List ℕ) → IsName name → field ≡ fill_name name → name_seen field ≡ Some name
 filled_seen name field is e =
     let filling : List ℕ = replicate (NAME_LENGTH - length name) FILLING in
-    let size : name_size field ≡ length name = ap name_size e ∙ name_size-append name filling is.2 (name_size-replicate (NAME_LENGTH - length name)) in
+    let size : name_size field ≡ length name = ap name_size e
+    ∙ name_size-append name filling is.2 (name_size-replicate (NAME_LENGTH - length name)) in
     let front : take (name_size field) field ≡ name = rw (size, e) (take-append_seam name filling) in
     let back : drop (name_size field) field ≡ filling = rw (size, e) (drop-append_seam name filling) in
-    name_at-some (name_size field) field name front (rw back (replicate_filling (NAME_LENGTH - length name))) (name_read-ok name is)
+    name_at-some (name_size field) field name front (rw back (replicate_filling (NAME_LENGTH - length name)))
+    (name_read-ok name is)
 
 -- if nothing is read, there is no name
 pub holds_none : (field : List ℕ) → None ≡ name_seen field → HoldsNoName field
@@ -100,11 +107,13 @@ pub spelled_at : (size : ℕ) (field : List ℕ) → length field ≡ NAME_LENGT
 spelled_at size field long is filling =
     let back : drop size field ≡ replicate (NAME_LENGTH - length (take size field)) FILLING =
     filling_is (drop size field) filling
-    ∙ ap (λ (n : ℕ). replicate n FILLING) (let whole = take-append-drop size field in omega (arith, length-drop size field, length-take size field))
+    ∙ ap (λ (n : ℕ). replicate n FILLING) (let whole = take-append-drop size field in
+    omega (arith, length-drop size field, length-take size field))
     in
     record { is = is; spelled = sym (take-append-drop size field) ∙ ap (λ (b : List ℕ). take size field ++ b) back }
 
-name_at-none : (size : ℕ) (field : List ℕ) → name_read (take size field) ≢ Ok (take size field) → name_at size field ≡ None
+name_at-none : (size : ℕ) (field : List ℕ) → name_read (take size field) ≢ Ok (take size field)
+    → name_at size field ≡ None
 name_at-none size field refused =
     elim (cases_Bool (list_all (λ octet. octet == FILLING) (drop size field))) [
       | inr bad ↦ rw bad refl
@@ -114,7 +123,8 @@ name_at-none size field refused =
       ]
     ]
 
-at_spelled : (size : ℕ) (field name : List ℕ) → length field ≡ NAME_LENGTH → Some name ≡ name_at size field → Spelled field name
+at_spelled : (size : ℕ) (field name : List ℕ) → length field ≡ NAME_LENGTH → Some name ≡ name_at size field
+    → Spelled field name
 at_spelled size field name long seen =
     elim (cases_Bool (list_all (λ octet. octet == FILLING) (drop size field))) [
       | inr bad ↦ let none : name_at size field ≡ None = rw bad refl in absurd cc

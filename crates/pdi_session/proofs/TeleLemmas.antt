@@ -23,7 +23,13 @@ pub record Reads (t : Tele) (octets : List ℕ) : Type 0 where
   pub payload : t.payload ≡ drop MESSAGE_MIN octets
 
 pub length-filled : (name : List ℕ) → IsName name → length (fill_name name) ≡ NAME_LENGTH
-length-filled name is = omega (arith, is.1, length-append name (replicate (NAME_LENGTH - length name) FILLING), length-replicate (NAME_LENGTH - length name) FILLING)
+length-filled name is =
+    omega (
+      arith,
+      is.1,
+      length-append name (replicate (NAME_LENGTH - length name) FILLING),
+      length-replicate (NAME_LENGTH - length name) FILLING,
+    )
 
 first_octet : (xs : List ℕ) → 0 < length xs → Splits xs (slice_index xs 0 ∷ []) (drop 1 xs)
 first_octet [] some = absurd (omega arith)
@@ -33,7 +39,8 @@ cut_at : (place n : ℕ) (xs : List ℕ) → Splits (drop place xs) (take n (dro
 cut_at place n xs = record { parts = rw (← drop-drop n place xs) (sym (take-append-drop n (drop place xs))) }
 
 -- bytes read by places are the encoding of what was read
-pub tele_spelled : (t : Tele) (octets : List ℕ) → FitOctets octets → IsSized octets → Reads t octets → IsName t.sender → IsName t.receiver
+pub tele_spelled : (t : Tele) (octets : List ℕ) → FitOctets octets → IsSized octets → Reads t octets → IsName t.sender
+    → IsName t.receiver
     → TeleText t octets
 tele_spelled t octets fits sized reads sender receiver =
     let a = first_octet octets (omega (arith, sized.0)) in
@@ -63,12 +70,15 @@ text_reads t octets text =
     let r : List ℕ = fill_name t.receiver in
     let long-s : length s ≡ NAME_LENGTH = length-filled t.sender text.sender in
     let long-r : length r ≡ NAME_LENGTH = length-filled t.receiver text.receiver in
-    let behind-kind : drop SENDER octets ≡ s ++ (r ++ t.payload) = ap (drop 3) text.spelled ∙ append_assoc s r t.payload in
+    let behind-kind : drop SENDER octets ≡ s ++ (r ++ t.payload) = ap (drop 3) text.spelled
+    ∙ append_assoc s r t.payload in
     let behind-sender : drop RECEIVER octets ≡ r ++ t.payload =
-    sym (drop-drop NAME_LENGTH SENDER octets) ∙ rest_of NAME_LENGTH s (r ++ t.payload) (drop SENDER octets) behind-kind long-s
+    sym (drop-drop NAME_LENGTH SENDER octets)
+    ∙ rest_of NAME_LENGTH s (r ++ t.payload) (drop SENDER octets) behind-kind long-s
     in
     let behind-receiver : drop MESSAGE_MIN octets ≡ t.payload =
-    sym (drop-drop NAME_LENGTH RECEIVER octets) ∙ rest_of NAME_LENGTH r t.payload (drop RECEIVER octets) behind-sender long-r
+    sym (drop-drop NAME_LENGTH RECEIVER octets)
+    ∙ rest_of NAME_LENGTH r t.payload (drop RECEIVER octets) behind-sender long-r
     in
     record {
       protocol = sym (ap (λ (xs : List ℕ). slice_index xs 0) text.spelled);
@@ -82,21 +92,26 @@ made_of : ℕ → ℕ → List ℕ → List ℕ → List ℕ → Tele
 made_of protocol kind sender receiver payload =
     record { protocol = protocol; kind = kind; sender = sender; receiver = receiver; payload = payload }
 
-same_made : (p q : Tele) → p.protocol ≡ q.protocol → p.kind ≡ q.kind → p.sender ≡ q.sender → p.receiver ≡ q.receiver → p.payload ≡ q.payload
+same_made : (p q : Tele) → p.protocol ≡ q.protocol → p.kind ≡ q.kind → p.sender ≡ q.sender → p.receiver ≡ q.receiver
+    → p.payload ≡ q.payload
     → made_of p.protocol p.kind p.sender p.receiver p.payload ≡ made_of q.protocol q.kind q.sender q.receiver q.payload
 same_made p q protocol kind sender receiver payload = cc
 
-pub same_tele : (p q : Tele) → p.protocol ≡ q.protocol → p.kind ≡ q.kind → p.sender ≡ q.sender → p.receiver ≡ q.receiver → p.payload ≡ q.payload → p ≡ q
+pub same_tele : (p q : Tele) → p.protocol ≡ q.protocol → p.kind ≡ q.kind → p.sender ≡ q.sender → p.receiver ≡ q.receiver
+    → p.payload ≡ q.payload → p ≡ q
 unfolding made_of
 same_tele p q protocol kind sender receiver payload = same_made p q protocol kind sender receiver payload
 
 -- a name read at a place is the name encoded there
-same_name : (field read name : List ℕ) → Some read ≡ name_seen field → IsName name → field ≡ fill_name name → read ≡ name
+same_name : (field read name : List ℕ) → Some read ≡ name_seen field → IsName name → field ≡ fill_name name
+    → read ≡ name
 same_name field read name seen is spelled = let again = filled_seen name field is spelled in cc
 
 -- an encoding is read as its telegram
-pub tele_only : (p q : Tele) (octets : List ℕ) → TeleText q octets → p.protocol ≡ slice_index octets 0 → p.kind ≡ little_number 2 (drop KIND octets)
-    → Some p.sender ≡ name_seen (sender_field octets) → Some p.receiver ≡ name_seen (receiver_field octets) → p.payload ≡ drop MESSAGE_MIN octets → p ≡ q
+pub tele_only : (p q : Tele) (octets : List ℕ) → TeleText q octets → p.protocol ≡ slice_index octets 0
+    → p.kind ≡ little_number 2 (drop KIND octets)
+    → Some p.sender ≡ name_seen (sender_field octets) → Some p.receiver ≡ name_seen (receiver_field octets)
+    → p.payload ≡ drop MESSAGE_MIN octets → p ≡ q
 tele_only p q octets text protocol kind sender receiver payload =
     let reads = text_reads q octets text in
     same_tele p q (protocol ∙ sym reads.protocol) (kind ∙ sym reads.kind)
@@ -108,7 +123,8 @@ tele_only p q octets text protocol kind sender receiver payload =
 pub one_value : (p q : Tele) (octets : List ℕ) → TeleText p octets → TeleText q octets → p ≡ q
 one_value p q octets a b =
     let reads = text_reads p octets a in
-    tele_only p q octets b reads.protocol reads.kind (sym (filled_seen p.sender (sender_field octets) a.sender reads.sender))
+    tele_only p q octets b reads.protocol reads.kind
+    (sym (filled_seen p.sender (sender_field octets) a.sender reads.sender))
     (sym (filled_seen p.receiver (receiver_field octets) a.receiver reads.receiver)) reads.payload
 
 -- an encoding is read by its places
@@ -119,9 +135,21 @@ tele_read t octets text =
     let sender = filled_seen t.sender (sender_field octets) text.sender reads.sender in
     let receiver = filled_seen t.receiver (receiver_field octets) text.receiver reads.receiver in
     let long : MESSAGE_MIN ≤ length octets =
-    omega (arith, ap length reads.receiver, length-take NAME_LENGTH (drop RECEIVER octets), length-drop RECEIVER octets, length-filled t.receiver text.receiver)
+    omega (
+      arith,
+      ap length reads.receiver,
+      length-take NAME_LENGTH (drop RECEIVER octets),
+      length-drop RECEIVER octets,
+      length-filled t.receiver text.receiver,
+    )
     in
-    let short : length octets ≤ MESSAGE_MAX = omega (arith, long, text.payload, ap length reads.payload, length-drop MESSAGE_MIN octets) in
+    let short : length octets ≤ MESSAGE_MAX = omega (
+      arith,
+      long,
+      text.payload,
+      ap length reads.payload,
+      length-drop MESSAGE_MIN octets,
+    ) in
     rw (le-ltb (length octets) MESSAGE_MIN long, le-ltb MESSAGE_MAX (length octets) short, sender, receiver)
     (ap Ok
     (same_tele

@@ -8,7 +8,8 @@ use Rattle.octets.specs.declared.limits.TheConstants.{UNIT_MIN, UNIT_MAX}
 use Rattle.pdi_session.specs.packing.UnitText.{IsMessage, UnitText, unit_text, piece}
 
 -- by the number of messages
-unit-size : (ms : List (List ℕ)) → AllByRecursion IsMessage ms → (45 * length ms ≤ length (unit_text ms)) × (length (unit_text ms) ≤ 402 * length ms)
+unit-size : (ms : List (List ℕ)) → AllByRecursion IsMessage ms → (45 * length ms ≤ length (unit_text ms))
+    × (length (unit_text ms) ≤ 402 * length ms)
 unit-size [] h = (omega arith, omega arith)
 unit-size (m ∷ ms) h =
     let rest = unit-size ms h.1 in
@@ -18,7 +19,8 @@ unit-size (m ∷ ms) h =
     let f = length-append (little_bytes 2 (length m)) m in
     (omega (arith, rest.0, least, e, f), omega (arith, rest.1, most, e, f))
 
-pub unit-sized : (ms : List (List ℕ)) (octets : List ℕ) → UnitText ms octets → (UNIT_MIN ≤ length octets) × (length octets ≤ UNIT_MAX)
+pub unit-sized : (ms : List (List ℕ)) (octets : List ℕ) → UnitText ms octets → (UNIT_MIN ≤ length octets)
+    × (length octets ≤ UNIT_MAX)
 unit-sized ms octets t =
     let size = unit-size ms (recursion_from_All IsMessage ms t.sized) in
     let e = ap length t.spelled in

@@ -19,17 +19,27 @@ blank place old mid room written =
     let whole : List ℕ = take (place + NAME_LENGTH) mid in
     let long-old : length (take place old) ≡ place = omega (arith, length-take place old) in
     let long-mid : length (take place mid) ≡ place =
-    omega (arith, length-take place mid, length-take (place + NAME_LENGTH) mid, ap length written, length-append (take place old) filling, length-replicate NAME_LENGTH FILLING, long-old)
+    omega (
+      arith,
+      length-take place mid,
+      length-take (place + NAME_LENGTH) mid,
+      ap length written,
+      length-append (take place old) filling,
+      length-replicate NAME_LENGTH FILLING,
+      long-old,
+    )
     in
     record {
       front =
-          sym (front_of place (take place mid) (take NAME_LENGTH (drop place mid)) whole (take-add place NAME_LENGTH mid) long-mid)
+          sym (front_of place (take place mid) (take NAME_LENGTH (drop place mid)) whole
+          (take-add place NAME_LENGTH mid) long-mid)
           ∙ front_of place (take place old) filling whole written long-old;
       filling = sym (drop-take place NAME_LENGTH mid) ∙ rest_of place (take place old) filling whole written long-old;
     }
 
 -- filling follows the characters
-left_blank : (place n : ℕ) (mid : List ℕ) → n ≤ NAME_LENGTH → take NAME_LENGTH (drop place mid) ≡ replicate NAME_LENGTH FILLING
+left_blank : (place n : ℕ) (mid : List ℕ) → n ≤ NAME_LENGTH
+    → take NAME_LENGTH (drop place mid) ≡ replicate NAME_LENGTH FILLING
     → take (NAME_LENGTH - n) (drop (place + n) mid) ≡ replicate (NAME_LENGTH - n) FILLING
 left_blank place n mid short blank =
     let size : n + (NAME_LENGTH - n) ≡ NAME_LENGTH = omega arith in
@@ -41,7 +51,8 @@ left_blank place n mid short blank =
 
 pub named_front : (place : ℕ) (name old mid new : List ℕ) → IsName name → place + NAME_LENGTH ≤ length old
     → take (place + NAME_LENGTH) mid ≡ take place old ++ replicate NAME_LENGTH FILLING
-    → take (place + length name) new ≡ take place mid ++ name → drop (place + length name) new ≡ drop (place + length name) mid
+    → take (place + length name) new ≡ take place mid ++ name
+    → drop (place + length name) new ≡ drop (place + length name) mid
     → take (place + NAME_LENGTH) new ≡ take place old ++ fill_name name
 named_front place name old mid new is room written named rest =
     let under = blank place old mid room written in
@@ -49,6 +60,8 @@ named_front place name old mid new is room written named rest =
     let size : place + length name + left ≡ place + NAME_LENGTH = omega (arith, is.1) in
     ap (λ (n : ℕ). take n new) (sym size)
     ∙ take-add (place + length name) left new
-    ∙ ap (λ (front : List ℕ). front ++ take left (drop (place + length name) new)) (named ∙ ap (λ (front : List ℕ). front ++ name) under.front)
-    ∙ ap (λ (behind : List ℕ). (take place old ++ name) ++ behind) (ap (take left) rest ∙ left_blank place (length name) mid is.1 under.filling)
+    ∙ ap (λ (front : List ℕ). front ++ take left (drop (place + length name) new)) (named
+    ∙ ap (λ (front : List ℕ). front ++ name) under.front)
+    ∙ ap (λ (behind : List ℕ). (take place old ++ name) ++ behind) (ap (take left) rest
+    ∙ left_blank place (length name) mid is.1 under.filling)
     ∙ append_assoc (take place old) name (replicate left FILLING)

@@ -26,7 +26,15 @@ pub record History : Type 0 where
 -- the history of a new session
 abbrev pub new_history : Addressing → Role → History
 new_history addressing role =
-    record { state = new_session addressing role; phases = Idle ∷ []; queue = []; judged = []; put = []; taken = []; ended_in = None }
+    record {
+      state = new_session addressing role;
+      phases = Idle ∷ [];
+      queue = [];
+      judged = [];
+      put = [];
+      taken = [];
+      ended_in = None;
+    }
 
 -- the telegram that arrives with an event, if any
 abbrev pub handed_by : Event → List Tele
@@ -66,7 +74,8 @@ abbrev pub add_events : List Event → History → History
 add_events [] h = h
 add_events (e ∷ es) h = add_events es (add_event e h)
 
--- a session and its waiting messages fit a history: it has this state, and the waiting messages are the last ones of its queue
+-- a session and its waiting messages fit a history: it has this state, and the waiting messages are the last ones of
+-- its queue
 pub record StandsFor (s : SessionState) (waiting : List (List ℕ)) (h : History) : Type 0 where
   -- the state of the history is that of the session
   pub state : h.state ≡ s

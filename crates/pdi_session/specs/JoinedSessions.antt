@@ -33,7 +33,8 @@ abbrev pub apply_events : List PairEvent → SessionPair → SessionPair
 apply_events [] j = j
 apply_events (e ∷ es) j = apply_events es (apply_event e j)
 
--- a telegram that arrives is the next one of the peer's queue, and the session is not over; other events are always possible
+-- a telegram that arrives is the next one of the peer's queue, and the session is not over; other events are always
+-- possible
 abbrev pub IsNext : Event → History → History → Type 0
 IsNext (Arrives t) h peer = (is_ended h.state.phase ≡ false) × IsBeginning (h.judged ++ t ∷ []) peer.queue
 IsNext e h peer = ⊤
@@ -54,28 +55,36 @@ EndsEarly h peer = (phase : Phase) → h.ended_in ≡ Some phase → (is_early p
 
 -- two new sessions, an interlocking and a field element
 abbrev pub new_sessions : Addressing → ℕ → Addressing → List ℕ → List ℕ → SessionPair
-new_sessions il version fe versions checksum = record { il = new_history il (Interlocking version); fe = new_history fe (Field versions checksum) }
+new_sessions il version fe versions checksum =
+    record { il = new_history il (Interlocking version); fe = new_history fe (Field versions checksum) }
 
 -- this holds of both sessions
 abbrev pub EndEarly : SessionPair → Type 0
 EndEarly j = EndsEarly j.il j.fe × EndsEarly j.fe j.il
 
--- of two sessions in turn, a telegram ends one only before Initialising, and then its peer has put nothing; settings need not match
+-- of two sessions in turn, a telegram ends one only before Initialising, and then its peer has put nothing; settings
+-- need not match
 abbrev pub PhaseLaw : Type 0
-PhaseLaw = (il fe : Addressing) (version : ℕ) (versions checksum : List ℕ) → length checksum ≤ CHECKSUM_MAX → (es : List PairEvent)
-    → InTurn es (new_sessions il version fe versions checksum) → EndEarly (apply_events es (new_sessions il version fe versions checksum))
+PhaseLaw = (il fe : Addressing) (version : ℕ) (versions checksum : List ℕ) → length checksum ≤ CHECKSUM_MAX
+    → (es : List PairEvent)
+    → InTurn es (new_sessions il version fe versions checksum)
+    → EndEarly (apply_events es (new_sessions il version fe versions checksum))
 
 -- of two sessions in turn, what each application takes is a prefix of what the other has put
 abbrev pub TakesFrontLaw : Type 0
-TakesFrontLaw = (il fe : Addressing) (version : ℕ) (versions checksum : List ℕ) → length checksum ≤ CHECKSUM_MAX → (es : List PairEvent)
-    → InTurn es (new_sessions il version fe versions checksum) → let end = apply_events es (new_sessions il version fe versions checksum) in
+TakesFrontLaw = (il fe : Addressing) (version : ℕ) (versions checksum : List ℕ) → length checksum ≤ CHECKSUM_MAX
+    → (es : List PairEvent)
+    → InTurn es (new_sessions il version fe versions checksum) → let end =
+    apply_events es (new_sessions il version fe versions checksum) in
     IsBeginning end.il.taken end.fe.put × IsBeginning end.fe.taken end.il.put
 
 -- an event appended to a list extends the history by it; sessions in turn stay in turn if it is the next one
 abbrev pub OneMoreLaw : Type 0
 OneMoreLaw = ((es : List Event) (e : Event) (h : History) → add_events (es ++ e ∷ []) h ≡ add_event e (add_events es h))
-    × ((es : List PairEvent) (e : PairEvent) (j : SessionPair) → apply_events (es ++ e ∷ []) j ≡ apply_event e (apply_events es j))
-    × ((es : List PairEvent) (e : PairEvent) (j : SessionPair) → InTurn es j → IsNextAt e (apply_events es j) → InTurn (es ++ e ∷ []) j)
+    × ((es : List PairEvent) (e : PairEvent) (j : SessionPair)
+    → apply_events (es ++ e ∷ []) j ≡ apply_event e (apply_events es j))
+    × ((es : List PairEvent) (e : PairEvent) (j : SessionPair) → InTurn es j → IsNextAt e (apply_events es j)
+    → InTurn (es ++ e ∷ []) j)
 
 -- the settings of two sessions match: protocol type, names, and a version that the field element has
 pub record Fits (il : Addressing) (version : ℕ) (fe : Addressing) (versions : List ℕ) : Type 0 where
@@ -90,8 +99,10 @@ pub record Fits (il : Addressing) (version : ℕ) (fe : Addressing) (versions : 
 
 -- if the settings match, no telegram ends either session, except one that reaches the field element while it is Idle
 abbrev pub MatchingLaw : Type 0
-MatchingLaw = (il fe : Addressing) (version : ℕ) (versions checksum : List ℕ) → length checksum ≤ CHECKSUM_MAX → Fits il version fe versions → (es : List PairEvent)
-    → InTurn es (new_sessions il version fe versions checksum) → let end = apply_events es (new_sessions il version fe versions checksum) in
+MatchingLaw = (il fe : Addressing) (version : ℕ) (versions checksum : List ℕ) → length checksum ≤ CHECKSUM_MAX
+    → Fits il version fe versions → (es : List PairEvent)
+    → InTurn es (new_sessions il version fe versions checksum) → let end =
+    apply_events es (new_sessions il version fe versions checksum) in
     (end.il.ended_in ≡ None) × ((phase : Phase) → end.fe.ended_in ≡ Some phase → phase ≡ Idle)
 
 -- both are Initialising, or both are Established; the latter if the field element was Established before
@@ -109,6 +120,9 @@ pub record IsRunning (h : History) : Type 0 where
 
 -- two sessions in turn that run and have judged all of each other's queue are in step
 abbrev pub InStepLaw : Type 0
-InStepLaw = (il fe : Addressing) (version : ℕ) (versions checksum : List ℕ) → length checksum ≤ CHECKSUM_MAX → (es : List PairEvent)
-    → InTurn es (new_sessions il version fe versions checksum) → let end = apply_events es (new_sessions il version fe versions checksum) in
-    IsRunning end.il → IsRunning end.fe → end.il.judged ≡ end.fe.queue → end.fe.judged ≡ end.il.queue → AreInStep end.il end.fe
+InStepLaw = (il fe : Addressing) (version : ℕ) (versions checksum : List ℕ) → length checksum ≤ CHECKSUM_MAX
+    → (es : List PairEvent)
+    → InTurn es (new_sessions il version fe versions checksum) → let end =
+    apply_events es (new_sessions il version fe versions checksum) in
+    IsRunning end.il → IsRunning end.fe → end.il.judged ≡ end.fe.queue → end.fe.judged ≡ end.il.queue
+    → AreInStep end.il end.fe

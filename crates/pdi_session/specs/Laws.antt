@@ -29,7 +29,8 @@ pub record HasMessage (t : Tele) : Type 0 where
 
 -- a telegram that is taken is not of the establishment, and is taken with its message type and payload
 abbrev pub TakesLaw : Type 0
-TakesLaw = (s : SessionState) (t : Tele) → taken_by (Arrives t) s ≢ [] → (is_reserved t.kind ≡ false) × (taken_by (Arrives t) s ≡ item_of t ∷ [])
+TakesLaw = (s : SessionState) (t : Tele) → taken_by (Arrives t) s ≢ [] → (is_reserved t.kind ≡ false)
+    × (taken_by (Arrives t) s ≡ item_of t ∷ [])
 
 -- if the session goes on without taking a telegram, that telegram is of the establishment, and so is any reply
 abbrev pub GoesLaw : Type 0
@@ -53,9 +54,11 @@ HasKind e = ⊤
 
 -- if the settings are in range, each message that an event adds has 43 to 400 bytes and is read as its telegram
 abbrev pub MessageLaw : Type 0
-MessageLaw = (s : SessionState) (e : Event) → AreSettings s.addressing s.role → HasKind e → AllByRecursion HasMessage (added_by e s)
+MessageLaw = (s : SessionState) (e : Event) → AreSettings s.addressing s.role → HasKind e
+    → AllByRecursion HasMessage (added_by e s)
 
--- the bound on waiting messages holds for a new session while nothing waits, gives the room that calls require, and stays when messages leave
+-- the bound on waiting messages holds for a new session while nothing waits, gives the room that calls require, and
+-- stays when messages leave
 abbrev pub RoomLaw : Type 0
 RoomLaw = ((addressing : Addressing) (role : Role) → FewWait (new_session addressing role) [])
     × ((s : SessionState) (waiting : List (List ℕ)) → FewWait s waiting → HasRoom s waiting)
@@ -63,7 +66,8 @@ RoomLaw = ((addressing : Addressing) (role : Role) → FewWait (new_session addr
 
 -- if a call leaves the state and appends the messages of an event, they fit the history with that event appended
 abbrev pub StandsLaw : Type 0
-StandsLaw = (e : Event) (s left : SessionState) (old new : List (List ℕ)) (h : History) → left ≡ after e s → new ≡ old ++ texts (added_by e s)
+StandsLaw = (e : Event) (s left : SessionState) (old new : List (List ℕ)) (h : History) → left ≡ after e s
+    → new ≡ old ++ texts (added_by e s)
     → StandsFor s old h → StandsFor left new (add_event e h)
 
 -- the commands or status among telegrams
@@ -73,12 +77,14 @@ items_of (t ∷ ts) = if is_reserved t.kind then items_of ts else item_of t ∷ 
 
 -- what is taken is a prefix of the commands or status judged, and all of them while the session is not over
 abbrev pub TakenLaw : Type 0
-TakenLaw = (addressing : Addressing) (role : Role) (es : List Event) → let h = add_events es (new_history addressing role) in
+TakenLaw = (addressing : Addressing) (role : Role) (es : List Event) → let h =
+    add_events es (new_history addressing role) in
     IsBeginning h.taken (items_of h.judged) × (is_ended h.state.phase ≡ false → h.taken ≡ items_of h.judged)
 
 -- the commands or status in the queue are exactly those that were put, in order
 abbrev pub QueueLaw : Type 0
-QueueLaw = (addressing : Addressing) (role : Role) (es : List Event) → let h = add_events es (new_history addressing role) in
+QueueLaw = (addressing : Addressing) (role : Role) (es : List Event) → let h =
+    add_events es (new_history addressing role) in
     items_of h.queue ≡ h.put
 
 -- a command or status from this session to its peer
@@ -95,13 +101,15 @@ abbrev pub was_established : List Phase → Bool
 was_established [] = false
 was_established (phase ∷ phases) = if is_established phase then true else was_established phases
 
--- an interlocking's queue is empty, its version check, or that, the request and then commands; there are commands only if it was Established
+-- an interlocking's queue is empty, its version check, or that, the request and then commands; there are commands only
+-- if it was Established
 abbrev pub IsInterlockingQueue : ℕ → History → Type 0
 IsInterlockingQueue version h =
     (h.queue ≡ [])
     ⊎ (h.queue ≡ notice_tele h.state (notice.VersionCheck version) ∷ [])
     ⊎ ((commands : List Tele)
-    × (h.queue ≡ notice_tele h.state (notice.VersionCheck version) ∷ notice_tele h.state notice.InitialisationRequest ∷ commands)
+    × (h.queue ≡ notice_tele h.state (notice.VersionCheck version) ∷ notice_tele h.state notice.InitialisationRequest ∷
+    commands)
     × AllByRecursion (IsItem h.state) commands × (commands ≢ [] → was_established h.phases ≡ true))
 
 -- every list of events leads an interlocking to such a queue
@@ -118,15 +126,16 @@ completions (t ∷ ts) = if t.kind == INITIALISATION_COMPLETED then completions 
 abbrev pub IsStatus : SessionState → Tele → Type 0
 IsStatus s t = IsItem s t ⊎ (t ≡ notice_tele s notice.InitialisationCompleted)
 
--- a field element's queue is empty, one reply (different or equal versions), or that of equal versions, the start, and then status with at most one
--- InitialisationCompleted
+-- a field element's queue is empty, one reply (different or equal versions), or that of equal versions, the start, and
+-- then status with at most one InitialisationCompleted
 abbrev pub IsFieldQueue : History → Type 0
 IsFieldQueue h =
     (h.queue ≡ [])
     ⊎ ((version : ℕ) × (h.queue ≡ notice_tele h.state (notice.VersionDiffers version) ∷ []))
     ⊎ ((version : ℕ) × (h.queue ≡ notice_tele h.state (notice.VersionEqual version) ∷ []))
     ⊎ ((version : ℕ) × (status : List Tele)
-    × (h.queue ≡ notice_tele h.state (notice.VersionEqual version) ∷ notice_tele h.state notice.StartInitialisation ∷ status)
+    × (h.queue ≡ notice_tele h.state (notice.VersionEqual version) ∷ notice_tele h.state notice.StartInitialisation ∷
+    status)
     × AllByRecursion (IsStatus h.state) status × (completions status ≤ 1))
 
 -- every list of events leads a field element to such a queue
@@ -136,13 +145,16 @@ FieldLaw = (addressing : Addressing) (versions checksum : List ℕ) (es : List E
 
 -- a session that a telegram ends before Initialising has put nothing
 abbrev pub OwnEarlyLaw : Type 0
-OwnEarlyLaw = (addressing : Addressing) (role : Role) (es : List Event) → let h = add_events es (new_history addressing role) in
+OwnEarlyLaw = (addressing : Addressing) (role : Role) (es : List Event) → let h =
+    add_events es (new_history addressing role) in
     (phase : Phase) → h.ended_in ≡ Some phase → is_early phase ≡ true → h.put ≡ []
 
 -- a session becomes Ended only by a telegram that ends it, or by a closing
 abbrev pub OverLaw : Type 0
-OverLaw = (e : Event) (s : SessionState) → is_ended s.phase ≡ false → ends_by e s ≡ false → e ≢ Closes → is_ended (phase_after e s) ≡ false
+OverLaw = (e : Event) (s : SessionState) → is_ended s.phase ≡ false → ends_by e s ≡ false → e ≢ Closes
+    → is_ended (phase_after e s) ≡ false
 
 -- after `Up` a session is not Idle, and no event leads back to Idle
 abbrev pub BegunLaw : Type 0
-BegunLaw = ((s : SessionState) → phase_after Up s ≢ Idle) × ((e : Event) (s : SessionState) → s.phase ≢ Idle → phase_after e s ≢ Idle)
+BegunLaw = ((s : SessionState) → phase_after Up s ≢ Idle)
+    × ((e : Event) (s : SessionState) → s.phase ≢ Idle → phase_after e s ≢ Idle)

@@ -5,8 +5,10 @@ use Rattle.pdi_session.specs.declared.TheConstants.{CHECKSUM_MAX, DIFFERENT, EQU
 -- the five message types of the establishment, in decimal
 abbrev pub KindsAre : Type 0
 KindsAre =
-    (VERSION_CHECK ≡ 36) × (VERSION_ANSWER ≡ 37) × (INITIALISATION_REQUEST ≡ 33) × (START_INITIALISATION ≡ 34) × (INITIALISATION_COMPLETED ≡ 35)
+    (VERSION_CHECK ≡ 36) × (VERSION_ANSWER ≡ 37) × (INITIALISATION_REQUEST ≡ 33) × (START_INITIALISATION ≡ 34)
+    × (INITIALISATION_COMPLETED ≡ 35)
 
--- the two results of a version check, the most versions of a field element, and the greatest checksum: that of a complete MD4 digest, 16 bytes
+-- the two results of a version check, the most versions of a field element, and the greatest checksum: that of a
+-- complete MD4 digest, 16 bytes
 abbrev pub SizesAre : Type 0
 SizesAre = (DIFFERENT ≡ 1) × (EQUAL ≡ 2) × (VERSIONS_MAX ≡ 4) × (CHECKSUM_MAX ≡ 16)

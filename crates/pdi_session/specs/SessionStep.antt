@@ -41,7 +41,8 @@ Item = ℕ × List ℕ
 abbrev pub item_of : Tele → Item
 item_of t = (t.kind, t.payload)
 
--- an event of a session; `waits` is the number of waiting messages, since a refusal depends on it and histories do not know it
+-- an event of a session; `waits` is the number of waiting messages, since a refusal depends on it and histories do not
+-- know it
 pub data Event : Type 0 where
   Up : Event
   Arrives : (telegram : Tele) → Event
@@ -51,7 +52,8 @@ pub data Event : Type 0 where
 
 -- the decision on a telegram: protocol type and names are compared before the phase
 abbrev pub judge_telegram : SessionState → Tele → Verdict
-judge_telegram s t = if is_addressed s.addressing t then table s.role s.phase (form_of t.kind t.payload) else Ends detail.NotOfThisPair
+judge_telegram s t =
+    if is_addressed s.addressing t then table s.role s.phase (form_of t.kind t.payload) else Ends detail.NotOfThisPair
 
 -- the first reason to refuse a put, if any
 abbrev pub put_refusal : SessionState → ℕ → List ℕ → ℕ → Option PutFault
@@ -119,7 +121,8 @@ after e s = with_phase (phase_after e s) s
 abbrev pub added_by : Event → SessionState → List Tele
 added_by Up s = sent_by s (at_up s.role s.phase)
 added_by (Arrives t) s = sent_by s (judge_telegram s t)
-added_by (Puts kind payload waits) s = if is_none (put_refusal s kind payload waits) then telegram s.addressing kind payload ∷ [] else []
+added_by (Puts kind payload waits) s =
+    if is_none (put_refusal s kind payload waits) then telegram s.addressing kind payload ∷ [] else []
 added_by (InitDone waits) s = if is_none (init_refusal s waits) then sent_by s at_init_done else []
 added_by Closes s = []
 

@@ -28,7 +28,8 @@ abbrev pub field_table : List ℕ → Phase → Form → Verdict
 field_table versions AwaitCheck (Notifies (notice.VersionCheck version)) =
     if list_any (λ v. v == version) versions then Answers AwaitRequest (notice.VersionEqual version)
     else Answers Refused (notice.VersionDiffers (first_version versions))
-field_table versions AwaitRequest (Notifies notice.InitialisationRequest) = Answers Initialising notice.StartInitialisation
+field_table versions AwaitRequest (Notifies notice.InitialisationRequest) =
+    Answers Initialising notice.StartInitialisation
 field_table versions Established Item = Takes
 field_table versions phase form = Ends detail.OutOfOrder
 

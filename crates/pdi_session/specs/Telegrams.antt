@@ -9,7 +9,8 @@ use Rattle.pdi_session.specs.declared.Form.{Form}
 use Rattle.pdi_session.specs.declared.Form.TheVariants.{Notifies, Item, OtherPayload}
 use Rattle.pdi_session.specs.Settings.{Addressing}
 
--- the five message types of the establishment; all others are commands of the interlocking or status of the field element
+-- the five message types of the establishment; all others are commands of the interlocking or status of the field
+-- element
 abbrev pub is_reserved : ℕ → Bool
 is_reserved kind =
     kind == VERSION_CHECK || kind == VERSION_ANSWER || kind == INITIALISATION_REQUEST || kind == START_INITIALISATION || kind == INITIALISATION_COMPLETED
@@ -67,7 +68,8 @@ form_of kind payload =
 
 -- a telegram from this end to its peer
 abbrev pub telegram : Addressing → ℕ → List ℕ → Tele
-telegram a kind payload = record { protocol = a.protocol; kind = kind; sender = a.own; receiver = a.peer; payload = payload }
+telegram a kind payload =
+    record { protocol = a.protocol; kind = kind; sender = a.own; receiver = a.peer; payload = payload }
 
 -- a telegram has the protocol type of the session, is from the peer and for this end
 abbrev pub is_addressed : Addressing → Tele → Bool

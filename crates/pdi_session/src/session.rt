@@ -210,13 +210,13 @@ impl Session {
     /// Decodes a message that has the names of the peer and of this end. Returns `None` if it has other names, or
     /// is too short or too long.
     #[inline(always)]
-    pub fn known<'a>(&self, message: &'a [u8]) -> Option<Telegram<'a>>
-        // A telegram that `known` returns is the one read from the message field by field (`tele_seen`).
+    pub fn decode_known<'a>(&self, message: &'a [u8]) -> Option<Telegram<'a>>
+        // A telegram that `decode_known` returns is the one read from the message field by field (`tele_seen`).
         ensures exact { IfSome result (λ t. tele_seen message.now ≡ Ok (tele_of t)) }
-        // A telegram that `known` returns has the peer as sender and this end as receiver.
+        // A telegram that `decode_known` returns has the peer as sender and this end as receiver.
         ensures named { IfSome result (λ t. IsNamed self.now.addressing (tele_of t)) }
     {
-        self.names.known(message)
+        self.names.decode_known(message)
     }
 
     /// Processes a telegram as `arrive` does. The caller has it from `known`, so the names are not compared again.

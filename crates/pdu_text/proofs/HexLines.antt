@@ -7,14 +7,16 @@ use Rattle.hex.specs.Hex.{encode_lower, encode_with}
 use Rattle.pdu_text.specs.Lines.{octet_text}
 
 -- the digits from the i-th byte on are its own and those of the later ones
-pub hex_first : (i : ℕ) (xs : List ℕ) → i < length xs → encode_lower (drop i xs) ≡ octet_text (get_or xs i 0) ++ encode_lower (drop (i + 1) xs)
+pub hex_first : (i : ℕ) (xs : List ℕ) → i < length xs
+    → encode_lower (drop i xs) ≡ octet_text (get_or xs i 0) ++ encode_lower (drop (i + 1) xs)
 unfolding encode_with
 hex_first i xs inner =
     let later : i + 1 ≡ suc i = omega arith in
     rw (later, drop-cons xs i 0 inner) refl
 
 -- a byte was written, and then the bytes after it
-pub hex_left : (i : ℕ) (xs : List ℕ) (a b end : Option (List ℕ)) → i < length xs → Appends a b (octet_text (get_or xs i 0))
+pub hex_left : (i : ℕ) (xs : List ℕ) (a b end : Option (List ℕ)) → i < length xs
+    → Appends a b (octet_text (get_or xs i 0))
     → Appends b end (encode_lower (drop (i + 1) xs)) → Appends a end (encode_lower (drop i xs))
 hex_left i xs a b end inner first behind = rw (hex_first i xs inner) (Appends-trans a b end _ _ first behind)
 

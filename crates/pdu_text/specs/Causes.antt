@@ -25,7 +25,8 @@ event_text (event.Fault why) = codes "it is not a redundancy PDU: damage, or not
 abbrev pub fault_text : SafeFault → List ℕ
 fault_text fault.Short = codes "it is too short for a safety PDU: another length of code, or damage"
 fault_text fault.Length = codes "its length differs from its length field: another length of code, or damage"
-fault_text fault.Code = codes "its safety code is not that of these settings: another code or initial value (iv), or damage"
+fault_text fault.Code =
+    codes "its safety code is not that of these settings: another code or initial value (iv), or damage"
 fault_text fault.BadType = codes "its type is unknown"
 fault_text fault.Body = codes "its body does not fit its type"
 
@@ -39,7 +40,8 @@ part_text cause.Request = codes "it is not the requested retransmission"
 part_text cause.Answered = codes "a retransmission request that was already answered"
 part_text cause.Below = codes "a retransmission request that confirms less than an earlier PDU"
 
--- the words for a PDU of other ends, with the identifiers of its sender and receiver, and those of the peer and this end
+-- the words for a PDU of other ends, with the identifiers of its sender and receiver, and those of the peer and this
+-- end
 unfoldable pub stranger_text : (sender receiver peer_id id : ℕ) → List ℕ
 stranger_text sender receiver peer_id id =
     join_pieces

@@ -37,4 +37,5 @@ leaving_words reason detail =
 -- a front that says who disconnected, reason and detail in decimal, and their words
 unfoldable pub leaving_text : List ℕ → Leaving → List ℕ
 leaving_text front l =
-    join_pieces (front ∷ codes "reason " ∷ decimal l.reason ∷ codes " detail " ∷ decimal l.detail ∷ leaving_words l.reason l.detail ∷ [])
+    join_pieces (front ∷ codes "reason " ∷ decimal l.reason ∷ codes " detail " ∷ decimal l.detail ∷
+    leaving_words l.reason l.detail ∷ [])

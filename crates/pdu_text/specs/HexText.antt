@@ -14,7 +14,8 @@ octets_of (c ∷ cs) = result_ok (decode_of (c ∷ cs))
 -- the four words of an initial value, in the order of its bytes
 abbrev pub words_of : List ℕ → List ℕ
 words_of octets =
-    little_number 4 octets ∷ little_number 4 (drop 4 octets) ∷ little_number 4 (drop 8 octets) ∷ little_number 4 (drop 12 octets) ∷ []
+    little_number 4 octets ∷ little_number 4 (drop 4 octets) ∷ little_number 4 (drop 8 octets) ∷
+    little_number 4 (drop 12 octets) ∷ []
 
 -- the initial value in a text of 32 hex digits, and that of RFC 1320 if no text is given
 abbrev pub initial_value_of : Option (List ℕ) → Option (List ℕ)

@@ -23,7 +23,8 @@ last_text (Some cause) = cause_text cause
 
 -- how many datagrams came, none of them the peer's
 unfoldable pub datagram_count_text : ℕ → List ℕ
-datagram_count_text came = join_pieces (codes "; none of " ∷ decimal came ∷ codes " datagrams was the peer's, the last one: " ∷ [])
+datagram_count_text came =
+    join_pieces (codes "; none of " ∷ decimal came ∷ codes " datagrams was the peer's, the last one: " ∷ [])
 
 -- how many datagrams came, and why the last one was dropped
 unfoldable pub untaken_text : ℕ → Option Cause → List ℕ
@@ -32,7 +33,8 @@ untaken_text came last = datagram_count_text came ++ last_text last
 -- what came, if nothing of it was the peer's
 abbrev pub strangers_text : ℕ → ℕ → Option Cause → List ℕ
 strangers_text came taken last =
-    if nat_eq came 0 then codes "; nothing received on any channel: is the peer running, and do local and remote match its settings?"
+    if nat_eq came 0
+    then codes "; nothing received on any channel: is the peer running, and do local and remote match its settings?"
     else if nat_eq taken 0 then untaken_text came last
     else []
 
@@ -42,4 +44,5 @@ state_and_phase_text e = join_pieces (codes "ends " ∷ state_name e.state ∷ c
 
 -- the text of the last line: state and phase, who disconnected, and what came
 unfoldable pub final_state_text : FinalState → List ℕ
-final_state_text e = join_pieces (state_and_phase_text e ∷ departure_text e.departure ∷ strangers_text e.came e.taken e.last ∷ [])
+final_state_text e =
+    join_pieces (state_and_phase_text e ∷ departure_text e.departure ∷ strangers_text e.came e.taken e.last ∷ [])

@@ -19,4 +19,5 @@ octets_text (octet ∷ octets) = encode_lower (octet ∷ octets)
 
 -- LAYER fault NUMBER NAME
 abbrev pub fault_line : List ℕ → ℕ → List ℕ → List ℕ
-fault_line layer number name = join_pieces (layer ∷ codes " fault " ∷ decimal number ∷ codes " " ∷ name ∷ codes "\n" ∷ [])
+fault_line layer number name =
+    join_pieces (layer ∷ codes " fault " ∷ decimal number ∷ codes " " ∷ name ∷ codes "\n" ∷ [])

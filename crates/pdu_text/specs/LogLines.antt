@@ -32,7 +32,8 @@ not_ended_text name = join_pieces (codes "end of initialisation not accepted: " 
 
 -- nothing came on this channel for longer than T_max
 unfoldable pub silent_text : ℕ → List ℕ
-silent_text channel = join_pieces (codes "channel " ∷ decimal channel ∷ codes " is silent: nothing received for longer than T_max" ∷ [])
+silent_text channel =
+    join_pieces (codes "channel " ∷ decimal channel ∷ codes " is silent: nothing received for longer than T_max" ∷ [])
 
 -- something came on this channel again
 unfoldable pub recovered_text : ℕ → List ℕ
@@ -72,4 +73,5 @@ channel_text channel local remote =
 
 -- how many lines were left out of the log
 unfoldable pub missing_lines_text : ℕ → List ℕ
-missing_lines_text count = join_pieces (codes "log: " ∷ decimal count ∷ codes " lines left out, too many events in one turn" ∷ [])
+missing_lines_text count =
+    join_pieces (codes "log: " ∷ decimal count ∷ codes " lines left out, too many events in one turn" ∷ [])

@@ -29,7 +29,8 @@ hex_field label octets = label ++ encode_lower octets
 -- message NUMBER protocol HEX type HEX
 abbrev pub telegram_head : ℕ → Tele → List ℕ
 telegram_head number t =
-    join_pieces (message_label number ∷ hex_field (codes " protocol ") (t.protocol ∷ []) ∷ hex_field (codes " type ") (to_be_bytes w16 t.kind) ∷ [])
+    join_pieces (message_label number ∷ hex_field (codes " protocol ") (t.protocol ∷ []) ∷
+    hex_field (codes " type ") (to_be_bytes w16 t.kind) ∷ [])
 
 -- the line of a telegram: head, names, and the payload in hex digits
 abbrev pub telegram_line : ℕ → Tele → List ℕ
@@ -44,7 +45,8 @@ message_line number (Err f) = fault_line (message_label number) (telegram_number
 -- the lines of messages, the first with this number
 unfoldable pub message_lines : ℕ → List (List ℕ) → List ℕ
 message_lines number [] = []
-message_lines number (message ∷ messages) = message_line number (tele_seen message) ++ message_lines (number + 1) messages
+message_lines number (message ∷ messages) =
+    message_line number (tele_seen message) ++ message_lines (number + 1) messages
 
 -- the lines of an unpacked unit, or of its fault
 abbrev pub unit_text : Result (List (List ℕ)) PackFault → List ℕ

@@ -11,7 +11,8 @@ use Rattle.pdu_text.specs.declared.reports.EndReport.{EndReport}
 -- END takes TYPE HEX
 abbrev pub take_line : Side → ℕ → List ℕ → List ℕ
 take_line side kind payload =
-    join_pieces (side_name side ∷ codes " takes " ∷ encode_lower (to_be_bytes w16 kind) ∷ codes " " ∷ octets_text payload ∷ codes "\n" ∷ [])
+    join_pieces (side_name side ∷ codes " takes " ∷ encode_lower (to_be_bytes w16 kind) ∷ codes " " ∷
+    octets_text payload ∷ codes "\n" ∷ [])
 
 -- refused NAME
 abbrev pub refusal_line : List ℕ → List ℕ
@@ -21,7 +22,8 @@ refusal_line name = join_pieces (codes "refused " ∷ name ∷ codes "\n" ∷ []
 abbrev pub state_line : List ℕ → EndReport → List ℕ
 state_line side s =
     join_pieces
-    (side ∷ codes " " ∷ state_name s.state ∷ codes " " ∷ phase_name s.phase ∷ codes " put " ∷ decimal s.put ∷ codes " taken " ∷ decimal s.taken
+    (side ∷ codes " " ∷ state_name s.state ∷ codes " " ∷ phase_name s.phase ∷ codes " put " ∷ decimal s.put ∷
+    codes " taken " ∷ decimal s.taken
     ∷ codes "\n" ∷ [])
 
 -- END none

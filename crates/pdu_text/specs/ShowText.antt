@@ -23,16 +23,19 @@ red_line size seq = join_pieces (codes "red length " ∷ decimal size ∷ codes 
 abbrev pub fields_text : Pdu → List ℕ
 fields_text p =
     join_pieces
-    (kind_name p.kind ∷ codes " receiver " ∷ decimal p.receiver ∷ codes " sender " ∷ decimal p.sender ∷ codes " sn " ∷ decimal p.sn
+    (kind_name p.kind ∷ codes " receiver " ∷ decimal p.receiver ∷ codes " sender " ∷ decimal p.sender ∷ codes " sn " ∷
+    decimal p.sn
     ∷ codes " cs " ∷ decimal p.cs ∷ codes " ts " ∷ decimal p.ts ∷ codes " cts " ∷ decimal p.cts ∷ [])
 
 -- the content of the body of a ConnReq or ConnResp: version and N_sendmax
 abbrev pub opening_text : List ℕ → List ℕ
-opening_text body = join_pieces (codes " version " ∷ version_of body ∷ codes " nsendmax " ∷ decimal (window_of body) ∷ [])
+opening_text body =
+    join_pieces (codes " version " ∷ version_of body ∷ codes " nsendmax " ∷ decimal (window_of body) ∷ [])
 
 -- the content of the body of a DiscReq: detail and reason
 abbrev pub leaving_text : List ℕ → List ℕ
-leaving_text body = join_pieces (codes " detail " ∷ decimal (detail_of body) ∷ codes " reason " ∷ decimal (reason_of body) ∷ [])
+leaving_text body =
+    join_pieces (codes " detail " ∷ decimal (detail_of body) ∷ codes " reason " ∷ decimal (reason_of body) ∷ [])
 
 -- the content of a body, on the line of its PDU; empty for the other PDU types
 abbrev pub body_text : Kind → List ℕ → List ℕ

@@ -14,9 +14,12 @@ text_first X f i xs d inner =
 
 -- the text of an element was written, and then those of the elements after it
 pub texts_left : (X : Type 0) (f : X → List ℕ) (i : ℕ) (xs : List X) (d : X) (a b end : Option (List ℕ)) → i < length xs
-    → Appends a b (f (get_or xs i d)) → Appends b end (flat_map f (drop (i + 1) xs)) → Appends a end (flat_map f (drop i xs))
-texts_left X f i xs d a b end inner first behind = rw (text_first X f i xs d inner) (Appends-trans a b end _ _ first behind)
+    → Appends a b (f (get_or xs i d)) → Appends b end (flat_map f (drop (i + 1) xs))
+    → Appends a end (flat_map f (drop i xs))
+texts_left X f i xs d a b end inner first behind =
+    rw (text_first X f i xs d inner) (Appends-trans a b end _ _ first behind)
 
 -- after the last element nothing is left to write
-pub texts_end : (X : Type 0) (f : X → List ℕ) (i : ℕ) (xs : List X) (a : Option (List ℕ)) → length xs ≤ i → Appends a a (flat_map f (drop i xs))
+pub texts_end : (X : Type 0) (f : X → List ℕ) (i : ℕ) (xs : List X) (a : Option (List ℕ)) → length xs ≤ i
+    → Appends a a (flat_map f (drop i xs))
 texts_end X f i xs a over = let none : drop i xs ≡ [] = drop_all i xs over in rw none (Appends-nil a)

@@ -32,11 +32,14 @@ one-more R before left rest x s t u n h split step = (
 )
 
 -- the end is full for the next telegram, and nothing has changed
-pub stops : {C A T : Type 0} (told : C → ChannelHistory) (refuses : T → List ℕ → T → Type 0) (now : ℕ) (before left after rest : List Telegram) (p : Telegram)
+pub stops : {C A T : Type 0} (told : C → ChannelHistory) (refuses : T → List ℕ → T
+    → Type 0) (now : ℕ) (before left after rest : List Telegram) (p : Telegram)
     (s : PutState C A T) (v w : EndValue C A) (n m : ℕ) (x y : T) (r q : ℕ) (done : List Telegram)
-    → before ≡ done ++ left → FoldsTo (PutsTelegram told refuses now) s done (v, n, x, r) → left ≡ p ∷ rest → AnswersTelegram v p (Some Full)
+    → before ≡ done ++ left → FoldsTo (PutsTelegram told refuses now) s done (v, n, x, r) → left ≡ p ∷ rest
+    → AnswersTelegram v p (Some Full)
     → after ≡ left → w ≡ v → m ≡ n → y ≡ x → q ≡ r → PutsBeginning told refuses now before s after (w, m, y, q)
-stops told refuses now before left after rest p s v w n m x y r q done e along split full same-left same-end same-count same-app same-refused =
+stops told refuses now before left after rest p s v w n m x y r q done e along split full same-left same-end same-count
+    same-app same-refused =
     let base : PutsBeginning told refuses now before s left (v, n, x, r) =
     (done, e, along, subst (λ l. IsFullFor v l) (sym split) full) in
     subst (λ l. PutsBeginning told refuses now before s l (w, m, y, q)) (sym same-left)
@@ -46,64 +49,112 @@ stops told refuses now before left after rest p s v w n m x y r q done e along s
     (subst (λ z. PutsBeginning told refuses now before s left (v, n, x, z)) (sym same-refused) base))))
 
 -- one more line was taken
-pub line-more : {C A T : Type 0} (told : C → ChannelHistory) (refuses : T → List ℕ → T → Type 0) (now : ℕ) (ended : Bool) (n : ℕ) (s mid t : EndWithInput C A T)
-    → TakesLines told refuses now ended n s mid → TakesLine told refuses now ended mid true t → TakesLines told refuses now ended (n + 1) s t
-line-more told refuses now ended n s mid t h step = subst (λ k. TakesLines told refuses now ended k s t) (sym (add-one n)) (mid, h, step)
+pub line-more : {C A T : Type 0} (told : C → ChannelHistory) (refuses : T → List ℕ → T
+    → Type 0) (now : ℕ) (ended : Bool) (n : ℕ) (s mid t : EndWithInput C A T)
+    → TakesLines told refuses now ended n s mid → TakesLine told refuses now ended mid true t
+    → TakesLines told refuses now ended (n + 1) s t
+line-more told refuses now ended n s mid t h step =
+    subst (λ k. TakesLines told refuses now ended k s t) (sym (add-one n)) (mid, h, step)
 
 -- it is the time for lines, and they were taken
-pub when-ready : {C A T : Type 0} (told : C → ChannelHistory) (refuses : T → List ℕ → T → Type 0) (now : ℕ) (ended ready : Bool) (s : EndWithInput C A T) (found : Bool) (t : EndWithInput C A T)
+pub when-ready : {C A T : Type 0} (told : C → ChannelHistory) (refuses : T → List ℕ → T
+    → Type 0) (now : ℕ) (ended ready : Bool) (s : EndWithInput C A T) (found : Bool) (t : EndWithInput C A T)
     → ready ≡ true → TakesInput told refuses now ended s found t → TakesInputIf told refuses now ended ready s found t
-when-ready told refuses now ended ready s found t e h = subst (λ b. TakesInputIf told refuses now ended b s found t) (sym e) h
+when-ready told refuses now ended ready s found t e h =
+    subst (λ b. TakesInputIf told refuses now ended b s found t) (sym e) h
 
 -- it is not the time for lines, and nothing has changed
-pub not-ready : {C A T : Type 0} (told : C → ChannelHistory) (refuses : T → List ℕ → T → Type 0) (now : ℕ) (ended ready : Bool) (s : EndWithInput C A T) (found : Bool) (t : EndWithInput C A T)
+pub not-ready : {C A T : Type 0} (told : C → ChannelHistory) (refuses : T → List ℕ → T
+    → Type 0) (now : ℕ) (ended ready : Bool) (s : EndWithInput C A T) (found : Bool) (t : EndWithInput C A T)
     → ready ≡ false → found ≡ false → t ≡ s → TakesInputIf told refuses now ended ready s found t
-not-ready told refuses now ended ready s found t e f h = subst (λ b. TakesInputIf told refuses now ended b s found t) (sym e) (f, h)
+not-ready told refuses now ended ready s found t e f h =
+    subst (λ b. TakesInputIf told refuses now ended b s found t) (sym e) (f, h)
 
 -- the end is full for the telegram that was offered
-pub full-offer : {C A T : Type 0} (told : C → ChannelHistory) (refuses : T → List ℕ → T → Type 0) (now : ℕ) (s : OfferState C A T) (p : Telegram) (o : PutOutcome) (t : OfferState C A T)
+pub full-offer : {C A T : Type 0} (told : C → ChannelHistory) (refuses : T → List ℕ → T
+    → Type 0) (now : ℕ) (s : OfferState C A T) (p : Telegram) (o : PutOutcome) (t : OfferState C A T)
     → OffersTelegram told refuses now s p o t → is_full o ≡ true → OffersTelegram told refuses now s p offered.Full t
 full-offer told refuses now s p offered.Full t h e = h
 full-offer told refuses now s p offered.Put t h e = cc
 full-offer told refuses now s p offered.Refused t h e = cc
 
 -- a line was taken or not, of an input that is at its end or not
-pub line-as : {C A T : Type 0} (told : C → ChannelHistory) (refuses : T → List ℕ → T → Type 0) (now : ℕ) (e f : Option ℕ) (s : EndWithInput C A T) (d b : Bool) (t : EndWithInput C A T)
+pub line-as : {C A T : Type 0} (told : C → ChannelHistory) (refuses : T → List ℕ → T
+    → Type 0) (now : ℕ) (e f : Option ℕ) (s : EndWithInput C A T) (d b : Bool) (t : EndWithInput C A T)
     → e ≡ f → d ≡ b → TakesLine told refuses now (is_some e) s d t → TakesLine told refuses now (is_some f) s b t
 line-as told refuses now e f s d b t same is h =
-    subst (λ x. TakesLine told refuses now (is_some f) s x t) is (subst (λ o. TakesLine told refuses now (is_some o) s d t) same h)
+    subst (λ x. TakesLine told refuses now (is_some f) s x t) is
+    (subst (λ o. TakesLine told refuses now (is_some o) s d t) same h)
 
 -- an end put what it may, and ended its initialisation if it may
-pub puts-now : {C A T : Type 0} (told : C → ChannelHistory) (refuses : T → List ℕ → T → Type 0) (now : ℕ) (side other : Side) (s mid t : Course C A T) (puts ends : Bool)
-    → puts ≡ puts_list_in side (inside s.end).upper.session.phase → PutsListIf told refuses now puts s mid → other ≡ side
+pub puts-now : {C A T : Type 0} (told : C → ChannelHistory) (refuses : T → List ℕ → T
+    → Type 0) (now : ℕ) (side other : Side) (s mid t : Course C A T) (puts ends : Bool)
+    → puts ≡ puts_list_in side (inside s.end).upper.session.phase → PutsListIf told refuses now puts s mid
+    → other ≡ side
     → ends ≡ ends_initialisation_in other (inside mid.end).upper.session.phase (length mid.left == 0)
-    → EndsInitialisationIf told refuses now ends (mid.end, mid.app) (t.end, t.app) → t.left ≡ mid.left → t.put ≡ mid.put → t.refused ≡ mid.refused → t.deaf ≡ mid.deaf
+    → EndsInitialisationIf told refuses now ends (mid.end, mid.app) (t.end, t.app) → t.left ≡ mid.left → t.put ≡ mid.put
+    → t.refused ≡ mid.refused → t.deaf ≡ mid.deaf
     → t.closed ≡ mid.closed → PutsAllowed told refuses now side s t
-puts-now told refuses now side other s mid t puts ends first puts_mid same second completes left put refused deaf closed = (
-  mid,
-  subst (λ b. PutsListIf told refuses now b s mid) first puts_mid,
-  subst (λ b. EndsInitialisationIf told refuses now b (mid.end, mid.app) (t.end, t.app))
-      (second ∙ ap (λ x. ends_initialisation_in x (inside mid.end).upper.session.phase (length mid.left == 0)) same) completes,
-  left,
-  put,
-  refused,
-  deaf,
-  closed,
-)
+puts-now told refuses now side other s mid t puts ends first puts_mid same second completes left put refused deaf
+    closed = (
+      mid,
+      subst (λ b. PutsListIf told refuses now b s mid) first puts_mid,
+      subst (λ b. EndsInitialisationIf told refuses now b (mid.end, mid.app) (t.end, t.app))
+          (second ∙ ap (λ x. ends_initialisation_in x (inside mid.end).upper.session.phase (length mid.left == 0)) same)
+          completes,
+      left,
+      put,
+      refused,
+      deaf,
+      closed,
+    )
 
 -- an end received, and then put what it may
-pub takes-turn : {C A T : Type 0} (told : C → ChannelHistory) (takes : T → Item → T → Type 0) (lost : T → Bool) (refuses : T → List ℕ → T → Type 0) (now : ℕ) (side other : Side)
-    (s t : Course C A T) (works : Bool) (from end near : EndValue C A) (app : T) (left : List Telegram) (put refused deaf : ℕ) (closed : Bool)
-    → from ≡ s.end → PollsEnd told takes works now (from, s.app) (end, app) → lost app ≡ false → other ≡ side → near ≡ end → left ≡ s.left → put ≡ s.put → refused ≡ s.refused
+pub takes-turn : {C A T : Type 0} (told : C → ChannelHistory) (takes : T → Item → T → Type 0) (lost : T
+    → Bool) (refuses : T → List ℕ → T → Type 0) (now : ℕ) (side other : Side)
+    (s t : Course C A T) (works : Bool) (from end near : EndValue C A) (app : T) (left : List Telegram)
+    (put refused deaf : ℕ) (closed : Bool)
+    → from ≡ s.end → PollsEnd told takes works now (from, s.app) (end, app) → lost app ≡ false → other ≡ side
+    → near ≡ end → left ≡ s.left → put ≡ s.put → refused ≡ s.refused
     → deaf ≡ deaf_after works s.deaf → closed ≡ is_over (inside end)
-    → PutsAllowed told refuses now other (record { end = near; left = left; put = put; refused = refused; app = app; deaf = deaf; closed = closed }) t
+    → PutsAllowed told refuses now other (record {
+      end = near;
+      left = left;
+      put = put;
+      refused = refused;
+      app = app;
+      deaf = deaf;
+      closed = closed;
+    }) t
     → TakesTurn told takes lost refuses now side s t
-takes-turn told takes lost refuses now side other s t works from end near app left put refused deaf closed start heard kept sides ends lefts puts refusals deafs closes h =
-    let with_side = subst (λ x. PutsAllowed told refuses now x (record { end = near; left = left; put = put; refused = refused; app = app; deaf = deaf; closed = closed }) t) sides h in
-    let with_end = subst (λ x. PutsAllowed told refuses now side (record { end = x; left = left; put = put; refused = refused; app = app; deaf = deaf; closed = closed }) t) ends with_side in
-    let with_left = subst (λ x. PutsAllowed told refuses now side (record { end = end; left = x; put = put; refused = refused; app = app; deaf = deaf; closed = closed }) t) lefts with_end in
-    let with_put = subst (λ x. PutsAllowed told refuses now side (record { end = end; left = s.left; put = x; refused = refused; app = app; deaf = deaf; closed = closed }) t) puts with_left in
-    let with_refused = subst (λ x. PutsAllowed told refuses now side (record { end = end; left = s.left; put = s.put; refused = x; app = app; deaf = deaf; closed = closed }) t) refusals with_put in
-    let with_deaf = subst (λ x. PutsAllowed told refuses now side (record { end = end; left = s.left; put = s.put; refused = s.refused; app = app; deaf = x; closed = closed }) t) deafs with_refused in
-    let with_closed = subst (λ x. PutsAllowed told refuses now side (record { end = end; left = s.left; put = s.put; refused = s.refused; app = app; deaf = deaf_after works s.deaf; closed = x }) t) closes with_deaf in
+takes-turn told takes lost refuses now side other s t works from end near app left put refused deaf closed start heard
+    kept sides ends lefts puts refusals deafs closes h =
+    let with_side = subst (λ x. PutsAllowed told refuses now x
+    (record { end = near; left = left; put = put; refused = refused; app = app; deaf = deaf; closed = closed }) t)
+    sides h in
+    let with_end = subst (λ x. PutsAllowed told refuses now side
+    (record { end = x; left = left; put = put; refused = refused; app = app; deaf = deaf; closed = closed }) t) ends
+    with_side in
+    let with_left = subst (λ x. PutsAllowed told refuses now side
+    (record { end = end; left = x; put = put; refused = refused; app = app; deaf = deaf; closed = closed }) t) lefts
+    with_end in
+    let with_put = subst (λ x. PutsAllowed told refuses now side
+    (record { end = end; left = s.left; put = x; refused = refused; app = app; deaf = deaf; closed = closed }) t)
+    puts with_left in
+    let with_refused = subst (λ x. PutsAllowed told refuses now side
+    (record { end = end; left = s.left; put = s.put; refused = x; app = app; deaf = deaf; closed = closed }) t)
+    refusals with_put in
+    let with_deaf = subst (λ x. PutsAllowed told refuses now side
+    (record { end = end; left = s.left; put = s.put; refused = s.refused; app = app; deaf = x; closed = closed }) t)
+    deafs with_refused in
+    let with_closed = subst (λ x. PutsAllowed told refuses now side
+    (record {
+      end = end;
+      left = s.left;
+      put = s.put;
+      refused = s.refused;
+      app = app;
+      deaf = deaf_after works s.deaf;
+      closed = x;
+    }) t) closes with_deaf in
     (works, end, app, subst (λ v. PollsEnd told takes works now (v, s.app) (end, app)) start heard, kept, with_closed)

@@ -23,7 +23,8 @@ leftovers_of a lines =
 
 -- an end is in the expected state
 abbrev pub is_as_expected : {C A : Type 0} → Option ExpectedState → (lines : ℕ) → Actor C A → Bool
-is_as_expected expected lines a = is_expected expected (inside a.end).upper.session.phase (is_settled (inside a.end)) (undone.is_nothing (leftovers_of a lines))
+is_as_expected expected lines a = is_expected expected (inside a.end).upper.session.phase (is_settled (inside a.end))
+    (undone.is_nothing (leftovers_of a lines))
 
 -- the second end is, if there is one
 abbrev pub is_second_as_expected : {C A : Type 0} → Option ExpectedState → Option (Actor C A) → Bool
@@ -42,7 +43,8 @@ is_until_end (Turns count) = false
 
 -- nothing is left undone that a run was to do: one of counted turns leaves nothing undone
 abbrev pub is_finished : {C A : Type 0} → RunLength → (lines : ℕ) → Actor C A → Option (Actor C A) → Bool
-is_finished length lines a b = not (is_until_end length) || (undone.is_nothing (leftovers_of a lines) && is_second_done b)
+is_finished length lines a b =
+    not (is_until_end length) || (undone.is_nothing (leftovers_of a lines) && is_second_done b)
 
 -- when an end gives up
 abbrev pub limit_of : {C A : Type 0} → Actor C A → ℕ
@@ -52,7 +54,8 @@ limit_of a = progress.limit_of a.progress.at a.keeper.config.t_max
 abbrev pub is_actor_over : {C A : Type 0} → (input_done : Bool) → (now : ℕ) → Actor C A → Bool
 is_actor_over input_done now a =
     progress.is_over input_done
-    (progress.is_finished (inside a.end).upper.machine.connection a.is_kept (length a.left.now == 0) (is_settled (inside a.end))) (limit_of a) now
+    (progress.is_finished (inside a.end).upper.machine.connection a.is_kept (length a.left.now == 0)
+    (is_settled (inside a.end))) (limit_of a) now
 
 -- the second end is, if there is one: it has no input
 abbrev pub is_second_over : {C A : Type 0} → (now : ℕ) → Option (Actor C A) → Bool

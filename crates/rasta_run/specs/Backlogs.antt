@@ -43,7 +43,8 @@ cut_size most None = most
 
 -- the bytes of the next write: up to the last line feed of the first 4,096 bytes, or all of these if they have none
 abbrev pub front_size : List ℕ → ℕ
-front_size octets = cut_size (min (length octets) write_most) (feed_place (reverse (take (min (length octets) write_most) octets)))
+front_size octets =
+    cut_size (min (length octets) write_most) (feed_place (reverse (take (min (length octets) write_most) octets)))
 
 -- a writer, the bytes that wait for it, and the gate that knows whether it is ready
 pub record GatedWriter (W G : Type 0) : Type 0 where
@@ -51,35 +52,44 @@ pub record GatedWriter (W G : Type 0) : Type 0 where
   pub octets : List ℕ
   pub gate : G
 
--- one write at most, of at most the front: exactly what the writer takes of it is removed, and only if it takes something the step goes on
-abbrev pub WritesFront : {W G : Type 0} → (W → Option (List ℕ)) → GatedWriter W G → WriteOutcome → GatedWriter W G → Type 0
+-- one write at most, of at most the front: exactly what the writer takes of it is removed, and only if it takes
+-- something the step goes on
+abbrev pub WritesFront : {W G : Type 0} → (W → Option (List ℕ)) → GatedWriter W G → WriteOutcome → GatedWriter W G
+    → Type 0
 WritesFront contents s step t =
-    (size : ℕ) × (size ≤ front_size s.octets) × (t.octets ≡ drop size s.octets) × Appends (contents s.writer) (contents t.writer) (take size s.octets)
+    (size : ℕ) × (size ≤ front_size s.octets) × (t.octets ≡ drop size s.octets)
+    × Appends (contents s.writer) (contents t.writer) (take size s.octets)
     × (step ≡ On → 0 < size) × (step ≢ On → size ≡ 0)
 
 -- one step of passing on
-pub record PassesOnce {W G : Type 0} (contents : W → Option (List ℕ)) (asks : G → Stream → Bool → G → Type 0) (stream : Stream) (s : GatedWriter W G) (step : WriteOutcome) (t : GatedWriter W G) : Type 0 where
+pub record PassesOnce {W G : Type 0} (contents : W → Option (List ℕ)) (asks : G → Stream → Bool → G
+    → Type 0) (stream : Stream) (s : GatedWriter W G) (step : WriteOutcome) (t : GatedWriter W G) : Type 0 where
   -- if nothing waits, the step is over, and nothing is asked or written
   pub idle : s.octets ≡ [] → (step ≡ Over) × (t ≡ s)
   -- else the gate is asked once; if the stream is not ready, the step is over, and nothing is written
-  pub asked : s.octets ≢ [] → (ready : Bool) × asks s.gate stream ready t.gate × (ready ≡ false → (step ≡ Over) × (t.writer ≡ s.writer) × (t.octets ≡ s.octets))
+  pub asked : s.octets ≢ [] → (ready : Bool) × asks s.gate stream ready t.gate
+      × (ready ≡ false → (step ≡ Over) × (t.writer ≡ s.writer) × (t.octets ≡ s.octets))
   -- at most the front is written
   pub passed : WritesFront contents s step t
 
 -- this many steps, in each of which the writer took something
-abbrev pub PassesManyTimes : {W G : Type 0} → (W → Option (List ℕ)) → (G → Stream → Bool → G → Type 0) → Stream → ℕ → (s t : GatedWriter W G) → Type 0
+abbrev pub PassesManyTimes : {W G : Type 0} → (W → Option (List ℕ)) → (G → Stream → Bool → G → Type 0) → Stream → ℕ
+    → (s t : GatedWriter W G) → Type 0
 PassesManyTimes contents asks stream zero s t = t ≡ s
-PassesManyTimes {W} {G} contents asks stream (suc n) s t = (mid : GatedWriter W G) × PassesManyTimes contents asks stream n s mid × PassesOnce contents asks stream mid On t
+PassesManyTimes {W} {G} contents asks stream (suc n) s t =
+    (mid : GatedWriter W G) × PassesManyTimes contents asks stream n s mid × PassesOnce contents asks stream mid On t
 
 -- the last step: it is over, or it fails, or there were enough
-abbrev pub EndsPassing : {W G : Type 0} → (W → Option (List ℕ)) → (G → Stream → Bool → G → Type 0) → Stream → ℕ → (s : GatedWriter W G) → Bool → (t : GatedWriter W G) → Type 0
+abbrev pub EndsPassing : {W G : Type 0} → (W → Option (List ℕ)) → (G → Stream → Bool → G → Type 0) → Stream → ℕ
+    → (s : GatedWriter W G) → Bool → (t : GatedWriter W G) → Type 0
 EndsPassing contents asks stream count s works t =
     ((count ≡ writes_most) × (works ≡ true) × (t ≡ s))
     ⊎ (((works ≡ true) × PassesOnce contents asks stream s Over t)
     ⊎ ((works ≡ false) × PassesOnce contents asks stream s Failed t))
 
 -- steps until one is over or fails
-pub record PassesAll {W G : Type 0} (contents : W → Option (List ℕ)) (asks : G → Stream → Bool → G → Type 0) (stream : Stream) (s : GatedWriter W G) (works : Bool) (t : GatedWriter W G) : Type 0 where
+pub record PassesAll {W G : Type 0} (contents : W → Option (List ℕ)) (asks : G → Stream → Bool → G
+    → Type 0) (stream : Stream) (s : GatedWriter W G) (works : Bool) (t : GatedWriter W G) : Type 0 where
   -- the number of steps before the last one
   pub count : ℕ
   -- the state before the last one
@@ -104,7 +114,8 @@ left_out_text count = join_pieces (codes "log: " ∷ decimal count ∷ codes " l
 
 -- the line of how many lines of standard output were not printed
 unfoldable pub unread_text : ℕ → List ℕ
-unread_text count = join_pieces (codes "output: " ∷ decimal count ∷ codes " lines not printed, nobody reads them\n" ∷ [])
+unread_text count =
+    join_pieces (codes "output: " ∷ decimal count ∷ codes " lines not printed, nobody reads them\n" ∷ [])
 
 -- turns that end because a line of standard output had no room are no fault
 abbrev pub unless_unread : Result (Unit {0}) Fault → Bool → Result (Unit {0}) Fault

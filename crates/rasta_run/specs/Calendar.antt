@@ -37,7 +37,8 @@ days_of_months leap (suc months) = days_of_months leap months + days_of_month le
 abbrev pub years_most : ℕ
 years_most = 8_030
 
--- a date is this many days after the first of January 1970: it has whole years, then whole months of the next year, then days of the next month
+-- a date is this many days after the first of January 1970: it has whole years, then whole months of the next year,
+-- then days of the next month
 pub record IsDate (days : ℕ) (d : Date) : Type 0 where
   pub sum : days_of_years d.years + (days_of_months (is_leap (1970 + d.years)) d.months + d.days) ≡ days
   pub years : d.years < years_most

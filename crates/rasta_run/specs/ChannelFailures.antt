@@ -40,7 +40,8 @@ has_recovered s done now t_max = s.is_failing && (is_tried done s.done && nat_lt
 abbrev pub failed_count_before : CallFailures → ℕ
 failed_count_before s = if s.is_failing then s.before else s.failed
 
--- the calls of a channel after a look at how many succeeded and how many failed: one more has failed, or they no longer fail, or neither
+-- the calls of a channel after a look at how many succeeded and how many failed: one more has failed, or they no longer
+-- fail, or neither
 abbrev pub look_at_calls : CallFailures → (done : Option ℕ) → (failed now t_max : ℕ) → CallFailures
 look_at_calls s done failed now t_max =
     if nat_eq failed s.failed
@@ -76,7 +77,8 @@ failed_calls_at call.Receive c place = (failures_in c place).receives
 -- the calls of the channel at a place after a look at what is counted
 abbrev pub calls_now : Call → List CallFailures → RunCounts → (place now t_max : ℕ) → CallFailures
 calls_now kind fs c place now t_max =
-    look_at_calls (slice_index_or fs place (new_failures 0)) (success_count_at kind c place) (failed_calls_at kind c place).count now t_max
+    look_at_calls (slice_index_or fs place (new_failures 0)) (success_count_at kind c place)
+    (failed_calls_at kind c place).count now t_max
 
 -- the calls of the channels after a look at the one at a place, from 0, if the end has it
 abbrev pub calls_at : Call → RunCounts → (count now t_max place : ℕ) → List CallFailures → List CallFailures
@@ -86,10 +88,12 @@ calls_at kind c count now t_max place fs =
 -- the calls of the channels after a look at all of them
 abbrev pub all_calls : Call → RunCounts → (count now t_max : ℕ) → List CallFailures → List CallFailures
 all_calls kind c count now t_max fs =
-    calls_at kind c count now t_max 3 (calls_at kind c count now t_max 2 (calls_at kind c count now t_max 1 (calls_at kind c count now t_max 0 fs)))
+    calls_at kind c count now t_max 3 (calls_at kind c count now t_max 2
+    (calls_at kind c count now t_max 1 (calls_at kind c count now t_max 0 fs)))
 
 -- the notice of the channel at a place, from 0, if the end has it
 abbrev pub notice_at : Call → List CallFailures → RunCounts → (count now t_max place : ℕ) → Option Notice
 notice_at kind fs c count now t_max place =
     if nat_le count place then None
-    else notice_of (slice_index_or fs place (new_failures 0)) (calls_now kind fs c place now t_max) kind (place + 1) (failed_calls_at kind c place).last
+    else notice_of (slice_index_or fs place (new_failures 0)) (calls_now kind fs c place now t_max) kind (place + 1)
+    (failed_calls_at kind c place).last

@@ -57,7 +57,8 @@ abbrev pub channel_under : (number : ℕ) → (channel : ℕ) → Option Header 
 channel_under number channel None = 0
 channel_under number channel (Some h) = if nat_eq h.number number then channel else 0
 
--- the counts of channels after a step of the safety machine for the part with this number: only a dropped one changes them
+-- the counts of channels after a step of the safety machine for the part with this number: only a dropped one changes
+-- them
 abbrev pub count_step_on : Step → (number channel : ℕ) → Option Header → List ChannelCounts → List ChannelCounts
 count_step_on (step.Dropped why) number channel h cs = count_dropped_on (channel_under number channel h) why cs
 count_step_on step.Taken number channel h cs = cs
@@ -73,13 +74,21 @@ closing_count_after (step.Dropped why) n = n
 closing_count_after step.Taken n = n
 closing_count_after step.Gap n = n
 
--- all that is counted of an end: its own counts added to those of its earlier openings, those of its recorder, the calls that failed on each channel,
--- and the telegrams put and taken
+-- all that is counted of an end: its own counts added to those of its earlier openings, those of its recorder, the
+-- calls that failed on each channel, and the telegrams put and taken
 abbrev pub run_counts_of : (earlier own : Statistics) → Recorder → List Failures → (put taken : ℕ) → RunCounts
 run_counts_of earlier own r failures put taken =
-    record { sums = plus earlier own; channels = r.channels; failures = failures; closing = r.closing; put = put; taken = taken }
+    record {
+      sums = plus earlier own;
+      channels = r.channels;
+      failures = failures;
+      closing = r.closing;
+      put = put;
+      taken = taken;
+    }
 
--- the PDUs that the safety machine did not drop: taken, with a gap before them, or at the end of a connection or after it
+-- the PDUs that the safety machine did not drop: taken, with a gap before them, or at the end of a connection or after
+-- it
 abbrev pub accepted_count : RunCounts → ℕ
 accepted_count c = sum (sum c.sums.parts.taken c.sums.parts.gaps) c.closing
 
@@ -87,7 +96,8 @@ accepted_count c = sum (sum c.sums.parts.taken c.sums.parts.gaps) c.closing
 abbrev pub dropped_count : RunCounts → ℕ
 dropped_count c =
     let p = c.sums.parts in
-    sum (sum (sum (sum (sum (sum (all_safe_faults p.damaged) p.strangers) p.unopened) p.far) p.unrequested) p.answered) p.below
+    sum (sum (sum (sum (sum (sum (all_safe_faults p.damaged) p.strangers) p.unopened) p.far) p.unrequested) p.answered)
+    p.below
 
 -- the greatest age of a confirmed timestamp in milliseconds, if a PDU was taken
 abbrev pub oldest : RunCounts → Option ℕ

@@ -72,39 +72,49 @@ end_of Json = codes "}\n"
 abbrev pub fields_text : LineForm → List (List ℕ × ℕ) → List ℕ
 fields_text form fields = flat_map (λ f. field_text form f.0 f.1) fields
 
--- the numbers of a channel: the time in milliseconds of the run, the channel, from 1, what it sent, how many receptions the system refused, what it
--- received, and when something last came. Damaged are the datagrams of the redundancy layer and those of the safety machine.
+-- the numbers of a channel: the time in milliseconds of the run, the channel, from 1, what it sent, how many receptions
+-- the system refused, what it received, and when something last came. Damaged are the datagrams of the redundancy layer
+-- and those of the safety machine.
 abbrev pub channel_fields : ℕ → ℕ → ReceptionCounts → ChannelCounts → (refused heard : ℕ) → List (List ℕ × ℕ)
 channel_fields at channel r c refused heard =
-    (codes "time", at) ∷ (codes "channel", channel) ∷ (codes "sent", c.sent) ∷ (codes "failed", c.failed) ∷ (codes "refused", refused) ∷ (codes "received", r.received)
-    ∷ (codes "passed", r.passed) ∷ (codes "deferred", r.deferred) ∷ (codes "old", r.old) ∷ (codes "repeats", r.repeated) ∷ (codes "far", r.far)
-    ∷ (codes "full", r.full) ∷ (codes "damaged", sum (all_red_faults r.damaged) c.damaged) ∷ (codes "strangers", c.strangers) ∷ (codes "heard", heard) ∷ []
+    (codes "time", at) ∷ (codes "channel", channel) ∷ (codes "sent", c.sent) ∷ (codes "failed", c.failed) ∷
+    (codes "refused", refused) ∷ (codes "received", r.received)
+    ∷ (codes "passed", r.passed) ∷ (codes "deferred", r.deferred) ∷ (codes "old", r.old) ∷
+    (codes "repeats", r.repeated) ∷ (codes "far", r.far)
+    ∷ (codes "full", r.full) ∷ (codes "damaged", sum (all_red_faults r.damaged) c.damaged) ∷
+    (codes "strangers", c.strangers) ∷ (codes "heard", heard) ∷ []
 
 -- the line of a channel
 unfoldable pub channel_text : LineForm → ℕ → Side → ℕ → ReceptionCounts → ChannelCounts → (refused heard : ℕ) → List ℕ
 channel_text form at side channel r c refused heard =
     join_pieces (front_of form side ∷ fields_text form (channel_fields at channel r c refused heard) ∷ end_of form ∷ [])
 
--- the time in milliseconds of the run, the PDUs that the end made, the retransmissions requested and granted, the PDUs accepted and dropped, and the
--- units that the peer confirmed
+-- the time in milliseconds of the run, the PDUs that the end made, the retransmissions requested and granted, the PDUs
+-- accepted and dropped, and the units that the peer confirmed
 unfoldable pub pdus_text : LineForm → ℕ → RunCounts → List ℕ
 pdus_text form at c =
     let m = c.sums.made in
     fields_text form
-    ((codes "time", at) ∷ (codes "units", m.units) ∷ (codes "resent", m.resent) ∷ (codes "heartbeats", m.heartbeats) ∷ (codes "asked", m.requests)
-    ∷ (codes "answered", m.answers) ∷ (codes "accepted", accepted_count c) ∷ (codes "dropped", dropped_count c) ∷ (codes "confirmed", c.sums.confirmed) ∷ [])
+    ((codes "time", at) ∷ (codes "units", m.units) ∷ (codes "resent", m.resent) ∷ (codes "heartbeats", m.heartbeats) ∷
+    (codes "asked", m.requests)
+    ∷ (codes "answered", m.answers) ∷ (codes "accepted", accepted_count c) ∷ (codes "dropped", dropped_count c) ∷
+    (codes "confirmed", c.sums.confirmed) ∷ [])
 
--- the least time in milliseconds that was left to T_max when a PDU confirmed a timestamp: T_max minus the greatest age of a confirmed timestamp
+-- the least time in milliseconds that was left to T_max when a PDU confirmed a timestamp: T_max minus the greatest age
+-- of a confirmed timestamp
 abbrev pub margin_of : Option ℕ → ℕ → Option ℕ
 margin_of None t_max = None
 margin_of (Some oldest) t_max = Some (t_max - oldest)
 
--- the line of the connection: PDUs, the greatest age and its margin, the telegrams put and taken, and how often T_seq passed while parts were deferred
+-- the line of the connection: PDUs, the greatest age and its margin, the telegrams put and taken, and how often T_seq
+-- passed while parts were deferred
 unfoldable pub connection_text : LineForm → ℕ → Side → RunCounts → (t_max : ℕ) → List ℕ
 connection_text form at side c t_max =
     join_pieces
-    (front_of form side ∷ pdus_text form at c ∷ some_text form (codes "oldest") (oldest c) ∷ some_text form (codes "margin") (margin_of (oldest c) t_max)
-    ∷ fields_text form ((codes "put", c.put) ∷ (codes "taken", c.taken) ∷ (codes "expired", c.sums.expired_deferrals) ∷ []) ∷ end_of form ∷ [])
+    (front_of form side ∷ pdus_text form at c ∷ some_text form (codes "oldest") (oldest c) ∷
+    some_text form (codes "margin") (margin_of (oldest c) t_max)
+    ∷ fields_text form ((codes "put", c.put) ∷ (codes "taken", c.taken) ∷ (codes "expired", c.sums.expired_deferrals) ∷
+    []) ∷ end_of form ∷ [])
 
 -- when the channel at a place last received something
 abbrev pub last_reception_at : List ChannelSilence → ℕ → ℕ
@@ -114,7 +124,8 @@ last_reception_at heard place = (slice_index_or heard place (record { came = 0; 
 unfoldable pub place_text : CountsPrinter → LineForm → ℕ → RunCounts → ℕ → List ℕ
 place_text t form at c place =
     if nat_le t.count place then []
-    else channel_text form at t.side (place + 1) (slice_index_or c.sums.channels place no_reception_counts) (slice_index_or c.channels place no_datagrams)
+    else channel_text form at t.side (place + 1) (slice_index_or c.sums.channels place no_reception_counts)
+    (slice_index_or c.channels place no_datagrams)
     (failures_in c place).receives.count (last_reception_at t.heard place)
 
 -- the lines of the channels and of the connection
@@ -187,7 +198,10 @@ next_by false telling next now = next
 -- the printer after a look at what is counted: it records which channels received something
 abbrev pub look_at : CountsPrinter → RunCounts → ℕ → CountsPrinter
 look_at t c now =
-    record t { next = next_by (is_due t.next now) t.telling t.next now; heard = all_silences c.sums.channels t.count now (2 ^ 64 - 1) t.heard }
+    record t {
+      next = next_by (is_due t.next now) t.telling t.next now;
+      heard = all_silences c.sums.channels t.count now (2 ^ 64 - 1) t.heard;
+    }
 
 -- the same, if counts are printed
 abbrev pub look : CountsPrinter → RunCounts → ℕ → CountsPrinter

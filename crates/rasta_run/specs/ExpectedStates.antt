@@ -33,13 +33,15 @@ is_initialising phase.Refused = false
 is_initialising phase.Established = false
 is_initialising phase.Ended = false
 
--- the end is in the expected state; `settled`: everything put is confirmed; `done`: everything that was to be put was tried
+-- the end is in the expected state; `settled`: everything put is confirmed; `done`: everything that was to be put was
+-- tried
 abbrev pub is_expected : Option ExpectedState → Phase → (settled done : Bool) → Bool
 is_expected None phase settled done = true
 is_expected (Some Up) phase settled done = is_up phase
 is_expected (Some Settled) phase settled done = is_up phase && (settled && done)
 
--- an end puts its list in this phase: an interlocking while the session is established, a field element while it initialises
+-- an end puts its list in this phase: an interlocking while the session is established, a field element while it
+-- initialises
 abbrev pub puts_list_in : Side → Phase → Bool
 puts_list_in Interlocking phase = is_up phase
 puts_list_in FieldElement phase = is_initialising phase
@@ -50,7 +52,8 @@ ends_initialisation_in Interlocking phase is_empty = false
 ends_initialisation_in FieldElement phase false = false
 ends_initialisation_in FieldElement phase true = is_initialising phase
 
--- lines of input are put if the session is established and the list is empty; if the end is closed and not kept, each of them is refused
+-- lines of input are put if the session is established and the list is empty; if the end is closed and not kept, each
+-- of them is refused
 abbrev pub takes_lines : (kept : Bool) → ConnectionState → Phase → (is_empty : Bool) → Bool
 takes_lines kept state.Closed phase is_empty = not kept || (is_up phase && is_empty)
 takes_lines kept state.Down phase is_empty = is_up phase && is_empty

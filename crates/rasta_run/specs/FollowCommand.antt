@@ -36,8 +36,8 @@ abbrev pub options_under : FollowRequest → Option (List ℕ) → Option Follow
 options_under f (Some words) = Some (options_of f words)
 options_under f None = None
 
--- a line that is not a datagram, want of memory and a reader that fails refuse a capture; an output that fails is the system's fault, but not one that its
--- reader has closed
+-- a line that is not a datagram, want of memory and a reader that fails refuse a capture; an output that fails is the
+-- system's fault, but not one that its reader has closed
 abbrev pub end_of : FollowStatus → Status
 end_of follow.Done = Done
 end_of follow.Unread = Done

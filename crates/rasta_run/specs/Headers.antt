@@ -48,8 +48,8 @@ code_seen octets = code_after (length octets) (body_of_kind (kind_seen octets))
 abbrev pub version_seen : List ℕ → Option ℕ
 version_seen octets = if nat_lt (length octets) 40 then None else Some (number_at 4 36 octets)
 
--- the redundancy number, the identifiers of the safety PDU after the eight bytes of the redundancy layer, the length of the safety code, and the version,
--- if there are enough bytes
+-- the redundancy number, the identifiers of the safety PDU after the eight bytes of the redundancy layer, the length of
+-- the safety code, and the version, if there are enough bytes
 abbrev pub header_seen : List ℕ → Option Header
 header_seen octets =
     if nat_lt (length octets) 20 then None

@@ -70,8 +70,8 @@ lines_left octets =
     if is_open (slice_get octets (length octets - 1)) then min (count_by (λ octet. octet == 10) octets + 1) (2 ^ 64 - 1)
     else count_by (λ octet. octet == 10) octets
 
--- what is known of an input: the telegram that is next, the bytes that are in no line yet, the number of lines so far, and that of the lines that are
--- not telegrams
+-- what is known of an input: the telegram that is next, the bytes that are in no line yet, the number of lines so far,
+-- and that of the lines that are not telegrams
 pub record Input : Type 0 where
   pub next : Option Telegram
   pub octets : List ℕ
@@ -80,18 +80,26 @@ pub record Input : Type 0 where
 
 -- the input of a feed
 abbrev pub input_of : {I : Type 0} → Feed I → Input
-input_of feed = record { next = feed.next; octets = feed.lines.octets.items; cut = feed.lines.cut; unread = feed.unread }
+input_of feed =
+    record { next = feed.next; octets = feed.lines.octets.items; cut = feed.lines.cut; unread = feed.unread }
 
 -- one more, up to the greatest count
 abbrev pub one_more : ℕ → ℕ
 one_more count = min (count + 1) (2 ^ 64 - 1)
 
--- the input after its next line was cut off, with this telegram that is next and this number of lines that are not telegrams
+-- the input after its next line was cut off, with this telegram that is next and this number of lines that are not
+-- telegrams
 abbrev pub cut_line_off : (ended : Bool) → Option Telegram → (unread : ℕ) → Input → Input
 cut_line_off ended next unread s =
-    record { next = next; octets = rest_after_line ended s.octets; cut = line_count_after ended s.octets s.cut; unread = unread }
+    record {
+      next = next;
+      octets = rest_after_line ended s.octets;
+      cut = line_count_after ended s.octets s.cut;
+      unread = unread;
+    }
 
--- what is read of an input whose next line is this; `has`: a line was there. A telegram is then next, and a line that is not one is counted.
+-- what is read of an input whose next line is this; `has`: a line was there. A telegram is then next, and a line that
+-- is not one is counted.
 abbrev pub ReadsLine : Option (Option (ℕ × List ℕ)) → (ended : Bool) → Input → (has : Bool) → Input → Type 0
 ReadsLine None ended s has t = (has ≡ false) × (t ≡ s)
 ReadsLine (Some None) ended s has t = (has ≡ true) × (t ≡ cut_line_off ended s.next (one_more s.unread) s)

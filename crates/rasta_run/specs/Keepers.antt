@@ -18,15 +18,21 @@ row_of false fruitless = fruitless
 -- the keeper of an end that is seen
 abbrev pub see_end : (stale up : Bool) → ℕ → Keeper → Keeper
 see_end stale up now k =
-    record k { left = stale_since k.left stale now; had_session = k.had_session || up; fruitless = row_of up k.fruitless }
+    record k {
+      left = stale_since k.left stale now;
+      had_session = k.had_session || up;
+      fruitless = row_of up k.fruitless;
+    }
 
--- the least time between two openings of an interlocking, in milliseconds: T_max/4, doubled after each opening in a row without a session, up to T_max
+-- the least time between two openings of an interlocking, in milliseconds: T_max/4, doubled after each opening in a row
+-- without a session, up to T_max
 abbrev pub pause_of : (fruitless t_max : ℕ) → ℕ
 pause_of fruitless t_max = if nat_eq fruitless 0 then t_max / 4 else if nat_eq fruitless 1 then t_max / 2 else t_max
 
--- how long it is until an end that is stale since `left` is opened again, in milliseconds. A field element is opened at least T_max/8 after its last
--- opening. An interlocking waits T_max/4 after it disconnected: by then its last PDUs have arrived at the field element, so that its request finds that
--- one newly opened. Its openings are also apart by the pause.
+-- how long it is until an end that is stale since `left` is opened again, in milliseconds. A field element is opened at
+-- least T_max/8 after its last opening. An interlocking waits T_max/4 after it disconnected: by then its last PDUs have
+-- arrived at the field element, so that its request finds that one newly opened. Its openings are also apart by the
+-- pause.
 abbrev pub rest_of : Side → Keeper → (left now : ℕ) → ℕ
 rest_of Interlocking k left now =
     max (k.config.t_max / 4 - (now - left)) (pause_of k.fruitless k.config.t_max - (now - k.opened))
@@ -48,7 +54,8 @@ is_wait_over (Some rest) = nat_eq rest 0
 
 -- an end is opened again: it is kept, it is stale, and its wait is over
 abbrev pub is_reopening_due : (kept : Bool) → Side → (stale up : Bool) → Keeper → ℕ → Bool
-is_reopening_due kept side stale up k now = kept && is_wait_over (wait_until_reopening side (see_end stale up now k) now)
+is_reopening_due kept side stale up k now =
+    kept && is_wait_over (wait_until_reopening side (see_end stale up now k) now)
 
 -- the keeper after a look at an end, which is kept or not
 abbrev pub look_at_end : (kept stale up : Bool) → ℕ → Keeper → Keeper
@@ -89,7 +96,8 @@ count_wait = 60_000
 
 -- the count of openings is logged now: it has begun, or the last one was a minute ago
 abbrev pub is_count_due : Keeper → ℕ → Bool
-is_count_due k now = nat_eq k.fruitless row_most || (nat_lt row_most k.fruitless && nat_le count_wait (now - k.counted_at))
+is_count_due k now =
+    nat_eq k.fruitless row_most || (nat_lt row_most k.fruitless && nat_le count_wait (now - k.counted_at))
 
 -- the keeper after the log may have had a count
 abbrev pub keeper_after_count : (due : Bool) → ℕ → Keeper → Keeper

@@ -9,8 +9,8 @@ use Rattle.rasta_run.specs.Totals.{received_count}
 use Rattle.rasta_run.specs.declared.counts.RunCounts.{RunCounts}
 use Rattle.stack_end.specs.EndValue.{EndValue, inside}
 
--- the state and phase of an end, how it came to be closed, the datagrams that came in all its openings, the PDUs accepted, and why the last datagram was
--- dropped
+-- the state and phase of an end, how it came to be closed, the datagrams that came in all its openings, the PDUs
+-- accepted, and why the last datagram was dropped
 abbrev pub ending_of : {C A : Type 0} → Side → EndValue C A → RunCounts → Option Cause → FinalState
 ending_of side v counted last =
     record {

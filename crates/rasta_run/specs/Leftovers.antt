@@ -30,7 +30,8 @@ doubt_text doubt = join_pieces (codes "in doubt: " ∷ decimal doubt ∷ codes "
 
 -- the line of what an end leaves undone
 abbrev pub undone_line : Side → Leftovers → List ℕ
-undone_line side u = join_pieces (side_name side ∷ lines_text u.lines ∷ entries_text u.entries ∷ doubt_text u.doubt ∷ [])
+undone_line side u =
+    join_pieces (side_name side ∷ lines_text u.lines ∷ entries_text u.entries ∷ doubt_text u.doubt ∷ [])
 
 -- what is printed of it: nothing, if nothing is left undone
 abbrev pub printed_line : Side → Leftovers → List ℕ
@@ -54,8 +55,8 @@ abbrev pub refused_line : Origin → ℕ → List ℕ → List ℕ
 refused_line origin kind name =
     join_pieces (origin_text origin ∷ encode_lower (to_be_bytes w16 kind) ∷ codes " not put: " ∷ name ∷ codes "\n" ∷ [])
 
--- how a run ends: with status 6 if a line of standard output was not written, else with 5 if it left something undone, else with 4 if an end is not
--- in the expected state
+-- how a run ends: with status 6 if a line of standard output was not written, else with 5 if it left something undone,
+-- else with 4 if an end is not in the expected state
 abbrev pub run_status : (is_read is_finished is_met : Bool) → Status
 run_status false is_finished is_met = Unread
 run_status true false is_met = Unfinished

@@ -34,7 +34,8 @@ four_digits n = digit 1000 n ∷ digit 100 n ∷ digit 10 n ∷ digit 1 n ∷ []
 -- YEAR-MONTH-DAY
 unfoldable pub date_text : Date → List ℕ
 date_text d =
-    join_pieces (four_digits (1970 + d.years) ∷ codes "-" ∷ two_digits (d.months + 1) ∷ codes "-" ∷ two_digits (d.days + 1) ∷ [])
+    join_pieces (four_digits (1970 + d.years) ∷ codes "-" ∷ two_digits (d.months + 1) ∷ codes "-" ∷
+    two_digits (d.days + 1) ∷ [])
 
 -- two digits, and a text after them
 unfoldable pub pair_text : ℕ → List ℕ → List ℕ
@@ -44,7 +45,8 @@ pair_text n text = join_pieces (two_digits n ∷ text ∷ [])
 unfoldable pub clock_text : ℕ → List ℕ
 clock_text ms =
     join_pieces
-    (pair_text (ms / 3_600_000) (codes ":") ∷ pair_text (ms / 60_000 % 60) (codes ":") ∷ pair_text (ms / 1_000 % 60) (codes ".")
+    (pair_text (ms / 3_600_000) (codes ":") ∷ pair_text (ms / 60_000 % 60) (codes ":") ∷
+    pair_text (ms / 1_000 % 60) (codes ".")
     ∷ three_digits (ms % 1_000) ∷ [])
 
 -- the date and the time of day, in UTC
@@ -60,7 +62,8 @@ from_place (Some place) line = drop place line
 abbrev pub after_time : List ℕ → List ℕ
 after_time line = from_place (position (λ octet. octet == 32) line) line
 
--- a line is written with this time in UTC, in milliseconds since 1970, in place of that of the run; unless its year has five digits
+-- a line is written with this time in UTC, in milliseconds since 1970, in place of that of the run; unless its year has
+-- five digits
 abbrev pub StampsUtc : (at : ℕ) → (line written : List ℕ) → Type 0
 StampsUtc at line written =
     ((d : Date) × IsDate (at / day_length) d × (written ≡ utc_text d (at % day_length) ++ after_time line))
@@ -95,7 +98,8 @@ StampsTake (Some s) line written = StampsLine s.time s.at (run_text s.now ++ lin
 
 -- a line was written to the log at this time of the run
 abbrev pub LogsLine : Log → ℕ → List ℕ → Option (List ℕ) → Option (List ℕ) → Type 0
-LogsLine log now line before after = (written : List ℕ) × StampsLine log.time (utc_at log now) line written × Appends before after written
+LogsLine log now line before after =
+    (written : List ℕ) × StampsLine log.time (utc_at log now) line written × Appends before after written
 
 -- a line was written to the log, or nothing
 abbrev pub LogsLineIf : Bool → Log → ℕ → List ℕ → Option (List ℕ) → Option (List ℕ) → Type 0
@@ -109,7 +113,8 @@ LogsEvent told log now h before after = LogsLineIf told log now (log_line now lo
 -- a notice was logged, if there is one and the log is not off
 abbrev pub LogsNotice : Option Notice → Log → ℕ → Option (List ℕ) → Option (List ℕ) → Type 0
 LogsNotice None log now before after = Appends before after []
-LogsNotice (Some notice) log now before after = LogsLineIf (not (is_off log.level)) log now (notice_line now log.side notice) before after
+LogsNotice (Some notice) log now before after =
+    LogsLineIf (not (is_off log.level)) log now (notice_line now log.side notice) before after
 
 -- an event of a channel was logged, if there is one and the log is not off
 abbrev pub LogsSome : Option EndEvent → Log → ℕ → Option (List ℕ) → Option (List ℕ) → Type 0

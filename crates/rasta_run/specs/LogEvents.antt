@@ -125,7 +125,8 @@ abbrev pub logged_departure : Option Stated → Option Departure
 logged_departure None = None
 logged_departure (Some d) = Some (departure_by d.by (record { detail = d.detail; reason = d.reason }))
 
--- the departure of an end of this side, as the log states it: a field element that has accepted no ConnReq had no connection
+-- the departure of an end of this side, as the log states it: a field element that has accepted no ConnReq had no
+-- connection
 abbrev pub departure_of : Side → (request : Option (List ℕ)) → Option Stated → Option Departure
 departure_of Interlocking request d = logged_departure d
 departure_of FieldElement None d = None
@@ -187,7 +188,8 @@ is_session (Dropped channel why) = false
 abbrev pub quiet_after : EndEvent → Bool → Bool
 quiet_after h quiet = quiet && not (is_session h)
 
--- an event is logged at the level of states: a drop if its cause is new, and one of an opening unless openings are only counted
+-- an event is logged at the level of states: a drop if its cause is new, and one of an opening unless openings are only
+-- counted
 abbrev pub is_logged_by : Option Cause → (quiet new : Bool) → EndEvent → Bool
 is_logged_by (Some why) quiet new h = new
 is_logged_by None quiet new h = not (quiet && is_of_opening h)

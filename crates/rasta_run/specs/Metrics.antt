@@ -1,4 +1,5 @@
--- The counts of one or two ends in the text format of Prometheus: for each metric its help, its type, and its numbers with their labels.
+-- The counts of one or two ends in the text format of Prometheus: for each metric its help, its type, and its numbers
+-- with their labels.
 use Rattle.std.specs.Prelude.{ℕ, ◌+◌, nat_le, Bool, List, [], ◌∷◌, codes, slice_index_or, Option, Some, None, if◌then◌else◌}
 use Rattle.std.specs.Fmt.{decimal}
 use Rattle.end_settings.specs.declared.Side.{Side}
@@ -196,19 +197,22 @@ end_kind end.Margin = codes "gauge"
 unfoldable pub head_text : List ℕ → List ℕ → List ℕ → List ℕ
 head_text name type help =
     join_pieces
-    (codes "# HELP rasta_" ∷ name ∷ codes " " ∷ help ∷ codes "\n# TYPE rasta_" ∷ name ∷ codes " " ∷ type ∷ codes "\n" ∷ [])
+    (codes "# HELP rasta_" ∷ name ∷ codes " " ∷ help ∷ codes "\n# TYPE rasta_" ∷ name ∷ codes " " ∷ type ∷ codes "\n" ∷
+    [])
 
 -- the number of a channel, numbered from 1
 unfoldable pub channel_line : List ℕ → List ℕ → Side → (channel number : ℕ) → List ℕ
 channel_line name cause side number value =
     join_pieces
-    (codes "rasta_" ∷ name ∷ codes "{side=\"" ∷ side_name side ∷ codes "\",channel=\"" ∷ decimal number ∷ codes "\"" ∷ cause ∷ codes "} " ∷ decimal value
+    (codes "rasta_" ∷ name ∷ codes "{side=\"" ∷ side_name side ∷ codes "\",channel=\"" ∷ decimal number ∷ codes "\"" ∷
+    cause ∷ codes "} " ∷ decimal value
     ∷ codes "\n" ∷ [])
 
 -- the number of an end
 unfoldable pub end_line : List ℕ → List ℕ → Side → ℕ → List ℕ
 end_line name cause side value =
-    join_pieces (codes "rasta_" ∷ name ∷ codes "{side=\"" ∷ side_name side ∷ codes "\"" ∷ cause ∷ codes "} " ∷ decimal value ∷ codes "\n" ∷ [])
+    join_pieces (codes "rasta_" ∷ name ∷ codes "{side=\"" ∷ side_name side ∷ codes "\"" ∷ cause ∷ codes "} " ∷
+    decimal value ∷ codes "\n" ∷ [])
 
 -- the number of an end, if there is one
 abbrev pub end_line_of : Option ℕ → List ℕ → List ℕ → Side → List ℕ
@@ -220,7 +224,8 @@ unfoldable pub place_text : ChannelMetric → Sample → ℕ → List ℕ
 place_text m s place =
     if nat_le s.count place then []
     else channel_line (channel_name m) (channel_cause m) s.side (place + 1)
-    (channel_number m (slice_index_or s.counted.sums.channels place no_reception_counts) (slice_index_or s.counted.channels place no_datagrams)
+    (channel_number m (slice_index_or s.counted.sums.channels place no_reception_counts)
+    (slice_index_or s.counted.channels place no_datagrams)
     (failures_in s.counted place))
 
 -- the lines of the channels of an end
@@ -251,7 +256,8 @@ end_text m s = join_pieces (sample_text m s.first ∷ second_sample m s.second �
 
 -- a metric of channels that only grows
 unfoldable pub channel_counter : ChannelMetric → Samples → List ℕ
-channel_counter m s = join_pieces (head_text (channel_name m) (codes "counter") (channel_help m) ∷ channel_text m s ∷ [])
+channel_counter m s =
+    join_pieces (head_text (channel_name m) (codes "counter") (channel_help m) ∷ channel_text m s ∷ [])
 
 -- a metric of ends
 unfoldable pub end_metric : EndMetric → Samples → List ℕ
@@ -291,11 +297,13 @@ rejections_text s = join_pieces (end_metric end.Damaged s ∷ end_text end.Stran
 
 -- the PDUs that ends dropped for their numbers
 unfoldable pub misplacements_text : Samples → List ℕ
-misplacements_text s = join_pieces (end_text end.Far s ∷ end_text end.Unrequested s ∷ end_text end.Repeated s ∷ end_text end.Below s ∷ [])
+misplacements_text s =
+    join_pieces (end_text end.Far s ∷ end_text end.Unrequested s ∷ end_text end.Repeated s ∷ end_text end.Below s ∷ [])
 
 -- the PDUs that ends received
 unfoldable pub parts_text : Samples → List ℕ
-parts_text s = join_pieces (end_metric end.Expired s ∷ end_metric end.Accepted s ∷ rejections_text s ∷ misplacements_text s ∷ [])
+parts_text s =
+    join_pieces (end_metric end.Expired s ∷ end_metric end.Accepted s ∷ rejections_text s ∷ misplacements_text s ∷ [])
 
 -- telegrams and times
 unfoldable pub telegrams_text : Samples → List ℕ
@@ -308,4 +316,5 @@ telegrams_text s =
 
 -- all metrics; the last line is a comment that ends them
 unfoldable pub block_text : Samples → List ℕ
-block_text s = join_pieces (traffic_text s ∷ drops_text s ∷ made_pdus_text s ∷ parts_text s ∷ telegrams_text s ∷ codes "# EOF\n" ∷ [])
+block_text s = join_pieces (traffic_text s ∷ drops_text s ∷ made_pdus_text s ∷ parts_text s ∷ telegrams_text s ∷
+    codes "# EOF\n" ∷ [])

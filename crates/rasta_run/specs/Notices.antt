@@ -12,16 +12,21 @@ use Rattle.rasta_run.specs.declared.notices.Notice.TheVariants.{CallsFail, Calls
 
 -- the connection is lost, and this many telegrams were put and not confirmed
 unfoldable pub in_doubt_text : ℕ → List ℕ
-in_doubt_text count = join_pieces (codes "the connection is lost; " ∷ decimal count ∷ codes " telegrams are in doubt: put and not confirmed" ∷ [])
+in_doubt_text count =
+    join_pieces (codes "the connection is lost; " ∷ decimal count ∷
+    codes " telegrams are in doubt: put and not confirmed" ∷ [])
 
 -- the end took no turn for this many milliseconds
 unfoldable pub no_turn_text : ℕ → List ℕ
-no_turn_text milliseconds = join_pieces (codes "no turn for " ∷ decimal milliseconds ∷ codes " ms: the process was stopped, or had no processor" ∷ [])
+no_turn_text milliseconds =
+    join_pieces (codes "no turn for " ∷ decimal milliseconds ∷
+    codes " ms: the process was stopped, or had no processor" ∷ [])
 
 -- this many openings in a row got no session
 unfoldable pub fruitless_text : ℕ → List ℕ
 fruitless_text count =
-    join_pieces (codes "no session in the last " ∷ decimal count ∷ codes " openings; openings are only counted until there is one" ∷ [])
+    join_pieces (codes "no session in the last " ∷ decimal count ∷
+    codes " openings; openings are only counted until there is one" ∷ [])
 
 -- a session was established after this many openings in a row without one
 unfoldable pub session_text : ℕ → List ℕ
@@ -43,7 +48,8 @@ error_text (Some number) = number_text number
 
 -- calls on this channel, from 1, fail
 unfoldable pub refusal_text : Call → (channel : ℕ) → List ℕ
-refusal_text call channel = join_pieces (call_name call ∷ codes " on channel " ∷ decimal channel ∷ codes " fail: the system refuses them" ∷ [])
+refusal_text call channel =
+    join_pieces (call_name call ∷ codes " on channel " ∷ decimal channel ∷ codes " fail: the system refuses them" ∷ [])
 
 -- the same, for this reason
 unfoldable pub calls_fail_text : Call → (channel : ℕ) → Option ℤ → List ℕ
@@ -52,16 +58,19 @@ calls_fail_text call channel error = join_pieces (refusal_text call channel ∷ 
 -- calls on this channel succeed again, after this many that failed
 unfoldable pub calls_succeed_text : Call → (channel failed : ℕ) → List ℕ
 calls_succeed_text call channel failed =
-    join_pieces (call_name call ∷ codes " on channel " ∷ decimal channel ∷ codes " succeed again: none failed for T_max; " ∷ decimal failed ∷ codes " failed before" ∷ [])
+    join_pieces (call_name call ∷ codes " on channel " ∷ decimal channel ∷
+    codes " succeed again: none failed for T_max; " ∷ decimal failed ∷ codes " failed before" ∷ [])
 
 -- a requested retransmission did not come for this many milliseconds
 unfoldable pub unanswered_text : ℕ → List ℕ
 unanswered_text milliseconds =
-    join_pieces (codes "the requested retransmission did not come: " ∷ decimal milliseconds ∷ codes " ms from the request to the end of the connection" ∷ [])
+    join_pieces (codes "the requested retransmission did not come: " ∷ decimal milliseconds ∷
+    codes " ms from the request to the end of the connection" ∷ [])
 
 -- this many more datagrams were dropped, for causes that are logged
 unfoldable pub drops_text : ℕ → List ℕ
-drops_text count = join_pieces (codes "dropped " ∷ decimal count ∷ codes " more datagrams, for causes that are logged" ∷ [])
+drops_text count =
+    join_pieces (codes "dropped " ∷ decimal count ∷ codes " more datagrams, for causes that are logged" ∷ [])
 
 -- the four bytes of a version, the least significant one of its number first
 unfoldable pub version_bytes : ℕ → List ℕ
@@ -96,7 +105,8 @@ notice_text Unread = codes "leaves: nobody reads standard output"
 -- TIME END, at the start of a line, as in the log of an end
 unfoldable pub notice_front : ℕ → Side → List ℕ
 notice_front at side =
-    join_pieces (decimal (at / 1000) ∷ codes "." ∷ three_digits (at % 1000) ∷ codes " " ∷ side_name side ∷ codes " " ∷ [])
+    join_pieces (decimal (at / 1000) ∷ codes "." ∷ three_digits (at % 1000) ∷ codes " " ∷ side_name side ∷ codes " " ∷
+    [])
 
 -- TIME END TEXT
 abbrev pub notice_line : ℕ → Side → Notice → List ℕ

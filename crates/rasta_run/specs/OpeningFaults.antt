@@ -54,7 +54,8 @@ place_text side channel is_own address =
 
 -- the line of a text that is not an address
 unfoldable pub unread_text : Side → ℕ → Bool → List ℕ → List ℕ
-unread_text side channel is_own address = join_pieces (place_text side channel is_own address ∷ codes ": not an IP address and a port\n" ∷ [])
+unread_text side channel is_own address =
+    join_pieces (place_text side channel is_own address ∷ codes ": not an IP address and a port\n" ∷ [])
 
 -- words for the most frequent errors of the system
 abbrev pub error_words : ℕ → List ℕ
@@ -79,4 +80,5 @@ unbound_front side channel address = join_pieces (place_text side channel true a
 
 -- the line of a channel without a socket, with the system's error, if it has a number
 unfoldable pub unbound_text : Side → ℕ → List ℕ → Option ℕ → List ℕ
-unbound_text side channel address error = join_pieces (unbound_front side channel address ∷ error_text error ∷ codes "\n" ∷ [])
+unbound_text side channel address error =
+    join_pieces (unbound_front side channel address ∷ error_text error ∷ codes "\n" ∷ [])

@@ -15,13 +15,16 @@ pub record PrinterState : Type 0 where
   pub failed : Bool  -- a line could not be written
   pub text : Option (List ℕ)  -- the content of standard output
 
--- a telegram is counted, and its line is appended to the output; if the output fails, or has failed, nothing is said of it
+-- a telegram is counted, and its line is appended to the output; if the output fails, or has failed, nothing is said of
+-- it
 abbrev pub PrintsTelegram : PrinterState → Item → PrinterState → Type 0
 PrintsTelegram p item q =
     (q.side ≡ p.side) × (q.stamp ≡ p.stamp) × (q.taken ≡ (p.taken + 1) % 2 ^ 64)
     × (q.failed ≡ false → (p.failed ≡ false)
-    × ((written : List ℕ) × StampsTake p.stamp (take_line p.side item.0 item.1) written × Appends p.text q.text written))
+    × ((written : List ℕ) × StampsTake p.stamp (take_line p.side item.0 item.1) written
+    × Appends p.text q.text written))
 
 -- the line of a refusal with this name is appended to the output, and nothing else changes
 abbrev pub PrintsRefusal : PrinterState → List ℕ → PrinterState → Type 0
-PrintsRefusal p name q = (q.side ≡ p.side) × (q.stamp ≡ p.stamp) × (q.taken ≡ p.taken) × (q.failed ≡ p.failed) × Appends p.text q.text (refusal_line name)
+PrintsRefusal p name q = (q.side ≡ p.side) × (q.stamp ≡ p.stamp) × (q.taken ≡ p.taken) × (q.failed ≡ p.failed)
+    × Appends p.text q.text (refusal_line name)

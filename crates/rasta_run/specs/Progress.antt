@@ -13,9 +13,11 @@ new_progress at = record { gained = record { put = 0; confirmed = 0; openings = 
 abbrev pub is_same : ProgressMarks → ProgressMarks → Bool
 is_same a b = nat_eq a.put b.put && (nat_eq a.confirmed b.confirmed && nat_eq a.openings b.openings)
 
--- when an end last got on: now, if anything of what it has gained is new; while it waits for its peer the time does not count
+-- when an end last got on: now, if anything of what it has gained is new; while it waits for its peer the time does not
+-- count
 abbrev pub progress_after : ProgressMarks → (waits : Bool) → ℕ → Progress → Progress
-progress_after gained waits now p = if is_same gained p.gained && not waits then p else record { gained = gained; at = now }
+progress_after gained waits now p =
+    if is_same gained p.gained && not waits then p else record { gained = gained; at = now }
 
 -- an end that is kept waits for its peer as long as it has no connection
 abbrev pub waits_for_peer : ConnectionState → (kept : Bool) → Bool
@@ -26,8 +28,8 @@ waits_for_peer Up kept = false
 waits_for_peer RetrReq kept = false
 waits_for_peer RetrRun kept = false
 
--- an end has nothing left to do once input is done: everything of the list is put and confirmed, or its connection is closed; one that is kept opens
--- again while something is left to put
+-- an end has nothing left to do once input is done: everything of the list is put and confirmed, or its connection is
+-- closed; one that is kept opens again while something is left to put
 abbrev pub is_finished : ConnectionState → (kept is_empty settled : Bool) → Bool
 is_finished Closed kept is_empty settled = not kept || is_empty
 is_finished Down kept is_empty settled = settled && is_empty

@@ -63,11 +63,13 @@ sent_event channel datagram = if channel == 1 then made_event (kind_seen datagra
 
 -- a datagram was to be sent on a channel, and was or was not
 abbrev pub after_send : (channel : ℕ) → List ℕ → Bool → Recorder → Recorder
-after_send channel datagram went r = with_some (sent_event channel datagram) (record r { channels = count_sent_on channel went r.channels })
+after_send channel datagram went r =
+    with_some (sent_event channel datagram) (record r { channels = count_sent_on channel went r.channels })
 
 -- a datagram of a channel was dropped
 abbrev pub after_drop : (channel : ℕ) → Cause → Recorder → Recorder
-after_drop channel cause r = with_event (happening.Dropped channel cause) (record r { last_cause = Some (last_of r.last_cause cause) })
+after_drop channel cause r =
+    with_event (happening.Dropped channel cause) (record r { last_cause = Some (last_of r.last_cause cause) })
 
 -- the last datagram was dropped, if there is a cause
 abbrev pub after_cause : Option Cause → Recorder → Recorder
@@ -87,9 +89,11 @@ header_under number (Some h) = if nat_eq h.number number then Some h else None
 abbrev pub after_part : (number : ℕ) → DropCause → Recorder → Recorder
 after_part number cause r =
     let channel = channel_under number r.came.0 r.came.1 in
-    after_drop channel (drop_cause cause (header_under number r.came.1) r.wanted) (record r { channels = count_dropped_on channel cause r.channels })
+    after_drop channel (drop_cause cause (header_under number r.came.1) r.wanted)
+    (record r { channels = count_dropped_on channel cause r.channels })
 
--- the version for which the end last disconnected, after it disconnected for this reason because of a part with this header
+-- the version for which the end last disconnected, after it disconnected for this reason because of a part with this
+-- header
 abbrev pub version_after : Reason → Option Header → (before : Option ℕ) → Option ℕ
 version_after reason.WrongVersion (Some header) before = header.version
 version_after reason.WrongVersion None before = before
@@ -103,7 +107,8 @@ version_after reason.ProtocolError header before = before
 
 -- the end disconnected because of the part with this number
 abbrev pub after_disconnect : (number : ℕ) → Reason → Recorder → Recorder
-after_disconnect number why r = record r { closing = one_more r.closing; version = version_after why (header_under number r.came.1) r.version }
+after_disconnect number why r =
+    record r { closing = one_more r.closing; version = version_after why (header_under number r.came.1) r.version }
 
 -- the safety machine handled the part with this number
 abbrev pub after_step : (number : ℕ) → Step → Recorder → Recorder

@@ -8,8 +8,8 @@ use Rattle.rasta_words.specs.declared.command_line.Request.TheVariants.{Check, D
 use Rattle.rasta_run.specs.CheckOutput.{HasCheckedSome}
 use Rattle.rasta_run.specs.ShowOutput.{HasDigested, HasShown}
 
--- the request was done. No contract can name the files of a script or a capture, so for these and a run over sockets this says only that the run has
--- ended.
+-- the request was done. No contract can name the files of a script or a capture, so for these and a run over sockets
+-- this says only that the run has ended.
 abbrev pub HasDone : Request → Option (List ℕ) → Option (List ℕ) → Type 0
 HasDone (Digest hex) old new = HasDigested hex.now old new
 HasDone (Show code iv hex) old new = HasShown code (option_copied iv) hex.now true old new

@@ -15,7 +15,8 @@ abbrev pub rule_of : CodeLength → List ℕ → CodeRule
 rule_of code words = record { length = code; initial_value = words }
 
 -- the text of the bytes that the hex text spells was appended, and `clean` says whether it has no fault
-pub record HasShown (code : CodeLength) (iv : Option (List ℕ)) (hex : List ℕ) (clean : Bool) (old new : Option (List ℕ)) : Type 0 where
+pub record HasShown (code : CodeLength) (iv : Option (List ℕ)) (hex : List ℕ) (clean : Bool)
+    (old new : Option (List ℕ)) : Type 0 where
   -- the initial value
   pub words : List ℕ
   -- the bytes

@@ -33,7 +33,8 @@ new_silence at = record { came = 0; at = at; silent = false }
 -- the channel at a place after a look at the counts of all
 abbrev pub silence_now : List ChannelSilence → List ReceptionCounts → (place now t_max : ℕ) → ChannelSilence
 silence_now ls rs place now t_max =
-    look_at_channel (slice_index_or ls place (new_silence 0)) (slice_index_or rs place no_reception_counts).received now t_max
+    look_at_channel (slice_index_or ls place (new_silence 0)) (slice_index_or rs place no_reception_counts).received now
+    t_max
 
 -- the channels after a look at the one at a place, from 0, if the end has it
 abbrev pub silences_at : List ReceptionCounts → (count now t_max place : ℕ) → List ChannelSilence → List ChannelSilence
@@ -43,7 +44,8 @@ silences_at rs count now t_max place ls =
 -- the channels after a look at all of them
 abbrev pub all_silences : List ReceptionCounts → (count now t_max : ℕ) → List ChannelSilence → List ChannelSilence
 all_silences rs count now t_max ls =
-    silences_at rs count now t_max 3 (silences_at rs count now t_max 2 (silences_at rs count now t_max 1 (silences_at rs count now t_max 0 ls)))
+    silences_at rs count now t_max 3 (silences_at rs count now t_max 2
+    (silences_at rs count now t_max 1 (silences_at rs count now t_max 0 ls)))
 
 -- the event of a change of a channel, numbered from 1
 abbrev pub silence_event : SilenceChange → (channel : ℕ) → Option EndEvent

@@ -15,7 +15,8 @@ later first (Some time) = Some time
 
 -- the damaged datagrams together, by fault
 abbrev pub add_red_faults : RedFaultCounts → RedFaultCounts → RedFaultCounts
-add_red_faults c d = record { short = sum c.short d.short; length = sum c.length d.length; reserve = sum c.reserve d.reserve }
+add_red_faults c d =
+    record { short = sum c.short d.short; length = sum c.length d.length; reserve = sum c.reserve d.reserve }
 
 -- the damaged parts together, by fault
 abbrev pub add_safe_faults : SafeFaultCounts → SafeFaultCounts → SafeFaultCounts
@@ -111,4 +112,5 @@ received_count_at cs place = (counts_at cs place).received
 
 -- the datagrams received on all four
 abbrev pub received_count : List ReceptionCounts → ℕ
-received_count cs = sum (sum (sum (received_count_at cs 0) (received_count_at cs 1)) (received_count_at cs 2)) (received_count_at cs 3)
+received_count cs =
+    sum (sum (sum (received_count_at cs 0) (received_count_at cs 1)) (received_count_at cs 2)) (received_count_at cs 3)

@@ -7,8 +7,8 @@ use Rattle.safe_machine.specs.Deadlines.{IsBefore, IsReachedAt}
 use Rattle.stack_end.specs.Deadlines.{HasFallen, IsQuiet}
 use Rattle.stack_end.specs.Turns.{Inside, is_over}
 
--- in milliseconds. If turns are counted: a heartbeat is due after 10 at least, and the sockets are asked at most 250 times a second. If a run lasts until
--- input ends: input ends the wait.
+-- in milliseconds. If turns are counted: a heartbeat is due after 10 at least, and the sockets are asked at most 250
+-- times a second. If a run lasts until input ends: input ends the wait.
 abbrev pub longest_rest : RunLength → ℕ
 longest_rest (Turns turns) = 4
 longest_rest UntilEnd = 1_000
@@ -31,5 +31,6 @@ again_at deaf last = if nat_eq deaf 0 then None else Some (min (last + 10) (2 ^ 
 -- the deadline of an end: a tick before it does nothing, and one at or after it does something; a closed end has none
 abbrev pub IsDeadlineOf : Inside → Option ℕ → Type 0
 IsDeadlineOf v own =
-    (is_over v ≡ false → (now : ℕ) → IsBefore now own → IsQuiet now v) × ((now : ℕ) → now ≤ TIME_MAX → IsReachedAt now own → HasFallen now v)
+    (is_over v ≡ false → (now : ℕ) → IsBefore now own → IsQuiet now v)
+    × ((now : ℕ) → now ≤ TIME_MAX → IsReachedAt now own → HasFallen now v)
     × (is_over v ≡ true → own ≡ None)

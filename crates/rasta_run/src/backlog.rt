@@ -121,8 +121,8 @@ impl<W: Write> Backlog<W> {
     }
 
     /// Returns how many lines wait.
-    pub fn waiting(&self) -> u64
-        // `waiting` returns the number of lines of the bytes that wait.
+    pub fn waiting_count(&self) -> u64
+        // `waiting_count` returns the number of lines of the bytes that wait.
         ensures { result ≡ lines_left self.now.octets.items }
     {
         lines_left(self.octets.as_slice()) as u64

@@ -40,8 +40,8 @@ pub struct RunCounts {
 
 impl RunCounts {
     /// Returns how many PDUs the safety machine did not drop.
-    pub fn accepted(&self) -> u64
-        // `accepted` returns the sum of the PDUs taken, those that revealed a gap, and those that ended a
+    pub fn accepted_count(&self) -> u64
+        // `accepted_count` returns the sum of the PDUs taken, those that revealed a gap, and those that ended a
         // connection or came after its end.
         ensures { result ≡ counting.accepted_count self.now }
     {
@@ -53,8 +53,8 @@ impl RunCounts {
     }
 
     /// Returns how many PDUs the safety machine dropped.
-    pub fn dropped(&self) -> u64
-        // `dropped` returns the sum over the seven causes.
+    pub fn dropped_count(&self) -> u64
+        // `dropped_count` returns the sum over the seven causes.
         ensures { result ≡ counting.dropped_count self.now }
     {
         let parts = &self.sums.parts;

@@ -409,8 +409,8 @@ fn write_pdus<W: Write>(
         ("heartbeats", made.heartbeats),
         ("asked", made.requests),
         ("answered", made.answers),
-        ("accepted", counted.accepted()),
-        ("dropped", counted.dropped()),
+        ("accepted", counted.accepted_count()),
+        ("dropped", counted.dropped_count()),
         ("confirmed", counted.sums.confirmed),
     ];
     write_fields(writer, form, &fields)

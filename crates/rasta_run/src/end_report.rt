@@ -108,13 +108,13 @@ impl<C: Channels, A: Allocator + Copy> Actor<'_, C, A> {
             (run_counts_of self.now.earlier.sums (statistics_of self.now.end) (channels_of self.now.end).recorder.value self.now.failures self.now.put self.now.taken)
             (channels_of self.now.end).recorder.value.last_cause))) (E.contents err.old) (E.contents err.new)) }
     {
-        let counted = self.counted();
+        let counted = self.run_counts();
         let ending = FinalState {
             state: self.end.state(),
             phase: self.end.phase(),
             departure: self.log.departure(&self.end),
             came: received_on(&counted.sums),
-            taken: counted.accepted(),
+            taken: counted.accepted_count(),
             last: self.end.channels_seen().recorder.last_cause,
         };
         self.log.end(&ending, now, err)
@@ -186,7 +186,7 @@ impl<C: Channels, A: Allocator + Copy> Actor<'_, C, A> {
           counted = run_counts_of self.now.earlier.sums (statistics_of self.now.end) (channels_of self.now.end).recorder.value self.now.failures self.now.put self.now.taken;
         } }
     {
-        self.teller.sample(&self.counted(), now)
+        self.teller.sample(&self.run_counts(), now)
     }
 
     /// Prints the lines of counts, if they are due. Returns whether counts are due.
@@ -203,7 +203,7 @@ impl<C: Channels, A: Allocator + Copy> Actor<'_, C, A> {
         if self.teller.is_off() {
             return false;
         }
-        let counted = self.counted();
+        let counted = self.run_counts();
         if !self.teller.look(&counted, now) {
             return false;
         }
@@ -227,10 +227,10 @@ impl Actor<'_, UdpChannels> {
     }
 
     /// Returns how many datagrams its sockets received, modulo 2^64.
-    pub fn received(&self) -> u64
-        // `received` returns the count of the channels.
+    pub fn received_count(&self) -> u64
+        // `received_count` returns the count of the channels.
         ensures { result ≡ (channels_of self.now.end).inner.received }
     {
-        self.end.channels_seen().inner.received()
+        self.end.channels_seen().inner.received_count()
     }
 }

@@ -196,8 +196,8 @@ impl<I: Read + Drop> Feed<I> {
     }
 
     /// Returns how many lines were not put: those that are not telegrams, and those that are left.
-    pub fn unput(&self) -> u64
-        // `unput` adds the lines that are not telegrams, the one that is next, and those that are left.
+    pub fn unput_count(&self) -> u64
+        // `unput_count` adds the lines that are not telegrams, the one that is next, and those that are left.
         ensures { result ≡ unput_count (input_of self.now) }
     {
         let next = match self.next {
@@ -329,7 +329,7 @@ fn line_in(octets: &[u8], ended: bool) -> Option<(usize, usize)>
     let size = octets.len();
     match feed_in(octets) {
         Some(place) => Some((place, place + 1)),
-        None => unfed(size, ended),
+        None => line_without_feed(size, ended),
     }
 }
 
@@ -367,11 +367,11 @@ fn feed_in(octets: &[u8]) -> Option<usize>
 }
 
 /// Returns the line of bytes without a line feed, if they are one.
-fn unfed(size: usize, ended: bool) -> Option<(usize, usize)>
-    // `unfed` returns all bytes, if the input has ended and there are any, or if there are 65,536; and else
+fn line_without_feed(size: usize, ended: bool) -> Option<(usize, usize)>
+    // `line_without_feed` returns all bytes, if the input has ended and there are any, or if there are 65,536; and else
     // `None`.
     ensures line { result ≡ unfed_line ended size }
-    // A line of `unfed` has all bytes, and all are removed.
+    // A line of `line_without_feed` has all bytes, and all are removed.
     ensures bounded { IfSome result (λ p. (p.0 ≡ size) × (p.1 ≡ size)) }
 {
     let at_end = ended && 0 < size;

@@ -200,7 +200,7 @@ impl Log {
         }
         let mut missed = 0u64;
         'events: for number in self.told..recorder.happened {
-            match recorder.happening(number) {
+            match recorder.event(number) {
                 Some(happening) => {
                     self.tell_explained(
                         happening,

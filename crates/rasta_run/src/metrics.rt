@@ -219,7 +219,7 @@ impl EndMetric {
             EndMetric::Heartbeats => Some(made.heartbeats),
             EndMetric::Requested => Some(made.requests),
             EndMetric::Answered => Some(made.answers),
-            EndMetric::Accepted => Some(counted.accepted()),
+            EndMetric::Accepted => Some(counted.accepted_count()),
             EndMetric::Damaged => Some(parts.damaged.total()),
             EndMetric::Stranger => Some(parts.strangers),
             EndMetric::Unopened => Some(parts.unopened),

@@ -120,8 +120,8 @@ impl Recorder {
     }
 
     /// Returns the event with this number, from 0. Returns `None` if it is forgotten, or has not happened.
-    pub fn happening(&self, number: u64) -> Option<EndEvent>
-        // `happening` returns each of the last 256 events by its number, and `None` for any other.
+    pub fn event(&self, number: u64) -> Option<EndEvent>
+        // `event` returns each of the last 256 events by its number, and `None` for any other.
         ensures { result ≡ telling.event_at self.now.kept self.now.happened number }
     {
         if number >= self.happened || self.happened - number > KEPT as u64 {

@@ -111,7 +111,7 @@ impl Runner<'_> {
         let mut feed = Feed::open(alloc, &mut streams.gate, watch, rt.reader())?;
         let ran = self.take_fed_turns(rt, alloc, clock, watch, &mut feed, streams);
         unless_unread(ran, streams.out.has_left_out())?;
-        Ok(feed.unput())
+        Ok(feed.unput_count())
     }
 
     /// Takes turns until the input has ended, and everything is put and confirmed or the ends give up.
@@ -178,11 +178,11 @@ impl Runner<'_> {
         ensures taken { OnOk result ((self.new.first.last_turn ≡ now) × IfSome self.new.second (λ a. a.last_turn ≡ now)
             × (self.new.turns ≡ (self.old.turns + 1) % 2 ^ 64)) }
     {
-        let before = self.received();
+        let before = self.received_count();
         turn_of(&mut self.first, now, out, err)?;
         turn_of_second(&mut self.second, now, out, err)?;
         self.turns = self.turns.wrapping_add(1);
-        Ok(self.received() != before)
+        Ok(self.received_count() != before)
     }
 
     /// Puts lines of input into the first end, and returns whether there was one.
@@ -207,12 +207,12 @@ impl Runner<'_> {
     }
 
     /// Returns how many datagrams the sockets of each end received, modulo 2^64.
-    fn received(&self) -> (u64, Option<u64>) {
+    fn received_count(&self) -> (u64, Option<u64>) {
         let second = match &self.second {
             None => None,
-            Some(second) => Some(second.received()),
+            Some(second) => Some(second.received_count()),
         };
-        (self.first.received(), second)
+        (self.first.received_count(), second)
     }
 
     /// Records of each end whether it has got on.

@@ -192,7 +192,7 @@ impl<O: Write, E: Write, G: Gate> Streams<O, E, G> {
         // `tell_unread` does not change standard output.
         ensures kept { self.new.out ≡ self.old.out }
     {
-        let unread = left_out.saturating_add(self.out.waiting());
+        let unread = left_out.saturating_add(self.out.waiting_count());
         if unread == 0 {
             return true;
         }

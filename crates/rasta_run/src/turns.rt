@@ -179,7 +179,7 @@ impl<'a, C: Channels, A: Allocator + Copy> Actor<'a, C, A> {
             return;
         }
         let departure = self.log.departure(&self.end);
-        let counted = self.counted();
+        let counted = self.run_counts();
         let recorder = &self.end.channels_seen().recorder;
         let config = &self.keeper.config;
         self.log.catch_up(recorder, departure, config, now, err);
@@ -192,8 +192,8 @@ impl<'a, C: Channels, A: Allocator + Copy> Actor<'a, C, A> {
     }
 
     /// Returns all that is counted of the end.
-    pub fn counted(&self) -> RunCounts
-        // `counted` adds the end's own counts to those of its earlier openings, and has those of the recorder, the
+    pub fn run_counts(&self) -> RunCounts
+        // `run_counts` adds the end's own counts to those of its earlier openings, and has those of the recorder, the
         // calls that failed, and the numbers of telegrams put and taken.
         ensures { result ≡ run_counts_of self.now.earlier.sums (statistics_of self.now.end)
             (channels_of self.now.end).recorder.value self.now.failures self.now.put self.now.taken }
@@ -221,7 +221,7 @@ impl<'a, C: Channels, A: Allocator + Copy> Actor<'a, C, A> {
             (printed_counts self.now.teller now (run_counts_of self.now.earlier.sums (statistics_of self.now.end)
             (channels_of self.now.end).recorder.value self.now.failures self.now.put self.now.taken))) }
     {
-        self.teller.tell(&self.counted(), now, err)
+        self.teller.tell(&self.run_counts(), now, err)
     }
 
     /// Takes one turn: the end receives. Then an interlocking with an established session, or a field element that

@@ -1,4 +1,5 @@
--- Commands with one argument or subcommand more. Each definition is shut, so that the chain of a command stays short in each goal.
+-- Commands with one argument or subcommand more. Each definition is shut, so that the chain of a command stays short in
+-- each goal.
 use Rattle.std.specs.Prelude.{true, codes, Some}
 use Rattle.clap.specs.Words.{App, Text, new_rule, with_rule, with_subcommand}
 use Rattle.clap.specs.declared.builder.action.ArgAction.TheVariants.{SetTrue}

@@ -63,7 +63,8 @@ NamesUnpaired found Missing = ⊥
 abbrev pub IsUnpairable : List Row → Text → Option Text → Rejection → Type 0
 IsUnpairable rows file None r = ⊥
 IsUnpairable rows file (Some beside) r =
-    NamesUnpaired (unpaired_of rows) r ⊎ ((unpaired_of rows ≡ None) × (is_one_input file beside ≡ true) × (r ≡ OneInput))
+    NamesUnpaired (unpaired_of rows) r ⊎ ((unpaired_of rows ≡ None) × (is_one_input file beside ≡ true)
+    × (r ≡ OneInput))
 
 abbrev pub IsBesideRejected : List Row → Text → Rejection → Type 0
 IsBesideRejected rows file r = IsUnpairable rows file (first_of (codes "beside") rows) r
@@ -72,10 +73,12 @@ IsBesideRejected rows file r = IsUnpairable rows file (first_of (codes "beside")
 abbrev pub HasChoices : List Row → FollowRequest → Type 0
 HasChoices rows f =
     IsCodeChosen (first_of (codes "code") rows) f.code × (first_of (codes "iv") rows ≡ option_copied f.iv)
-    × (is_flagged (first_of (codes "messages") rows) ≡ f.messages) × IsRemarkChosen (first_of (codes "only") rows) f.only
+    × (is_flagged (first_of (codes "messages") rows) ≡ f.messages)
+    × IsRemarkChosen (first_of (codes "only") rows) f.only
     × IsAgeChosen (first_of (codes "t-max") rows) f.t_max × (first_of (codes "file") rows ≡ Some f.file.now)
     × ArePortsChosen (first_of (codes "ports") rows) f.ports × (is_flagged (first_of (codes "json") rows) ≡ f.json)
-    × (is_flagged (first_of (codes "events") rows) ≡ f.events) × (is_flagged (first_of (codes "choose") rows) ≡ f.choose)
+    × (is_flagged (first_of (codes "events") rows) ≡ f.events)
+    × (is_flagged (first_of (codes "choose") rows) ≡ f.choose)
     × HasTimes rows f.times × IsBesideChosen rows f.file.now (option_copied f.beside)
 
 -- no choices of `follow` have the values of these entries

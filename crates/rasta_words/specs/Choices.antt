@@ -11,8 +11,8 @@ use Rattle.safe_pdu.specs.declared.CodeLength.{CodeLength}
 use Rattle.safe_pdu.specs.declared.CodeLength.TheVariants.{Zero, Eight, Sixteen}
 use Rattle.rasta_words.specs.Arguments.{with_flag, with_operand, with_option}
 
--- The command is follow [--beside RECORDING] [--choose] [--code N] [--events] [--every N] [--from INSTANT] [--iv HEX] [--json] [--messages]
--- [--only WORD] [--ports PORTS] [--time FORM] [--t-max MS] [--to INSTANT] FILE.
+-- The command is follow [--beside RECORDING] [--choose] [--code N] [--events] [--every N] [--from INSTANT] [--iv HEX]
+-- [--json] [--messages] [--only WORD] [--ports PORTS] [--time FORM] [--t-max MS] [--to INSTANT] FILE.
 
 -- the command with `--code` and `--iv`
 abbrev pub with_code : App → App
@@ -32,7 +32,8 @@ with_forms app = with_flag (with_flag (with_flag app (codes "json")) (codes "cho
 
 -- the command with `--time`, `--from`, `--to` and `--every`
 abbrev pub with_times : App → App
-with_times app = with_option (with_option (with_option (with_option app (codes "time")) (codes "from")) (codes "to")) (codes "every")
+with_times app = with_option (with_option (with_option (with_option app (codes "time")) (codes "from")) (codes "to"))
+    (codes "every")
 
 -- the command with `--beside` and FILE, which is required
 abbrev pub with_recordings : App → App
@@ -40,7 +41,8 @@ with_recordings app = with_operand (with_option app (codes "beside")) (codes "fi
 
 -- the whole command `follow`
 abbrev pub follow_app : App
-follow_app = with_recordings (with_times (with_forms (with_ports (with_remarks (with_code (new_app (codes "follow")))))))
+follow_app =
+    with_recordings (with_times (with_forms (with_ports (with_remarks (with_code (new_app (codes "follow")))))))
 
 -- the word for a length of the safety code, in bytes
 abbrev pub code_word : CodeLength → Text
@@ -71,7 +73,8 @@ IsRemarkChosen (Some word) remark = IsWritten word remark
 -- the word is a number of milliseconds from 1 to 2^32 - 1, in decimal digits, after an optional plus
 abbrev pub IsMilliseconds : Text → ℕ → Type 0
 IsMilliseconds word age =
-    IsNumeral 10 (without_leading_plus word) × (digits_value 10 (without_leading_plus word) ≡ age) × (1 ≤ age) × (age < 2 ^ 32)
+    IsNumeral 10 (without_leading_plus word) × (digits_value 10 (without_leading_plus word) ≡ age) × (1 ≤ age)
+    × (age < 2 ^ 32)
 
 -- the age that the word of `--t-max` names, in milliseconds; 1,800 without the option
 abbrev pub IsAgeChosen : Option Text → ℕ → Type 0

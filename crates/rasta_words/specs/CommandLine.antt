@@ -31,7 +31,10 @@ check_app = with_operand (new_app (codes "check")) (codes "file")
 
 -- the program without subcommands, of which one is required; it has a version
 abbrev pub bare_app : App
-bare_app = record (new_app (codes "rasta")) { top = record (new_app (codes "rasta")).top { subcommand_required = true; has_version = true } }
+bare_app =
+    record (new_app (codes "rasta")) {
+      top = record (new_app (codes "rasta")).top { subcommand_required = true; has_version = true };
+    }
 
 -- the program with the subcommands that use no sockets but `check`
 abbrev pub with_files : App → App
@@ -39,7 +42,8 @@ with_files app = with_command (with_command (with_command (with_command app md4_
 
 -- the program with the subcommands of ends over sockets
 abbrev pub with_ends : App → App
-with_ends app = with_command (with_command (with_command app (net_app (codes "il"))) (net_app (codes "fe"))) (net_app (codes "pair"))
+with_ends app = with_command (with_command (with_command app (net_app (codes "il"))) (net_app (codes "fe")))
+    (net_app (codes "pair"))
 
 -- the whole program
 abbrev pub rasta_app : App
@@ -49,7 +53,8 @@ rasta_app = with_command (with_ends (with_files bare_app)) check_app
 abbrev pub HasEntries : Request → Text → List Row → Type 0
 HasEntries (Digest hex) name rows = (name ≡ codes "md4") × (first_of (codes "hex") rows ≡ Some hex.now)
 HasEntries (Show code iv hex) name rows =
-    (name ≡ codes "show") × (first_of (codes "code") rows ≡ Some (code_word code)) × (first_of (codes "iv") rows ≡ option_copied iv)
+    (name ≡ codes "show") × (first_of (codes "code") rows ≡ Some (code_word code))
+    × (first_of (codes "iv") rows ≡ option_copied iv)
     × (first_of (codes "hex") rows ≡ Some hex.now)
 HasEntries (Follow choices) name rows = (name ≡ codes "follow") × HasChoices rows choices
 HasEntries (Sim script) name rows = (name ≡ codes "sim") × (first_of (codes "script") rows ≡ Some script.now)
@@ -81,7 +86,8 @@ IsFaultOf words (Memory error) = ⊤
 
 -- the words ask for no request, and this is why
 abbrev pub RejectsWords : List Text → Rejection → Type 0
-RejectsWords words rejection = ((request : Request) → ¬ AsksForRequest words request) × IsReason (subcommand_of rasta_app words) rejection
+RejectsWords words rejection =
+    ((request : Request) → ¬ AsksForRequest words request) × IsReason (subcommand_of rasta_app words) rejection
 
 -- the fault is one that the words have: clap's rules find it, or the words ask for no request; or it is want of memory
 abbrev pub RefusesWords : List Text → WordsFault → Type 0

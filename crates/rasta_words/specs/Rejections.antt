@@ -85,7 +85,8 @@ IsLengthRejected None true r = ⊥
 abbrev pub HasForm : Text → Type 0
 HasForm word = (form : CountsForm) × (word ≡ form_word form)
 
--- why `--stats` and `--every` choose no counts: one of them is not valid, the form first, or the second is given without the first
+-- why `--stats` and `--every` choose no counts: one of them is not valid, the form first, or the second is given
+-- without the first
 abbrev pub AreCountsRejected : Option Text → Option Text → Rejection → Type 0
 AreCountsRejected None None r = ⊥
 AreCountsRejected None (Some every) r = r ≡ EveryAlone
@@ -97,7 +98,8 @@ LacksArgument name rows r = (first_of name rows ≡ None) × (r ≡ Missing)
 
 -- a valid length is given
 abbrev pub HasLength : List Row → Type 0
-HasLength rows = (length : RunLength) × IsLengthChosen (first_of (codes "turns") rows) (is_flagged (first_of (codes "until-end") rows)) length
+HasLength rows = (length : RunLength) × IsLengthChosen (first_of (codes "turns") rows)
+    (is_flagged (first_of (codes "until-end") rows)) length
 
 -- `--log` is valid or absent
 abbrev pub HasLog : List Row → Type 0
@@ -126,7 +128,8 @@ HasAge rows = (age : ℕ) × IsAgeChosen (first_of (codes "t-max") rows) age
 -- why the entries of `show` are not a request
 abbrev pub IsShowRejected : List Row → Rejection → Type 0
 IsShowRejected rows r =
-    LacksArgument (codes "code") rows r ⊎ NamesGivenOption ShowCode (first_of (codes "code") rows) r ⊎ LacksArgument (codes "hex") rows r
+    LacksArgument (codes "code") rows r ⊎ NamesGivenOption ShowCode (first_of (codes "code") rows) r ⊎ LacksArgument
+    (codes "hex") rows r
 
 -- `--ports` is valid or absent
 abbrev pub HasPorts : List Row → Type 0
@@ -149,7 +152,8 @@ abbrev pub IsBesideRejectedFor : Option Text → List Row → Rejection → Type
 IsBesideRejectedFor None rows r = ⊥
 IsBesideRejectedFor (Some file) rows r = IsBesideRejected rows file r
 
--- why the entries of `follow` are not a request: the first of its options that is not valid, in the order --code, --only, --t-max, --ports, its times, then --beside
+-- why the entries of `follow` are not a request: the first of its options that is not valid, in the order --code,
+-- --only, --t-max, --ports, its times, then --beside
 abbrev pub IsFollowRejected : List Row → Rejection → Type 0
 IsFollowRejected rows r =
     NamesGivenOption Code (first_of (codes "code") rows) r
@@ -158,9 +162,11 @@ IsFollowRejected rows r =
     ⊎ LacksArgument (codes "file") rows r
     ⊎ (HasCode rows × HasRemark rows × HasAge rows × NamesGivenOption Ports (first_of (codes "ports") rows) r)
     ⊎ (HasCode rows × HasRemark rows × HasAge rows × HasPorts rows × AreTimesRejected rows r)
-    ⊎ (HasCode rows × HasRemark rows × HasAge rows × HasPorts rows × HasAllTimes rows × IsBesideRejectedFor (first_of (codes "file") rows) rows r)
+    ⊎ (HasCode rows × HasRemark rows × HasAge rows × HasPorts rows × HasAllTimes rows
+    × IsBesideRejectedFor (first_of (codes "file") rows) rows r)
 
--- why the entries of `il`, `fe` and `pair` are not a request: their length, or the first option that is not valid, in the order --log, --time, --expect, --stats, --every
+-- why the entries of `il`, `fe` and `pair` are not a request: their length, or the first option that is not valid, in
+-- the order --log, --time, --expect, --stats, --every
 abbrev pub IsRunRejected : List Row → Rejection → Type 0
 IsRunRejected rows r =
     LacksArgument (codes "file") rows r
@@ -168,12 +174,14 @@ IsRunRejected rows r =
     ⊎ (HasLength rows × NamesGivenOption Log (first_of (codes "log") rows) r)
     ⊎ (HasLength rows × HasLog rows × NamesGivenOption LogTime (first_of (codes "time") rows) r)
     ⊎ (HasLength rows × HasLog rows × HasTime rows × NamesGivenOption Expect (first_of (codes "expect") rows) r)
-    ⊎ (HasLength rows × HasLog rows × HasTime rows × HasEnd rows × AreCountsRejected (first_of (codes "stats") rows) (first_of (codes "every") rows) r)
+    ⊎ (HasLength rows × HasLog rows × HasTime rows × HasEnd rows
+    × AreCountsRejected (first_of (codes "stats") rows) (first_of (codes "every") rows) r)
 
 -- no subcommand has this name
 abbrev pub IsStrange : Text → Type 0
 IsStrange name =
-    (name ≢ codes "md4") × (name ≢ codes "show") × (name ≢ codes "sim") × (name ≢ codes "follow") × (name ≢ codes "check")
+    (name ≢ codes "md4") × (name ≢ codes "show") × (name ≢ codes "sim") × (name ≢ codes "follow")
+    × (name ≢ codes "check")
     × ((word : Subcommand) → name ≢ ends_word word)
 
 -- why the entries of the subcommand of this name are not a request

@@ -26,8 +26,8 @@ ends_word Il = codes "il"
 ends_word Fe = codes "fe"
 ends_word Pair = codes "pair"
 
--- The command is il FILE (--turns N | --until-end) [--log off|state|all] [--time utc|run] [--stamp] [--expect up|settled]
--- [--keep] [--stats text|json|prometheus [--every N]]; fe and pair have the same.
+-- The command is il FILE (--turns N | --until-end) [--log off|state|all] [--time utc|run] [--stamp] [--expect
+-- up|settled] [--keep] [--stats text|json|prometheus [--every N]]; fe and pair have the same.
 
 -- the command with `--turns` and the flag `--until-end`
 abbrev pub with_length : App → App
@@ -52,7 +52,8 @@ net_app name = with_operand (with_stats (with_expected (with_log (with_length (n
 -- the word is a number of turns from 1 to 1,000,000, in decimal digits, after an optional plus
 abbrev pub IsTurns : Text → ℕ → Type 0
 IsTurns word turns =
-    IsNumeral 10 (without_leading_plus word) × (digits_value 10 (without_leading_plus word) ≡ turns) × (1 ≤ turns) × (turns ≤ 1000000)
+    IsNumeral 10 (without_leading_plus word) × (digits_value 10 (without_leading_plus word) ≡ turns) × (1 ≤ turns)
+    × (turns ≤ 1000000)
 
 -- the length of a run: the turns of the word without `--until-end`, or the end of input without a word; never both
 abbrev pub IsLengthChosen : Option Text → Bool → RunLength → Type 0
@@ -110,7 +111,8 @@ abbrev pub AreCountsWritten : Text → Option Text → Option CountsRequest → 
 AreCountsWritten form every None = ⊥
 AreCountsWritten form every (Some t) = (form ≡ form_word t.form) × AreSecondsChosen every t.every
 
--- the counts that the words of `--stats` and `--every` choose; none without the first, and then the second must be absent, too
+-- the counts that the words of `--stats` and `--every` choose; none without the first, and then the second must be
+-- absent, too
 abbrev pub AreCountsChosen : Option Text → Option Text → Option CountsRequest → Type 0
 AreCountsChosen None None counts = counts ≡ None
 AreCountsChosen None (Some every) counts = ⊥
@@ -122,7 +124,8 @@ IsRun rows r =
     (first_of (codes "file") rows ≡ Some r.file.now)
     × IsLengthChosen (first_of (codes "turns") rows) (is_flagged (first_of (codes "until-end") rows)) r.length
     × IsLogChosen (first_of (codes "log") rows) r.log × IsTimeChosen (first_of (codes "time") rows) r.time
-    × (is_flagged (first_of (codes "stamp") rows) ≡ r.stamp) × IsEndChosen (first_of (codes "expect") rows) r.expected × (is_flagged (first_of (codes "keep") rows) ≡ r.keep)
+    × (is_flagged (first_of (codes "stamp") rows) ≡ r.stamp) × IsEndChosen (first_of (codes "expect") rows) r.expected
+    × (is_flagged (first_of (codes "keep") rows) ≡ r.keep)
     × AreCountsChosen (first_of (codes "stats") rows) (first_of (codes "every") rows) r.counts
 
 -- no run has the values of these entries

@@ -6,7 +6,8 @@ use Rattle.clap.specs.Words.{Text}
 -- the word is a number of seconds from 1 to 86,400 (a day), in decimal digits, after an optional plus
 abbrev pub IsSeconds : Text → ℕ → Type 0
 IsSeconds word seconds =
-    IsNumeral 10 (without_leading_plus word) × (digits_value 10 (without_leading_plus word) ≡ seconds) × (1 ≤ seconds) × (seconds ≤ 86400)
+    IsNumeral 10 (without_leading_plus word) × (digits_value 10 (without_leading_plus word) ≡ seconds) × (1 ≤ seconds)
+    × (seconds ≤ 86400)
 
 -- the word names these seconds
 abbrev pub IsWrittenIn : Text → Option ℕ → Type 0

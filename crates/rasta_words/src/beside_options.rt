@@ -24,7 +24,7 @@ pub fn chosen_recording<'a>(
     let Some(beside) = entry(entries, "beside") else {
         return Ok(None);
     };
-    if let Some(option) = unpaired(entries) {
+    if let Some(option) = first_unpaired(entries) {
         return Err(Rejection::NotBeside { option });
     }
     if file == "-" && beside == "-" {
@@ -34,7 +34,7 @@ pub fn chosen_recording<'a>(
 }
 
 /// Returns the first option that was given though it says nothing of pairs.
-fn unpaired(entries: &ArgMatches<'_>) -> Option<&'static str>
+fn first_unpaired(entries: &ArgMatches<'_>) -> Option<&'static str>
     // The option is the first in the order of `unpaired_of`.
     ensures { option_copied result ≡ unpaired_of (rows_of (found_of entries.now)) }
 {

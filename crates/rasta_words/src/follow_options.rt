@@ -87,7 +87,7 @@ fn chosen_remark<'a>(word: Option<&'a str>) -> Result<Option<Remarkable>, Reject
 {
     match word {
         None => Ok(None),
-        Some(word) => match Remarkable::named(word) {
+        Some(word) => match Remarkable::of_word(word) {
             Some(remark) => Ok(Some(remark)),
             None => Err(Rejection::Value {
                 option: Choice::Only,

@@ -90,7 +90,7 @@ impl Choice {
     }
 
     /// Returns the values that the option accepts, in words.
-    fn expected(self) -> &'static str {
+    fn accepted_values(self) -> &'static str {
         match self {
             Choice::ShowCode | Choice::Code => "0, 8 or 16",
             Choice::Turns => "1 to 1000000",
@@ -139,7 +139,11 @@ impl fmt::Display for Rejection<'_> {
     fn fmt<W: fmt::Write>(&self, f: &mut fmt::Formatter<W>) -> fmt::Result {
         match self {
             Rejection::Value { option, value } => {
-                let (name, expected, usage) = (option.name(), option.expected(), option.usage());
+                let (name, expected, usage) = (
+                    option.name(),
+                    option.accepted_values(),
+                    option.usage(),
+                );
                 let value = value.escape_debug();
                 write!(
                     f,

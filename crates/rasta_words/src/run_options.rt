@@ -253,7 +253,7 @@ fn chosen_end<'a>(word: Option<&'a str>) -> Result<Option<ExpectedState>, Reject
 {
     match word {
         None => Ok(None),
-        Some(word) => match expected(word) {
+        Some(word) => match expected_state(word) {
             Some(expected) => Ok(Some(expected)),
             None => Err(Rejection::Value {
                 option: Choice::Expect,
@@ -264,7 +264,7 @@ fn chosen_end<'a>(word: Option<&'a str>) -> Result<Option<ExpectedState>, Reject
 }
 
 /// Returns the expected state with this word.
-fn expected(word: &str) -> Option<ExpectedState>
+fn expected_state(word: &str) -> Option<ExpectedState>
     // The word of the state that `expected` returns is the one given: `up` or `settled`.
     ensures found { IfSome result (λ expected. word.now ≡ expected_word expected) }
     // `expected` returns a state for each of its words.

@@ -22,7 +22,8 @@ read_of seq upper octets text =
     let size : length octets ≡ RED_HEADER + length upper = ap length text.spelled ∙ omega arith in
     let most : length octets ≤ RED_PDU_MAX = text.size in
     let length_is : length_field octets ≡ RED_HEADER + length upper =
-    field_reads 2 (RED_HEADER + length upper) octets (little_bytes 2 0 ++ little_bytes 4 seq ++ upper) (omega arith) text.spelled in
+    field_reads 2 (RED_HEADER + length upper) octets (little_bytes 2 0 ++ little_bytes 4 seq ++ upper) (omega arith)
+    text.spelled in
     let reserve_is : reserve_field octets ≡ 0 =
     field_reads 2 0 (drop 2 octets) (little_bytes 4 seq ++ upper) (omega arith) (ap (drop 2) text.spelled) in
     let seq_is : seq_field octets ≡ seq =
@@ -31,7 +32,8 @@ read_of seq upper octets text =
     grind (arith, nat_tests)
 
 -- bytes that are read are the encoding
-text_of : (seq : ℕ) (upper octets : List ℕ) → AreOctets octets → red_seen octets ≡ Ok (seq, upper) → RedText seq upper octets
+text_of : (seq : ℕ) (upper octets : List ℕ) → AreOctets octets → red_seen octets ≡ Ok (seq, upper)
+    → RedText seq upper octets
 text_of seq upper octets bytes =
     let P : Result Part RedFault → Type 0 = λ said. said ≡ Ok (seq, upper) → RedText seq upper octets in
     by_cond P (ltb (length octets) RED_HEADER) _ _ (λ short e. absurd (cc)) (λ long.
@@ -39,7 +41,8 @@ text_of seq upper octets bytes =
     by_cond P (eqb (length_field octets) (length octets)) _ _ (λ sized.
     by_cond P (eqb (reserve_field octets) 0) _ _ (λ none e.
     let same : (seq_field octets, drop RED_HEADER octets) ≡ (seq, upper) = cc in
-    red_spelled seq upper octets (fit-octets octets bytes) (grind (arith, nat_tests)) (grind (arith, nat_tests)) (grind (arith, nat_tests)) (grind (arith, nat_tests))
+    red_spelled seq upper octets (fit-octets octets bytes) (grind (arith, nat_tests)) (grind (arith, nat_tests))
+    (grind (arith, nat_tests)) (grind (arith, nat_tests))
     (sym (ap (λ (p : Part). p.0) same)) (sym (ap (λ (p : Part). p.1) same)))
     (λ some e. absurd (cc)))
     (λ other e. absurd (cc))))
@@ -55,7 +58,8 @@ decoded_is octets = refl
 pub arrival_law : ArrivalLaw
 arrival_law octets now seq upper bytes = (
   λ text. ap part_received (decoded_is octets ∙ read_of seq upper octets text),
-  λ arrives. text_of seq upper octets bytes (sym (decoded_is octets) ∙ one_accepted (decoded octets) (seq, upper) arrives),
+  λ arrives. text_of seq upper octets bytes (sym (decoded_is octets)
+      ∙ one_accepted (decoded octets) (seq, upper) arrives),
 )
 
 -- the payload of a list of bytes is a list of bytes
@@ -77,4 +81,5 @@ red-octets octets h =
     (λ _. tt)))
 
 pub parts_law : PartsLaw
-parts_law octets now h = subst (λ (r : Result Part RedFault). AllByRecursion OctetPart (part_received r)) (sym (decoded_is octets)) (red-octets octets h)
+parts_law octets now h = subst (λ (r : Result Part RedFault). AllByRecursion OctetPart (part_received r))
+    (sym (decoded_is octets)) (red-octets octets h)

@@ -1,5 +1,6 @@
--- A finite map from sequence numbers to parts: the deferral queue of the redundancy layer. It is the list of its entries with rising numbers, so that
--- two lists are equal if and only if the maps are, and the least number is the first.
+-- A finite map from sequence numbers to parts: the deferral queue of the redundancy layer. It is the list of its
+-- entries with rising numbers, so that two lists are equal if and only if the maps are, and the least number is the
+-- first.
 use Rattle.std.specs.Prelude.{◌≡◌, ℕ, ◌+◌, ◌≤◌, ◌==◌, nat_le, Bool, false, ◌||◌, List, [], ◌∷◌, Option, Some, None, ⊤, if◌then◌else◌}
 
 -- the numbers rise strictly, from `low` on

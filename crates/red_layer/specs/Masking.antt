@@ -1,4 +1,5 @@
--- FirstMissing, QNear, and when a deferral deadline falls. These share only the definition of an arrival with the receiver's step.
+-- FirstMissing, QNear, and when a deferral deadline falls. These share only the definition of an arrival with the
+-- receiver's step.
 use Rattle.std.specs.Prelude.{◌≡◌, ℕ, zero, suc, ◌+◌, ◌<◌, ◌≤◌, ◌==◌, nat_lt, Bool, true, false, ◌||◌, List, [], ◌∷◌, ◌++◌, Option, Some, None, unwrap_or, ⊤, if◌then◌else◌, max}
 use Rattle.red_layer.specs.FiniteMap.{has_number, part_under}
 use Rattle.red_layer.specs.Parts.{Part}
@@ -52,7 +53,8 @@ pub record Wait : Type 0 where
 abbrev pub no_wait : Wait
 no_wait = record { arrived = []; began = None }
 
--- there is a wait if a number above the first missing one has arrived; it continues while the first missing number stays the same, else it starts now
+-- there is a wait if a number above the first missing one has arrived; it continues while the first missing number
+-- stays the same, else it starts now
 abbrev pub began_by : ℕ → Wait → List Part → Option ℕ
 began_by now w arrived =
     if has_above (first_missing arrived) arrived
@@ -66,14 +68,16 @@ moment_of (Tick now) = now
 
 -- the arrivals and the wait after one more input
 abbrev pub wait_after : Input → Wait → Wait
-wait_after e w = record { arrived = w.arrived ++ arrivals_of e; began = began_by (moment_of e) w (w.arrived ++ arrivals_of e) }
+wait_after e w =
+    record { arrived = w.arrived ++ arrivals_of e; began = began_by (moment_of e) w (w.arrived ++ arrivals_of e) }
 
 -- the time is before the deadline of the wait, if there is one
 abbrev pub IsInTime : ℕ → ℕ → Option ℕ → Type 0
 IsInTime t_seq now None = ⊤
 IsInTime t_seq now (Some began) = now < began + t_seq
 
--- no deferral deadline falls: no input comes t_seq or later after the start of the wait; even bytes that are not a PDU count
+-- no deferral deadline falls: no input comes t_seq or later after the start of the wait; even bytes that are not a PDU
+-- count
 abbrev pub NoDeadlineFalls : ℕ → Wait → List Input → Type 0
 NoDeadlineFalls t_seq w [] = ⊤
 NoDeadlineFalls t_seq w (e ∷ es) = IsInTime t_seq (moment_of e) w.began × NoDeadlineFalls t_seq (wait_after e w) es

@@ -1,6 +1,6 @@
--- RedundancyStep: what the receiving half of the redundancy layer does with a datagram and at a deadline (redundancy layer of DIN VDE V
--- 0831-200:2015; the rules are the profile's, docs/protocol.md). Its state is the expected number, a finite map of the deferred parts, and the time
--- since which they are deferred.
+-- RedundancyStep: what the receiving half of the redundancy layer does with a datagram and at a deadline (redundancy
+-- layer of DIN VDE V 0831-200:2015; the rules are the profile's, docs/protocol.md). Its state is the expected number, a
+-- finite map of the deferred parts, and the time since which they are deferred.
 use Rattle.std.specs.Prelude.{ℕ, ◌+◌, ◌*◌, ◌==◌, nat_le, nat_lt, Bool, not, ◌&&◌, List, [], ◌∷◌, ◌++◌, length, Option, Some, None, Result, Ok, Err, if◌then◌else◌}
 use Rattle.red_layer.specs.FiniteMap.{put_in, has_number}
 use Rattle.octets.specs.declared.limits.TheConstants.{REACH}
@@ -71,7 +71,8 @@ parts_due now r = if is_due now r then run_from (least_waiting r.waiting) r.wait
 abbrev pub after_release : ℕ → Receiver → Receiver
 after_release now r = if is_due now r then follow now (least_waiting r.waiting) r else r
 
--- a part that is ahead, and not too far: dropped if its number is already deferred, dropped if q parts are deferred, else deferred
+-- a part that is ahead, and not too far: dropped if its number is already deferred, dropped if q parts are deferred,
+-- else deferred
 abbrev pub defer : ℕ → Part → Receiver → ReceiverStep
 defer now p r =
     if has_number p.0 r.waiting then record { event = Again; passed = []; left = r }

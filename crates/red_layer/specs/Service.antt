@@ -1,4 +1,5 @@
--- Service: the parts passed up have strictly rising numbers and have arrived. This does not depend on queues, sizes and times.
+-- Service: the parts passed up have strictly rising numbers and have arrived. This does not depend on queues, sizes and
+-- times.
 use Rattle.std.specs.Prelude.{◌≡◌, ◌⊎◌, List, [], ◌∷◌, ◌++◌, Result, Ok, Err, ⊤}
 use Rattle.red_layer.specs.declared.pdu.RedFault.{RedFault}
 use Rattle.red_layer.specs.FiniteMap.{Rises}

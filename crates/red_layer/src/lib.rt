@@ -184,7 +184,7 @@ impl<A: Allocator> RedLayer<A> {
         ensures ready { U.ready up.new self.new.expected }
     {
         self.tick(now, up);
-        match heard(octets) {
+        match decode_part(octets) {
             Ok(pdu) => self.judge(pdu.seq, pdu.upper, now, up),
             Err(fault) => RedEvent::Fault(fault),
         }
@@ -367,7 +367,7 @@ impl<A: Allocator> RedLayer<A> {
 
 /// Decodes a datagram.
 #[tactic(auto, unfolding(crate::specs::Redundancy::decoded))]
-fn heard(octets: &[u8]) -> Result<RedPdu<'_>, RedFault>
+fn decode_part(octets: &[u8]) -> Result<RedPdu<'_>, RedFault>
     // The result is the number and payload that the datagram has by `decoded`, or the first fault.
     ensures exact { MatchResult result (λ pdu. decoded octets.now ≡ Ok (pdu.seq, pdu.upper.now))
         (λ fault. decoded octets.now ≡ Err fault) }

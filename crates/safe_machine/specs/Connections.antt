@@ -8,7 +8,8 @@ abbrev pub is_closed : ConnectionState → Bool
 is_closed Closed = true
 is_closed _ = false
 
--- A connection is established or requested: the end has made a PDU, its deadlines run, and it sends a DiscReq when it leaves.
+-- A connection is established or requested: the end has made a PDU, its deadlines run, and it sends a DiscReq when it
+-- leaves.
 abbrev pub is_live : ConnectionState → Bool
 is_live Closed = false
 is_live Down = false

@@ -8,7 +8,8 @@ use Rattle.safe_pdu.specs.declared.reasons.Detail.TheVariants.{Unspecified, Limi
 use Rattle.safe_machine.specs.Connections.{is_connected, is_live}
 use Rattle.safe_machine.specs.View.{View}
 
--- The timeout check: T_max first, then the limit of PDUs. The result is `leaves` of the reason and detail, or `goes` if both hold.
+-- The timeout check: T_max first, then the limit of PDUs. The result is `leaves` of the reason and detail, or `goes` if
+-- both hold.
 abbrev pub by_guard : {A : Type 0} → ℕ → View → (Reason → Detail → A) → A → A
 by_guard now v leaves goes =
     if is_live v.connection
@@ -29,16 +30,18 @@ beat_due now v = is_connected v.connection && nat_le (v.last_made + v.settings.t
 abbrev pub as_time : ℕ → ℕ
 as_time n = min n (2 ^ 64 - 1)
 
--- The time at which the timeout check disconnects: 0 if the limit of PDUs is reached, otherwise T_max after the last confirmation.
+-- The time at which the timeout check disconnects: 0 if the limit of PDUs is reached, otherwise T_max after the last
+-- confirmation.
 abbrev pub timeout_of : View → ℕ
 timeout_of v = if nat_le v.settings.pdu_limit v.made then 0 else as_time (v.confirmed_at + v.settings.t_max)
 
--- The earliest time at which a tick does something, if the state is live: the timeout, or the next heartbeat if that is earlier and the end is
--- connected.
+-- The earliest time at which a tick does something, if the state is live: the timeout, or the next heartbeat if that is
+-- earlier and the end is connected.
 abbrev pub deadline_of : View → Option ℕ
 deadline_of v =
     if is_live v.connection
-    then Some (if is_connected v.connection then min (timeout_of v) (as_time (v.last_made + v.settings.t_h)) else timeout_of v)
+    then Some (if is_connected v.connection then min (timeout_of v) (as_time (v.last_made + v.settings.t_h))
+    else timeout_of v)
     else None
 
 -- The time is before the deadline, or there is no deadline.

@@ -61,7 +61,8 @@ cts_fits v p now = nat_le (cts_step v p) (now - v.confirmed_at)
 -- The decision if both tests pass: first the number, then the timestamp.
 abbrev pub decide_by_tests : View → Pdu → ℕ → Decision → Decision
 decide_by_tests v p now decision =
-    if cs_fits v p then (if cts_fits v p now then decision else Leaves ProtocolError ConfirmedTimestamp) else Leaves ProtocolError ConfirmedNumber
+    if cs_fits v p then (if cts_fits v p now then decision else Leaves ProtocolError ConfirmedTimestamp)
+    else Leaves ProtocolError ConfirmedNumber
 
 -- The decision of a server before a connection, by PDU type.
 abbrev pub in_down : Pdu → Kind → Decision
@@ -70,12 +71,15 @@ in_down p _ = Drops NotOpened
 
 -- The decision of a client in Start, by PDU type.
 abbrev pub as_client : View → Pdu → ℕ → Kind → Decision
-as_client v p now ConnResp = if is_ours p.body then decide_by_tests v p now Connects else Leaves WrongVersion Unspecified
+as_client v p now ConnResp =
+    if is_ours p.body then decide_by_tests v p now Connects else Leaves WrongVersion Unspecified
 as_client v p now _ = Leaves UnexpectedPdu Unspecified
 
--- The decision on a RetrReq that fails the number test: dropped if it confirms less than before, otherwise the end disconnects.
+-- The decision on a RetrReq that fails the number test: dropped if it confirms less than before, otherwise the end
+-- disconnects.
 abbrev pub decide_unconfirming_request : View → Pdu → Decision
-decide_unconfirming_request v p = if nat_le 0x8000_0000 (cs_step v p) then Drops Below else Leaves RetransmissionImpossible Unspecified
+decide_unconfirming_request v p =
+    if nat_le 0x8000_0000 (cs_step v p) then Drops Below else Leaves RetransmissionImpossible Unspecified
 
 -- The decision on a RetrReq, by its distance: handled before, failing the number test, the next PDU, or early.
 abbrev pub decide_request : View → Pdu → ℕ → ℕ → Decision
@@ -99,7 +103,8 @@ by_cell v p now d Skip = Drops Request
 -- The decision by the table, if the PDU is at most 10 times the own window ahead.
 abbrev pub by_table : View → Pdu → ℕ → ℕ → Decision
 by_table v p now d =
-    if nat_le d (REACH * v.settings.n_sendmax) then by_cell v p now d (cell v.connection (d == 0) p.kind) else Drops Number
+    if nat_le d (REACH * v.settings.n_sendmax) then by_cell v p now d (cell v.connection (d == 0) p.kind)
+    else Drops Number
 
 -- The decision in Start, by the role.
 abbrev pub in_start : View → Pdu → ℕ → Decision

@@ -31,8 +31,8 @@ pub record NextArrival (s : State) (p : Pdu) (now index : ℕ) (peer : List Made
   -- The timeout check passes.
   pub holds : GuardHolds s now
 
--- An event in order: each end is opened at most once, and no timeout check disconnects. An end receives the PDU of its peer whose index is the number
--- of arrivals so far: `il` or `fe`.
+-- An event in order: each end is opened at most once, and no timeout check disconnects. An end receives the PDU of its
+-- peer whose index is the number of arrivals so far: `il` or `fe`.
 abbrev pub InOrderEvent : (il fe : ℕ) → World → Event → Type 0
 InOrderEvent il fe w (Open Il settings first now) = w.il_before ≡ []
 InOrderEvent il fe w (Open Fe settings first now) = w.fe_before ≡ []
@@ -108,8 +108,10 @@ pub record KeepsOrder (il fe : ℕ) (w : World) : Type 0 where
   pub il_taken : w.il.connection ≢ Closed → w.il.taken ≡ units (take il w.fe.made)
   pub fe_taken : w.fe.connection ≢ Closed → w.fe.taken ≡ units (take fe w.il.made)
   -- If everything has arrived and neither end is closed, both have everything.
-  pub il_all : w.il.connection ≢ Closed → w.fe.connection ≢ Closed → il ≡ length w.fe.made → fe ≡ length w.il.made → AllThere w.il w.fe
-  pub fe_all : w.il.connection ≢ Closed → w.fe.connection ≢ Closed → il ≡ length w.fe.made → fe ≡ length w.il.made → AllThere w.fe w.il
+  pub il_all : w.il.connection ≢ Closed → w.fe.connection ≢ Closed → il ≡ length w.fe.made → fe ≡ length w.il.made
+      → AllThere w.il w.fe
+  pub fe_all : w.il.connection ≢ Closed → w.fe.connection ≢ Closed → il ≡ length w.fe.made → fe ≡ length w.il.made
+      → AllThere w.fe w.il
 
 -- Every genuine, timely list of events in order keeps the order.
 abbrev pub OrderLaw : Type 0
@@ -135,7 +137,8 @@ pub record StaysOpen (w : World) : Type 0 where
 -- If no caller closes an end, no end closes.
 abbrev pub StaysLaw : Type 0
 StaysLaw =
-    (events : List Event) → Genuine events start → Timely events start → InOrder 0 0 events start → has_close events ≡ false →
+    (events : List Event) → Genuine events start → Timely events start → InOrder 0 0 events start
+    → has_close events ≡ false →
     StaysOpen (run events start)
 
 -- A list with one more event at its end.
@@ -147,7 +150,8 @@ pub record OneMore (es : List Event) (e : Event) : Type 0 where
   -- It is timely if the list and the event are.
   pub timely : (w : World) → Timely es w → TimelyEvent (run es w) e → Timely (es ++ e ∷ []) w
   -- It is in order if the list and the event are.
-  pub in_order : (il fe : ℕ) (w : World) → InOrder il fe es w → InOrderEvent (all_heard_by_il es il) (all_heard_by_fe es fe) (run es w) e
+  pub in_order : (il fe : ℕ) (w : World) → InOrder il fe es w
+      → InOrderEvent (all_heard_by_il es il) (all_heard_by_fe es fe) (run es w) e
       → InOrder il fe (es ++ e ∷ []) w
   -- An arrival at the interlocking is counted.
   pub il_heard : (n : ℕ) → all_heard_by_il (es ++ e ∷ []) n ≡ heard_by_il e (all_heard_by_il es n)

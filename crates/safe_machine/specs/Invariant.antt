@@ -44,10 +44,12 @@ pub record FewMade (m : Move) (s : State) : Type 0 where
   -- At most 36 PDUs are made: the DiscReq of the timeout check, a RetrResp, 32 RetrData, a heartbeat and a RetrReq.
   pub made : length (move m s).made ≤ length s.made + (WINDOW_MAX + 4)
   -- A send that is allowed adds one unconfirmed unit.
-  pub sending : (unit : List ℕ) (now : ℕ) → may_send s ≡ true → length (unconfirmed (send unit now s)) ≡ length (unconfirmed s) + 1
+  pub sending : (unit : List ℕ) (now : ℕ) → may_send s ≡ true
+      → length (unconfirmed (send unit now s)) ≡ length (unconfirmed s) + 1
 
 -- This for every state that well-formed moves lead to from a legal opening.
 abbrev pub FewLaw : Type 0
 FewLaw =
-    (settings : Settings) (first now : ℕ) (ms : List Move) (m : Move) → is_legal settings ≡ true → AreRead ms → IsRead m →
+    (settings : Settings) (first now : ℕ) (ms : List Move) (m : Move) → is_legal settings ≡ true → AreRead ms → IsRead m
+    →
     FewMade m (make_moves ms (new_state settings first now))

@@ -23,12 +23,13 @@ abbrev pub incarnation : List State → ℕ → Option State
 incarnation [] number = None
 incarnation (s ∷ before) number = if number == length before + 1 then Some s else incarnation before number
 
--- If an incarnation of the field element is not joined, it has taken nothing. If it is, each of the two has taken a prefix of the units that the
--- other sent.
+-- If an incarnation of the field element is not joined, it has taken nothing. If it is, each of the two has taken a
+-- prefix of the units that the other sent.
 abbrev pub TakesBeginnings : List State → State → Option ℕ → Type 0
 TakesBeginnings ils fe None = fe.taken ≡ []
 TakesBeginnings ils fe (Some number) =
-    MatchOption (incarnation ils number) ⊥ (λ il. IsBeginning fe.taken (units il.made) × IsBeginning il.taken (units fe.made))
+    MatchOption (incarnation ils number) ⊥ (λ il. IsBeginning fe.taken (units il.made)
+    × IsBeginning il.taken (units fe.made))
 
 -- This for each incarnation of the field element.
 abbrev pub AllTakeBeginnings : List State → List Served → Type 0
@@ -45,7 +46,8 @@ abbrev pub next_bound : ℕ → Option ℕ → ℕ
 next_bound bound None = bound
 next_bound bound (Some number) = number
 
--- Later incarnations of the field element are joined to later ones of the interlocking. So no incarnation is joined to two.
+-- Later incarnations of the field element are joined to later ones of the interlocking. So no incarnation is joined to
+-- two.
 abbrev pub JoinsFall : ℕ → List Served → Type 0
 JoinsFall bound [] = Unit {0}
 JoinsFall bound (f ∷ fs) = JoinedBelow bound f.joined × JoinsFall (next_bound bound f.joined) fs
@@ -96,7 +98,8 @@ taken_from_fe ils (Some number) = taken_count (incarnation ils number)
 -- An end, closed or not, has sent at most as many units as the end joined to it took and as are unconfirmed.
 pub record LosesNothing (w : World) : Type 0 where
   -- This for the interlocking.
-  pub from_il : length (units w.il.made) ≤ taken_from_il (length (il_incarnations w)) (fe_incarnations w) + length (unconfirmed w.il)
+  pub from_il : length (units w.il.made) ≤ taken_from_il (length (il_incarnations w)) (fe_incarnations w)
+      + length (unconfirmed w.il)
   -- This for the field element.
   pub from_fe : length (units w.fe.made) ≤ taken_from_fe (il_incarnations w) w.joined + length (unconfirmed w.fe)
 
@@ -108,8 +111,8 @@ UnitLaw = (events : List Event) → Genuine events start → Law (run events sta
 abbrev pub LossLaw : Type 0
 LossLaw = (events : List Event) → Genuine events start → LosesNothing (run events start)
 
--- If a field element starts a connection, the present incarnation of the interlocking, to which it is joined, has made the PDU that arrived. So it is
--- the latest that made it.
+-- If a field element starts a connection, the present incarnation of the interlocking, to which it is joined, has made
+-- the PDU that arrived. So it is the latest that made it.
 abbrev pub JoinsEvent : World → Event → Type 0
 JoinsEvent w (Arrive Fe p now) = w.fe.connection ≡ Down → (arrive p now w.fe).connection ≡ Start → Among p w.il.made
 JoinsEvent w _ = Unit {0}

@@ -118,7 +118,8 @@ MovesLaw = (m : Move) (s : State) → OneMove m s
 
 -- Every state reached from an opening.
 abbrev pub ReachedLaw : Type 0
-ReachedLaw = (settings : Settings) (first now : ℕ) (ms : List Move) → ReachedState (make_moves ms (new_state settings first now))
+ReachedLaw = (settings : Settings) (first now : ℕ) (ms : List Move)
+    → ReachedState (make_moves ms (new_state settings first now))
 
 -- Every PDU made has an encoding if settings and moves are sound.
 abbrev pub TextsLaw : Type 0
@@ -154,14 +155,17 @@ RequestsLaw = (m : Move) (s : State) → s.connection ≡ Down → (move m s).co
 
 -- Every PDU made has the identifiers of its end and of the peer.
 abbrev pub IdentifiedLaw : Type 0
-IdentifiedLaw = (settings : Settings) (first now : ℕ) (ms : List Move) → AreFrom settings (make_moves ms (new_state settings first now)).made
+IdentifiedLaw = (settings : Settings) (first now : ℕ) (ms : List Move)
+    → AreFrom settings (make_moves ms (new_state settings first now)).made
 
--- The states that can follow a state: the same, Closed, Start after Down, Up after Start, and any connected state after a connected one.
+-- The states that can follow a state: the same, Closed, Start after Down, Up after Start, and any connected state after
+-- a connected one.
 abbrev pub GoesOn : (before after : ConnectionState) → Type 0
 GoesOn before after =
     (after ≡ before)
     ⊎ ((after ≡ Closed)
-    ⊎ (((before ≡ Down) × (after ≡ Start)) ⊎ (((before ≡ Start) × (after ≡ Up)) ⊎ ((is_connected before ≡ true) × (is_connected after ≡ true)))))
+    ⊎ (((before ≡ Down) × (after ≡ Start)) ⊎
+    (((before ≡ Start) × (after ≡ Up)) ⊎ ((is_connected before ≡ true) × (is_connected after ≡ true)))))
 
 -- The move is not an arrival.
 abbrev pub HearsNothing : Move → Type 0
@@ -172,4 +176,5 @@ HearsNothing _ = Unit {0}
 abbrev pub ConnectionsLaw : Type 0
 ConnectionsLaw =
     ((m : Move) (s : State) → GoesOn s.connection (move m s).connection)
-    × ((m : Move) (s : State) → HearsNothing m → ((move m s).connection ≡ s.connection) ⊎ ((move m s).connection ≡ Closed))
+    × ((m : Move) (s : State) → HearsNothing m
+    → ((move m s).connection ≡ s.connection) ⊎ ((move m s).connection ≡ Closed))

@@ -23,7 +23,8 @@ move_of (Err fault) now = Guards now
 -- The step that is reported: timeout check, closed end, fault of the bytes, or decision on the PDU.
 abbrev pub decoded_answer : Result Pdu SafeFault → ℕ → View → Outcome
 decoded_answer (Ok p) now v = arrive_answer p now v
-decoded_answer (Err fault) now v = unless_guarded now v (if is_closed v.connection then NoAnswer else Dropped (Fault fault))
+decoded_answer (Err fault) now v =
+    unless_guarded now v (if is_closed v.connection then NoAnswer else Dropped (Fault fault))
 
 -- The result of decoding under the end's own settings of the safety code.
 abbrev pub seen_by : State → List ℕ → Result Pdu SafeFault
@@ -53,4 +54,5 @@ OctetsLaw =
 
 -- If bytes hand up a unit, the end reads their confirmed timestamp as recent.
 abbrev pub RecentLaw : Type 0
-RecentLaw = (octets : List ℕ) (now : ℕ) (v : View) → octets_units octets now v ≢ [] → IsRecent (safe_seen v.settings.rule octets) now v
+RecentLaw = (octets : List ℕ) (now : ℕ) (v : View) → octets_units octets now v ≢ []
+    → IsRecent (safe_seen v.settings.rule octets) now v

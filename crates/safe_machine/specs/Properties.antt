@@ -41,7 +41,8 @@ pub record IsNextData (read : Result Pdu SafeFault) (p : Pdu) (now : ℕ) (v : V
   -- The timestamp test passes.
   pub timely : cts_fits v p now ≡ true
 
--- Either no unit stops being unconfirmed, or exactly those with numbers up to this one do. The others stay, in order, also if they are renumbered.
+-- Either no unit stops being unconfirmed, or exactly those with numbers up to this one do. The others stay, in order,
+-- also if they are renumbered.
 abbrev pub StopsOnly : ℕ → View → View → Type 0
 StopsOnly number v w = (octets_of w.ring ≡ octets_of v.ring) ⊎ (octets_of w.ring ≡ octets_of (above number v.ring))
 

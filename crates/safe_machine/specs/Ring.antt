@@ -45,7 +45,8 @@ after_carrier _ body index n cs = cs
 -- All units of a list of PDUs, each with the index of the last PDU that carries it.
 abbrev pub carriers_from : ℕ → List Numbered → List Made → List Numbered
 carriers_from index cs [] = cs
-carriers_from index cs (m ∷ ms) = carriers_from (index + 1) (after_carrier m.pdu.kind m.pdu.body index (count_resent ms) cs) ms
+carriers_from index cs (m ∷ ms) =
+    carriers_from (index + 1) (after_carrier m.pdu.kind m.pdu.body index (count_resent ms) cs) ms
 
 -- All units of an end, each with the index of its carrier.
 abbrev pub carriers : List Made → List Numbered

@@ -11,7 +11,8 @@ use Rattle.safe_machine.specs.View.{View, kept_of}
 use Rattle.safe_machine.specs.Turns.{Turn, arrival_turn, guard_turn, handed_units, is_open, leave_turn, opening_turn, send_turn, tick_turn}
 pub use Rattle.safe_machine.specs.Made.{last_time}
 
--- The history of an end that keeps this view, and has made these PDUs and taken these units. What the view has of its own PDUs is derived from them.
+-- The history of an end that keeps this view, and has made these PDUs and taken these units. What the view has of its
+-- own PDUs is derived from them.
 abbrev pub history : View → List Made → List (List ℕ) → State
 history v made taken =
     record {

@@ -1,5 +1,5 @@
--- The connection between what a machine keeps and its history: what is kept of a history takes the turn, and the history grows by what the turn made
--- and handed up.
+-- The connection between what a machine keeps and its history: what is kept of a history takes the turn, and the
+-- history grows by what the turn made and handed up.
 use Rattle.std.specs.Prelude.{◌≡◌, ◌<◌, ℕ, true, List, [], ◌++◌, length}
 use Rattle.safe_machine.specs.Connections.{in_turn}
 use Rattle.safe_machine.specs.Moves.{Move, move}
@@ -43,7 +43,8 @@ pub record LeadsByTurn (t : Turn) (units : List (List ℕ)) (s u : State) : Type
 
 -- Every move, in every state, takes the turn of what is kept.
 abbrev pub TurnsLaw : Type 0
-TurnsLaw = (m : Move) (v : View) (s : State) → MaySend m v → StandsFor v s → LeadsByTurn (turn m v) (units_of_move m v) s (move m s)
+TurnsLaw = (m : Move) (v : View) (s : State) → MaySend m v → StandsFor v s
+    → LeadsByTurn (turn m v) (units_of_move m v) s (move m s)
 
 -- Every move keeps that the PDU last confirmed was made.
 abbrev pub MadeLaw : Type 0

@@ -92,7 +92,8 @@ with_window window v = record v { window = window }
 
 -- The confirmed number moves on, and the units up to it are dropped.
 abbrev pub units_confirmed : Pdu → View → View
-units_confirmed p v = record v { confirmed = v.confirmed + cs_step v p; ring = above (v.confirmed + cs_step v p) v.ring }
+units_confirmed p v =
+    record v { confirmed = v.confirmed + cs_step v p; ring = above (v.confirmed + cs_step v p) v.ring }
 
 -- The confirmed number and the confirmed time move on, and the units up to that number are dropped.
 abbrev pub both_confirmed : Pdu → View → View
@@ -105,7 +106,8 @@ both_confirmed p v =
 
 -- Everything up to the PDU with this index, the last one made, is confirmed. So no unit is unconfirmed.
 abbrev pub confirmed_to : ℕ → ℕ → Turn → Turn
-confirmed_to index now t = record { left = record t.left { confirmed = index; confirmed_at = now; ring = [] }; made = t.made }
+confirmed_to index now t =
+    record { left = record t.left { confirmed = index; confirmed_at = now; ring = [] }; made = t.made }
 
 -- A RetrReq at distance d was handled.
 abbrev pub mark_answered : ℕ → View → View
@@ -113,7 +115,8 @@ mark_answered d v = record v { answered = v.expected + d }
 
 -- A ConnReq is rejected because of its version.
 abbrev pub rejection_turn : Pdu → ℕ → View → Turn
-rejection_turn p now v = moved_to Closed (sending_turn DiscReq (leaving_body WrongVersion Unspecified) now (move_past p 0 v))
+rejection_turn p now v =
+    moved_to Closed (sending_turn DiscReq (leaving_body WrongVersion Unspecified) now (move_past p 0 v))
 
 -- A ConnReq is accepted.
 abbrev pub acceptance_turn : Pdu → ℕ → View → Turn
@@ -123,17 +126,20 @@ acceptance_turn p now v =
 
 -- The ConnResp has come.
 abbrev pub connection_turn : Pdu → ℕ → View → Turn
-connection_turn p now v = moved_to Up (sending_turn Heartbeat [] now (with_window (window_of p.body) (move_past p 0 (both_confirmed p v))))
+connection_turn p now v =
+    moved_to Up (sending_turn Heartbeat [] now (with_window (window_of p.body) (move_past p 0 (both_confirmed p v))))
 
 -- A unit is delivered, and a heartbeat is made if it is the mwa-th since the last sending.
 abbrev pub take_unit_turn : Pdu → ℕ → View → Turn
 take_unit_turn p now v =
     let u = record v { since = v.since + 1 } in
-    if is_carrier_kind p.kind then (if nat_le v.settings.mwa u.since then sending_turn Heartbeat [] now u else still u) else still v
+    if is_carrier_kind p.kind then (if nat_le v.settings.mwa u.since then sending_turn Heartbeat [] now u else still u)
+    else still v
 
 -- A PDU is taken, and leads to this state.
 abbrev pub take_next_turn : ConnectionState → Pdu → ℕ → View → Turn
-take_next_turn connection p now v = take_unit_turn p now (record (move_past p 0 (both_confirmed p v)) { connection = connection })
+take_next_turn connection p now v =
+    take_unit_turn p now (record (move_past p 0 (both_confirmed p v)) { connection = connection })
 
 -- The RetrResp to the own request has come.
 abbrev pub resume : Pdu → View → View

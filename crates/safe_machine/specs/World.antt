@@ -50,7 +50,17 @@ pub record World : Type 0 where
 -- An end before its first opening.
 abbrev pub unopened_state : State
 unopened_state =
-    history (new_view (record { client = true; own = 0; peer = 0; n_sendmax = 1; t_max = 0; t_h = 0; mwa = 1; pdu_limit = 0; rule = record { length = Eight; initial_value = [] } }) 0 0 Closed) [] []
+    history (new_view (record {
+      client = true;
+      own = 0;
+      peer = 0;
+      n_sendmax = 1;
+      t_max = 0;
+      t_h = 0;
+      mwa = 1;
+      pdu_limit = 0;
+      rule = record { length = Eight; initial_value = [] };
+    }) 0 0 Closed) [] []
 
 -- Nothing is opened yet.
 abbrev pub start : World
@@ -118,7 +128,11 @@ is_joining _ _ = false
 
 -- The field element has moved to this state.
 abbrev pub with_fe : State → World → World
-with_fe s w = record w { fe = s; joined = if is_joining w.fe.connection s.connection then Some (length w.il_before) else w.joined }
+with_fe s w = record w {
+  fe = s;
+  joined = if is_joining w.fe.connection s.connection then Some (length w.il_before)
+      else w.joined;
+}
 
 -- The end at which an event happens.
 abbrev pub event_end : Event → Side
@@ -180,7 +194,8 @@ abbrev pub Among : Pdu → List Made → Type 0
 Among p [] = ⊥
 Among p (m ∷ ms) = (m.pdu ≡ p) ⊎ Among p ms
 
--- If the end is not closed and the PDU has its identifiers, the PDU is one of these, which the peer made since the later opening.
+-- If the end is not closed and the PDU has its identifiers, the PDU is one of these, which the peer made since the
+-- later opening.
 abbrev pub GenuineAt : State → Pdu → List Made → Type 0
 GenuineAt s p live = s.connection ≢ Closed → is_stranger s p ≡ false → Among p live
 

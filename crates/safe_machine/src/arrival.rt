@@ -199,7 +199,7 @@ impl<A: Allocator> MachineState<A> {
         match pdu.kind {
             Kind::ConnResp => {
                 if is_ours(pdu.body) {
-                    self.tested(pdu, now, Decision::Connects)
+                    self.apply_tests(pdu, now, Decision::Connects)
                 } else {
                     Decision::Leaves(Reason::WrongVersion, Detail::Unspecified)
                 }
@@ -233,10 +233,10 @@ impl<A: Allocator> MachineState<A> {
         ensures { result ≡ by_cell self.now (pdu_of pdu.now) now distance cell }
     {
         match cell {
-            Cell::Take(connection) => self.tested(pdu, now, Decision::Takes(connection)),
+            Cell::Take(connection) => self.apply_tests(pdu, now, Decision::Takes(connection)),
             Cell::Ask => Decision::Asks,
-            Cell::Answer => self.answering(pdu, now, distance),
-            Cell::Resume => self.tested(pdu, now, Decision::Resumes),
+            Cell::Answer => self.decide_request(pdu, now, distance),
+            Cell::Resume => self.apply_tests(pdu, now, Decision::Resumes),
             Cell::Refuse(reason) => Decision::Leaves(reason, Detail::Unspecified),
             Cell::Skip => Decision::Drops(DropCause::Request),
         }
@@ -245,17 +245,17 @@ impl<A: Allocator> MachineState<A> {
     /// Decides on a RetrReq.
     #[cold]
     #[inline(never)]
-    fn answering(&self, pdu: &SafePdu<'_>, now: Milliseconds, distance: u32) -> Decision
+    fn decide_request(&self, pdu: &SafePdu<'_>, now: Milliseconds, distance: u32) -> Decision
         requires { self.now.expected < 2 ^ 62 }
         // A RetrReq handled before is dropped. One that fails the number test is dropped or refused. The next PDU
-        // of an end in Up or RetrRun must also pass the timestamp test; any other is answered early (`answering`).
+        // of an end in Up or RetrRun must also pass the timestamp test; any other is answered early (`decide_request`).
         ensures { result ≡ decide_request self.now (pdu_of pdu.now) now distance }
     {
         if self.expected + u64::from(distance) <= self.answered {
             return Decision::Drops(DropCause::Answered);
         }
         if !self.cs_fits(pdu) {
-            return self.unconfirming(pdu);
+            return self.decide_failed_number(pdu);
         }
         if distance != 0 || !self.connection.in_turn() {
             return Decision::AnswersEarly;
@@ -267,9 +267,9 @@ impl<A: Allocator> MachineState<A> {
     }
 
     /// Decides on a RetrReq whose confirmed number fails the test.
-    fn unconfirming(&self, pdu: &SafePdu<'_>) -> Decision
+    fn decide_failed_number(&self, pdu: &SafePdu<'_>) -> Decision
         // The RetrReq is dropped if its step is 2^31 or more, so that it confirms less than before; otherwise the
-        // end disconnects with RetransmissionImpossible (`unconfirming`).
+        // end disconnects with RetransmissionImpossible (`decide_failed_number`).
         ensures { result ≡ decide_unconfirming_request self.now (pdu_of pdu.now) }
     {
         if self.cs_step(pdu) >= 0x8000_0000 {
@@ -280,9 +280,9 @@ impl<A: Allocator> MachineState<A> {
     }
 
     /// Applies both confirmation tests to a decision.
-    fn tested(&self, pdu: &SafePdu<'_>, now: Milliseconds, decision: Decision) -> Decision
+    fn apply_tests(&self, pdu: &SafePdu<'_>, now: Milliseconds, decision: Decision) -> Decision
         // The end disconnects with ConfirmedNumber if the number test fails, then with ConfirmedTimestamp if the
-        // timestamp test fails; otherwise the decision stays (`tested`).
+        // timestamp test fails; otherwise the decision stays (`apply_tests`).
         ensures { result ≡ decide_by_tests self.now (pdu_of pdu.now) now decision }
     {
         if !self.cs_fits(pdu) {

@@ -21,7 +21,8 @@ same_tests false true p q = p.1 (q.0 refl)
 same_tests false false p q = refl
 
 -- a comparison in two parts
-pub eq_parts : (n : ℕ) (xs a b : List ℕ) → length a ≡ n → (bytes_eq (take n xs) a && bytes_eq (drop n xs) b) ≡ bytes_eq xs (a ++ b)
+pub eq_parts : (n : ℕ) (xs a b : List ℕ) → length a ≡ n
+    → (bytes_eq (take n xs) a && bytes_eq (drop n xs) b) ≡ bytes_eq xs (a ++ b)
 eq_parts n xs a b size =
     same_tests _ _
     (Decides-like _
@@ -31,22 +32,31 @@ eq_parts n xs a b size =
     (bytes_eq-Decides xs (a ++ b))
 
 -- a word compared as a number
-word_eq : (word : ℕ) (xs : List ℕ) → FitOctets xs → 4 ≤ length xs → word < 256 ^ 4 → (word == little_number 4 xs) ≡ bytes_eq (take 4 xs) (little_bytes 4 word)
+word_eq : (word : ℕ) (xs : List ℕ) → FitOctets xs → 4 ≤ length xs → word < 256 ^ 4
+    → (word == little_number 4 xs) ≡ bytes_eq (take 4 xs) (little_bytes 4 word)
 word_eq word xs fits long small =
     same_tests _ _
     (Decides-like _
     (λ e. ap (take 4) (field_at 4 0 word xs fits long e).parts)
-    (λ e. sym (field_reads 4 word xs (drop 4 xs) small (sym (take-append-drop 4 xs) ∙ ap (λ (ys : List ℕ). ys ++ drop 4 xs) e)))
+    (λ e. sym (field_reads 4 word xs (drop 4 xs) small (sym (take-append-drop 4 xs)
+    ∙ ap (λ (ys : List ℕ). ys ++ drop 4 xs) e)))
     (Decides-eqb word (little_number 4 xs)))
     (bytes_eq-Decides (take 4 xs) (little_bytes 4 word))
 
 -- two words compared as numbers
 pub words_eq : (first second : ℕ) (xs : List ℕ) → FitOctets xs → 8 ≤ length xs → first < 256 ^ 4 → second < 256 ^ 4
-    → (first == little_number 4 xs && second == little_number 4 (drop 4 xs)) ≡ bytes_eq (take 8 xs) (little_bytes 4 first ++ little_bytes 4 second)
+    → (first == little_number 4 xs && second == little_number 4 (drop 4 xs))
+    ≡ bytes_eq (take 8 xs) (little_bytes 4 first ++ little_bytes 4 second)
 words_eq first second xs fits long small next =
     let front : take 4 (take 8 xs) ≡ take 4 xs = take-take 4 8 xs (omega arith) in
     let behind : drop 4 (take 8 xs) ≡ take 4 (drop 4 xs) = drop-take 4 4 xs in
-    rw (word_eq first xs fits (omega arith) small, word_eq second (drop 4 xs) (FitOctets-drop 4 xs fits) (omega (arith, length-drop 4 xs)) next, ← front, ← behind)
+    rw (
+      word_eq first xs fits (omega arith) small,
+      word_eq second (drop 4 xs) (FitOctets-drop 4 xs fits)
+          (omega (arith, length-drop 4 xs)) next,
+      ← front,
+      ← behind,
+    )
     (eq_parts 4 (take 8 xs) (little_bytes 4 first) (little_bytes 4 second) refl)
 
 -- a code of another length is not equal
@@ -57,23 +67,29 @@ abbrev two_words : List ℕ → ℕ → List ℕ
 two_words words k = little_bytes 4 (slice_index words k) ++ little_bytes 4 (slice_index words (k + 1))
 
 -- a code of sixteen bytes is the four words
-sixteen : (rule : CodeRule) (words front : List ℕ) → rule.length ≡ Sixteen → octets_of_words words ≡ digest rule.initial_value front
+sixteen : (rule : CodeRule) (words front : List ℕ) → rule.length ≡ Sixteen
+    → octets_of_words words ≡ digest rule.initial_value front
     → code_over rule front ≡ two_words words 0 ++ two_words words 2
 sixteen rule words front is spells =
     ap (λ (n : CodeLength). take (code_octets n) (digest rule.initial_value front)) is ∙ ap (take 16) (sym spells)
 
-pub sixteen_eq : (rule : CodeRule) (words front code : List ℕ) → rule.length ≡ Sixteen → octets_of_words words ≡ digest rule.initial_value front
+pub sixteen_eq : (rule : CodeRule) (words front code : List ℕ) → rule.length ≡ Sixteen
+    → octets_of_words words ≡ digest rule.initial_value front
     → length code ≡ code_octets rule.length
-    → (bytes_eq (take 8 code) (two_words words 0) && bytes_eq (take 8 (drop 8 code)) (two_words words 2)) ≡ bytes_eq code (code_over rule front)
+    → (bytes_eq (take 8 code) (two_words words 0) && bytes_eq (take 8 (drop 8 code)) (two_words words 2))
+    ≡ bytes_eq code (code_over rule front)
 sixteen_eq rule words front code is spells size =
     let long : length code ≡ 16 = size ∙ ap code_octets is in
-    let behind : take 8 (drop 8 code) ≡ drop 8 code = take_all 8 (drop 8 code) (omega (arith, long, length-drop 8 code)) in
+    let behind : take 8 (drop 8 code) ≡ drop 8 code = take_all 8 (drop 8 code) (omega (arith, long, length-drop 8 code))
+    in
     rw (behind, sixteen rule words front is spells) (eq_parts 8 code (two_words words 0) (two_words words 2) refl)
 
 -- a code of sixteen bytes is written by two words and then two more
-pub sixteen_written : (rule : CodeRule) (words front a b : List ℕ) (size : ℕ) → rule.length ≡ Sixteen → octets_of_words words ≡ digest rule.initial_value front
+pub sixteen_written : (rule : CodeRule) (words front a b : List ℕ) (size : ℕ) → rule.length ≡ Sixteen
+    → octets_of_words words ≡ digest rule.initial_value front
     → take (size + 8) a ≡ front ++ little_bytes 4 (slice_index words 0) ++ little_bytes 4 (slice_index words 1)
-    → take (size + 8 + 8) b ≡ take (size + 8) a ++ little_bytes 4 (slice_index words 2) ++ little_bytes 4 (slice_index words 3)
+    → take (size + 8 + 8) b ≡ take (size + 8) a ++ little_bytes 4 (slice_index words 2)
+    ++ little_bytes 4 (slice_index words 3)
     → take (size + code_octets rule.length) b ≡ front ++ code_over rule front
 sixteen_written rule words front a b size is spells first second =
     let count : code_octets rule.length ≡ 16 = ap code_octets is in
@@ -83,7 +99,8 @@ sixteen_written rule words front a b size is spells first second =
     let w2 : List ℕ = little_bytes 4 (slice_index words 2) in
     let w3 : List ℕ = little_bytes 4 (slice_index words 3) in
     let joined : ((front ++ w0 ++ w1) ++ w2) ++ w3 ≡ front ++ (((w0 ++ w1) ++ w2) ++ w3) =
-    ap (λ (xs : List ℕ). (xs ++ w2) ++ w3) (append_assoc front w0 w1) ∙ ap (λ (xs : List ℕ). xs ++ w3) (append_assoc front (w0 ++ w1) w2)
+    ap (λ (xs : List ℕ). (xs ++ w2) ++ w3) (append_assoc front w0 w1)
+    ∙ ap (λ (xs : List ℕ). xs ++ w3) (append_assoc front (w0 ++ w1) w2)
     ∙ append_assoc front ((w0 ++ w1) ++ w2) w3 in
     ap (λ (n : ℕ). take n b) sum ∙ second ∙ ap (λ (xs : List ℕ). (xs ++ w2) ++ w3) first ∙ joined
     ∙ ap (λ (xs : List ℕ). front ++ xs) (sym (sixteen rule words front is spells))

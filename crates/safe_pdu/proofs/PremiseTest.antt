@@ -26,11 +26,18 @@ read_alike_law p q r s octets same hp hq =
 pub read_asked_law : ReadAskedLaw
 read_asked_law p rule own peer octets e for_own of_peer =
     let k = is_read rule octets p e in
-    record { long = k.sized.long; receiver = sym k.reads.receiver ∙ for_own; sender = sym k.reads.sender ∙ of_peer; coded = k.coded }
+    record {
+      long = k.sized.long;
+      receiver = sym k.reads.receiver ∙ for_own;
+      sender = sym k.reads.sender
+          ∙ of_peer;
+      coded = k.coded;
+    }
 
 pub asked_law : AskedLaw
 asked_law rule own peer octets =
-    Decides-like (is_asked rule own peer octets) (λ h. record { long = h.0; receiver = h.1.0.0; sender = h.1.0.1; coded = h.1.1 })
+    Decides-like (is_asked rule own peer octets)
+    (λ h. record { long = h.0; receiver = h.1.0.0; sender = h.1.0.1; coded = h.1.1 })
     (λ k. (k.long, ((k.receiver, k.sender), k.coded)))
     (Decides-and _ _ (Decides-nat_le (SAFE_HEADER + code_octets rule.length) (length octets))
     (Decides-and _ _ (Decides-and _ _ (Decides-eqb (field 4 octets) own) (Decides-eqb (field 8 octets) peer))

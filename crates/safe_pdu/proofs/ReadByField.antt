@@ -1,4 +1,5 @@
--- Reading field by field: if it returns a PDU, the bytes are its encoding, else they have the first fault; and it returns the PDU of every encoding.
+-- Reading field by field: if it returns a PDU, the bytes are its encoding, else they have the first fault; and it
+-- returns the PDU of every encoding.
 use Rattle.std.proofs.Common.{◌≡◌, ◌≢◌, ◌≤◌, ◌==◌, ◌+◌, ℕ, List, length, refl, sym, ap, ◌∙◌, arith, true, Option, Some, None, Result, Ok, Err, inl, inr, nat_lt, IfOk, IfErr, IsOkAnd, subst}
 use Rattle.std.proofs.lemmas.Bool.Decides.{Decides-eqb, Decides-ltb, nat_tests}
 use Rattle.std.proofs.lemmas.Slice.Eq.{bytes_eq-Decides}
@@ -30,7 +31,8 @@ Judged rule octets (Ok p) = IsRead rule octets p
 Judged rule octets (Err f) = FirstFault rule octets f
 
 -- a number that passes the test for a PDU type is the number of this type
-passed : (number n : ℕ) (c : Kind) → kind_number c ≡ number → (n == number) ≡ true → (k : Kind) → Some c ≡ Some k → kind_number k ≡ n
+passed : (number n : ℕ) (c : Kind) → kind_number c ≡ number → (n == number) ≡ true → (k : Kind) → Some c ≡ Some k
+    → kind_number k ≡ n
 passed number n c is test k e =
     let same : c ≡ k = cc in
     let n-is = (Decides-eqb n number).0 test in
@@ -62,7 +64,8 @@ kind_none n none k e =
     let found : Some k ≡ None = sym (kind_of-number k) ∙ ap kind_of e ∙ none in
     cc
 
-judged_kind : (rule : CodeRule) (octets : List ℕ) (found : Option Kind) → kind_of (type_field octets) ≡ found → IsSized rule octets → HasCode rule octets
+judged_kind : (rule : CodeRule) (octets : List ℕ) (found : Option Kind) → kind_of (type_field octets) ≡ found
+    → IsSized rule octets → HasCode rule octets
     → Judged rule octets (read_kind found rule octets)
 unfolding Judged
 judged_kind rule octets None e sized coded = (sized, coded, kind_none (type_field octets) e)
@@ -72,7 +75,15 @@ judged_kind rule octets (Some kind) e sized coded =
     record {
       sized = sized;
       coded = coded;
-      reads = record { kind = kind_named (type_field octets) kind e; receiver = refl; sender = refl; sn = refl; cs = refl; ts = refl; cts = refl };
+      reads = record {
+        kind = kind_named (type_field octets) kind e;
+        receiver = refl;
+        sender = refl;
+        sn = refl;
+        cs = refl;
+        ts = refl;
+        cts = refl;
+      };
       body = refl;
       fits = fits;
     })
@@ -83,7 +94,8 @@ judged : (rule : CodeRule) (octets : List ℕ) → Judged rule octets (safe_seen
 unfolding Judged
 judged rule octets =
     let n : ℕ = code_octets rule.length in
-    by_cond (Judged rule octets) (nat_lt (length octets) (SAFE_HEADER + n)) (Err Short) _ (λ short. (Decides-ltb (length octets) (SAFE_HEADER + n)).0 short)
+    by_cond (Judged rule octets) (nat_lt (length octets) (SAFE_HEADER + n)) (Err Short) _
+    (λ short. (Decides-ltb (length octets) (SAFE_HEADER + n)).0 short)
     (λ not_short.
     let long : SAFE_HEADER + n ≤ length octets = grind (arith, nat_tests) in
     by_cond (Judged rule octets) (nat_lt (SAFE_FRONT_MAX + n) (length octets)) (Err Length) _
@@ -92,10 +104,18 @@ judged rule octets =
     let most : length octets ≤ SAFE_FRONT_MAX + n = grind (arith, nat_tests) in
     by_cond (Judged rule octets) (length_field octets == length octets) _ (Err Length)
     (λ same.
-    let sized : IsSized rule octets = record { long = long; said = (Decides-eqb (length_field octets) (length octets)).0 same; most = most } in
+    let sized : IsSized rule octets = record {
+      long = long;
+      said = (Decides-eqb (length_field octets) (length octets)).0 same;
+      most = most;
+    } in
     by_cond (Judged rule octets) (has_code rule octets) _ (Err Code)
     (λ right. judged_kind rule octets (kind_of (type_field octets)) refl sized ((bytes_eq-Decides _ _).0 right))
-    (λ wrong. (sized, λ coded. let right = (bytes_eq-Decides (code_of rule octets) (code_over rule (front_of rule octets))).1 coded in cc)))
+    (λ wrong. (
+      sized,
+      λ coded. let right = (bytes_eq-Decides (code_of rule octets)
+          (code_over rule (front_of rule octets))).1 coded in cc,
+    )))
     (λ other. (long, inl (λ said. let same = (Decides-eqb (length_field octets) (length octets)).1 said in cc)))))
 
 -- the facts about bytes that read as a PDU
@@ -104,29 +124,36 @@ unfolding Judged
 is_read rule octets p e = subst (Judged rule octets) e (judged rule octets)
 
 -- an encoding has no fault
-text_faultless : (p : Pdu) (rule : CodeRule) (octets : List ℕ) → SafeText p rule octets → (f : SafeFault) → FirstFault rule octets f → ⊥
-text_faultless p rule octets text Short short = let sized = text_sized p rule octets text in let long = sized.long in omega arith
+text_faultless : (p : Pdu) (rule : CodeRule) (octets : List ℕ) → SafeText p rule octets → (f : SafeFault)
+    → FirstFault rule octets f → ⊥
+text_faultless p rule octets text Short short = let sized = text_sized p rule octets text in let long =
+    sized.long in omega arith
 text_faultless p rule octets text Length (long, inl other) = other (text_sized p rule octets text).said
-text_faultless p rule octets text Length (long, inr big) = let sized = text_sized p rule octets text in let most = sized.most in omega arith
+text_faultless p rule octets text Length (long, inr big) = let sized = text_sized p rule octets text in let most =
+    sized.most in omega arith
 text_faultless p rule octets text Code (sized, wrong) = wrong (text_coded p rule octets text)
 text_faultless p rule octets text BadType (sized, coded, none) = none p.kind (text_reads p rule octets text).kind
 text_faultless p rule octets text Body (sized, coded, (kind, named, unfit)) =
     let reads = text_reads p rule octets text in
-    let found : Some kind ≡ Some p.kind = sym (kind_of-number kind) ∙ ap kind_of (named ∙ sym reads.kind) ∙ kind_of-number p.kind in
+    let found : Some kind ≡ Some p.kind = sym (kind_of-number kind) ∙ ap kind_of (named ∙ sym reads.kind)
+    ∙ kind_of-number p.kind in
     let same : kind ≡ p.kind = cc in
     unfit (rw (same, ← text_body p rule octets text) text.body)
 
-answer_of : (p : Pdu) (rule : CodeRule) (octets : List ℕ) → SafeText p rule octets → (r : Result Pdu SafeFault) → Judged rule octets r → r ≡ Ok p
+answer_of : (p : Pdu) (rule : CodeRule) (octets : List ℕ) → SafeText p rule octets → (r : Result Pdu SafeFault)
+    → Judged rule octets r → r ≡ Ok p
 unfolding Judged
 answer_of p rule octets text (Ok q) known = ap Ok (safe_only q p rule octets text known.reads known.body)
 answer_of p rule octets text (Err f) fault = absurd (text_faultless p rule octets text f fault)
 
 -- an encoding reads field by field as its PDU
-pub safe_seen-text : (p : Pdu) (rule : CodeRule) (octets : List ℕ) → SafeText p rule octets → safe_seen rule octets ≡ Ok p
+pub safe_seen-text : (p : Pdu) (rule : CodeRule) (octets : List ℕ) → SafeText p rule octets
+    → safe_seen rule octets ≡ Ok p
 safe_seen-text p rule octets text = answer_of p rule octets text (safe_seen rule octets) (judged rule octets)
 
 -- the decoder's clauses, from its result field by field
-pub found_by_places : (rule : CodeRule) (octets : List ℕ) (r : Result SafePdu SafeFault) → FitOctets octets → seen_of r ≡ safe_seen rule octets
+pub found_by_places : (rule : CodeRule) (octets : List ℕ) (r : Result SafePdu SafeFault) → FitOctets octets
+    → seen_of r ≡ safe_seen rule octets
     → IfOk r (λ pdu. SafeText (pdu_of pdu) rule octets)
 unfolding Judged
 found_by_places rule octets (Ok pdu) fits e =
@@ -134,12 +161,14 @@ found_by_places rule octets (Ok pdu) fits e =
     safe_spelled (pdu_of pdu) rule octets fits known.sized known.coded known.reads known.body known.fits
 found_by_places rule octets (Err f) fits e = tt
 
-pub fault_by_places : (rule : CodeRule) (octets : List ℕ) (r : Result SafePdu SafeFault) → seen_of r ≡ safe_seen rule octets → IfErr r (FirstFault rule octets)
+pub fault_by_places : (rule : CodeRule) (octets : List ℕ) (r : Result SafePdu SafeFault)
+    → seen_of r ≡ safe_seen rule octets → IfErr r (FirstFault rule octets)
 unfolding Judged
 fault_by_places rule octets (Ok pdu) e = tt
 fault_by_places rule octets (Err f) e = subst (Judged rule octets) (sym e) (judged rule octets)
 
-pub only_by_places : (rule : CodeRule) (octets : List ℕ) (r : Result SafePdu SafeFault) → seen_of r ≡ safe_seen rule octets → (p : Pdu)
+pub only_by_places : (rule : CodeRule) (octets : List ℕ) (r : Result SafePdu SafeFault)
+    → seen_of r ≡ safe_seen rule octets → (p : Pdu)
     → SafeText p rule octets → IsOkAnd r (λ pdu. pdu_of pdu ≡ p)
 only_by_places rule octets (Ok pdu) e p text =
     let same : Ok (pdu_of pdu) ≡ Ok p = e ∙ safe_seen-text p rule octets text in

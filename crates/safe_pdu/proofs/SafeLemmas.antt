@@ -42,7 +42,8 @@ length-code_over rule front =
     length-take-le (code_octets rule.length) (digest rule.initial_value front) (omega arith)
 
 -- the header as it was read, and the bytes after it
-header_at : (p : Pdu) (size : ℕ) (octets : List ℕ) → FitOctets octets → SAFE_HEADER ≤ length octets → size ≡ length_field octets → Reads p octets
+header_at : (p : Pdu) (size : ℕ) (octets : List ℕ) → FitOctets octets → SAFE_HEADER ≤ length octets
+    → size ≡ length_field octets → Reads p octets
     → Splits octets (header size p) (drop SAFE_HEADER octets)
 header_at p size octets fits long said reads =
     let a = field_at 2 0 size octets fits (omega arith) said in
@@ -66,7 +67,8 @@ numbers_read p octets fits reads =
       cts = field_below 4 24 p.cts octets fits reads.cts;
     }
 
-pub safe_spelled : (p : Pdu) (rule : CodeRule) (octets : List ℕ) → FitOctets octets → IsSized rule octets → HasCode rule octets
+pub safe_spelled : (p : Pdu) (rule : CodeRule) (octets : List ℕ) → FitOctets octets → IsSized rule octets
+    → HasCode rule octets
     → Reads p octets → p.body ≡ body_of rule octets → IsBody p.kind p.body → SafeText p rule octets
 safe_spelled p rule octets fits sized coded reads body-is admitted =
     let n : ℕ = front_size rule octets in
@@ -78,7 +80,8 @@ safe_spelled p rule octets fits sized coded reads body-is admitted =
     in
     let whole : size ≡ length_field octets = omega arith in
     let parts = header_at p size octets fits (omega arith) whole reads in
-    let front : front_of rule octets ≡ front_text rule p = front_is SAFE_HEADER n (header size p) p.body octets parts.parts refl cut body-is in
+    let front : front_of rule octets ≡ front_text rule p = front_is SAFE_HEADER n (header size p) p.body octets
+    parts.parts refl cut body-is in
     record {
       numbers = numbers_read p octets fits reads;
       body = admitted;
@@ -114,7 +117,8 @@ text_reads p rule octets text =
     }
 
 -- the length of an encoding
-pub length-text : (p : Pdu) (rule : CodeRule) → length (safe_text rule p) ≡ SAFE_HEADER + length p.body + code_octets rule.length
+pub length-text : (p : Pdu) (rule : CodeRule)
+    → length (safe_text rule p) ≡ SAFE_HEADER + length p.body + code_octets rule.length
 length-text p rule =
     let front : List ℕ = front_text rule p in
     let size : ℕ = SAFE_HEADER + length p.body + code_octets rule.length in
@@ -131,7 +135,12 @@ text_sized p rule octets text =
     let short = text.size in
     let most-code = code_octets-le rule.length in
     let small : size < 256 ^ 2 = omega arith in
-    record { long = omega arith; said = field_reads 2 size octets (drop 2 t) small text.spelled ∙ sym many; most = short }
+    record {
+      long = omega arith;
+      said = field_reads 2 size octets (drop 2 t) small text.spelled
+          ∙ sym many;
+      most = short;
+    }
 
 -- the front and the safety code of an encoding
 text_front : (p : Pdu) (rule : CodeRule) (octets : List ℕ) → SafeText p rule octets
@@ -143,7 +152,8 @@ text_front p rule octets text =
     let many : length octets ≡ size = ap length text.spelled ∙ length-text p rule in
     let cut : front_size rule octets ≡ length front = omega arith in (
       cut,
-      ap (λ (n : ℕ). take n octets) cut ∙ ap (take (length front)) text.spelled ∙ take-append_seam front (code_over rule front),
+      ap (λ (n : ℕ). take n octets) cut ∙ ap (take (length front)) text.spelled
+          ∙ take-append_seam front (code_over rule front),
     )
 
 -- the body of an encoding is at its place
@@ -157,7 +167,8 @@ pub text_coded : (p : Pdu) (rule : CodeRule) (octets : List ℕ) → SafeText p 
 text_coded p rule octets text =
     let front : List ℕ = front_text rule p in
     let at = text_front p rule octets text in
-    ap (λ (n : ℕ). drop n octets) at.0 ∙ ap (drop (length front)) text.spelled ∙ drop-append_seam front (code_over rule front)
+    ap (λ (n : ℕ). drop n octets) at.0 ∙ ap (drop (length front)) text.spelled
+    ∙ drop-append_seam front (code_over rule front)
     ∙ ap (code_over rule) (sym at.1)
 
 -- the PDU type with the number of a type is this type
@@ -181,20 +192,24 @@ made_of : Kind → ℕ → ℕ → ℕ → ℕ → ℕ → ℕ → List ℕ → 
 made_of kind receiver sender sn cs ts cts body =
     record { kind = kind; receiver = receiver; sender = sender; sn = sn; cs = cs; ts = ts; cts = cts; body = body }
 
-same_made : (p q : Pdu) → p.kind ≡ q.kind → p.receiver ≡ q.receiver → p.sender ≡ q.sender → p.sn ≡ q.sn → p.cs ≡ q.cs → p.ts ≡ q.ts → p.cts ≡ q.cts
+same_made : (p q : Pdu) → p.kind ≡ q.kind → p.receiver ≡ q.receiver → p.sender ≡ q.sender → p.sn ≡ q.sn → p.cs ≡ q.cs
+    → p.ts ≡ q.ts → p.cts ≡ q.cts
     → p.body ≡ q.body
-    → made_of p.kind p.receiver p.sender p.sn p.cs p.ts p.cts p.body ≡ made_of q.kind q.receiver q.sender q.sn q.cs q.ts q.cts q.body
+    → made_of p.kind p.receiver p.sender p.sn p.cs p.ts p.cts p.body
+    ≡ made_of q.kind q.receiver q.sender q.sn q.cs q.ts q.cts q.body
 same_made p q kind receiver sender sn cs ts cts body = cc
 
 -- two PDUs read from the same bytes with equal bodies are equal
 pub one_reading : (p q : Pdu) (octets : List ℕ) → Reads p octets → Reads q octets → p.body ≡ q.body → p ≡ q
 unfolding made_of
 one_reading p q octets a b body =
-    same_made p q (same_kind p.kind q.kind (a.kind ∙ sym b.kind)) (a.receiver ∙ sym b.receiver) (a.sender ∙ sym b.sender) (a.sn ∙ sym b.sn)
+    same_made p q (same_kind p.kind q.kind (a.kind ∙ sym b.kind)) (a.receiver ∙ sym b.receiver) (a.sender
+    ∙ sym b.sender) (a.sn ∙ sym b.sn)
     (a.cs ∙ sym b.cs) (a.ts ∙ sym b.ts) (a.cts ∙ sym b.cts) body
 
 -- an encoding has the fields of only one PDU
-pub safe_only : (p q : Pdu) (rule : CodeRule) (octets : List ℕ) → SafeText q rule octets → Reads p octets → p.body ≡ body_of rule octets → p ≡ q
+pub safe_only : (p q : Pdu) (rule : CodeRule) (octets : List ℕ) → SafeText q rule octets → Reads p octets
+    → p.body ≡ body_of rule octets → p ≡ q
 safe_only p q rule octets text reads body-is =
     one_reading p q octets reads (text_reads q rule octets text) (body-is ∙ sym (text_body q rule octets text))
 
@@ -210,7 +225,8 @@ no_octets : (body : List ℕ) → IsTrue (length body == 0) → length body ≤ 
 no_octets body h = let none = (Decides-eqb (length body) 0).0 h in omega arith
 
 opening : (body : List ℕ) → IsTrue (is_opening body) → length body ≤ UNIT_MAX
-opening body h = let whole = (Decides-eqb (length body) OPENING_BODY).0 (and_both (length body == OPENING_BODY) _ h).0 in omega arith
+opening body h = let whole =
+    (Decides-eqb (length body) OPENING_BODY).0 (and_both (length body == OPENING_BODY) _ h).0 in omega arith
 
 unit_sized : (body : List ℕ) → IsTrue (is_unit_sized body) → length body ≤ UNIT_MAX
 unit_sized body h = le_by_test (length body) UNIT_MAX (and_both (nat_le UNIT_MIN (length body)) _ h).1
@@ -245,14 +261,16 @@ safe_written p rule headed bodied coded fits admitted header-is body-is code-is 
     record { numbers = fits; body = admitted; size = omega arith; spelled = spelled }
 
 -- bytes that encode PDUs under two settings with equal lengths of the safety code encode the same PDU
-pub by_place : (p q : Pdu) (r s : CodeRule) (octets : List ℕ) → SafeText p r octets → SafeText q s octets → r.length ≡ s.length → p ≡ q
+pub by_place : (p q : Pdu) (r s : CodeRule) (octets : List ℕ) → SafeText p r octets → SafeText q s octets
+    → r.length ≡ s.length → p ≡ q
 by_place p q r s octets a b same =
     let cut : front_size r octets ≡ front_size s octets = ap (λ (n : CodeLength). length octets - code_octets n) same in
     one_reading p q octets (text_reads p r octets a) (text_reads q s octets b)
     (text_body p r octets a ∙ ap (λ (n : ℕ). drop SAFE_HEADER (take n octets)) cut ∙ sym (text_body q s octets b))
 
 -- an encoding with an end's identifiers passes that end's check
-pub is_asked : (p : Pdu) (rule : CodeRule) (own peer : ℕ) (octets : List ℕ) → SafeText p rule octets → p.receiver ≡ own → p.sender ≡ peer
+pub is_asked : (p : Pdu) (rule : CodeRule) (own peer : ℕ) (octets : List ℕ) → SafeText p rule octets → p.receiver ≡ own
+    → p.sender ≡ peer
     → IsAsked rule own peer octets
 is_asked p rule own peer octets text for_own of_peer =
     let reads = text_reads p rule octets text in
@@ -265,18 +283,34 @@ is_asked p rule own peer octets text for_own of_peer =
 
 has_numbers-Decides : (p : Pdu) → Decides (has_numbers p) (HasNumbers p)
 has_numbers-Decides p =
-    Decides-like (has_numbers p) (λ h. record { receiver = h.0; sender = h.1.0; sn = h.1.1.0; cs = h.1.1.1.0; ts = h.1.1.1.1.0; cts = h.1.1.1.1.1 })
+    Decides-like (has_numbers p) (λ h. record {
+      receiver = h.0;
+      sender = h.1.0;
+      sn = h.1.1.0;
+      cs = h.1.1.1.0;
+      ts = h.1.1.1.1.0;
+      cts = h.1.1.1.1.1;
+    })
     (λ n. (n.receiver, (n.sender, (n.sn, (n.cs, (n.ts, n.cts))))))
-    (Decides-and _ _ (Decides-ltb p.receiver (256 ^ 4)) (Decides-and _ _ (Decides-ltb p.sender (256 ^ 4)) (Decides-and _ _ (Decides-ltb p.sn (256 ^ 4))
-    (Decides-and _ _ (Decides-ltb p.cs (256 ^ 4)) (Decides-and _ _ (Decides-ltb p.ts (256 ^ 4)) (Decides-ltb p.cts (256 ^ 4)))))))
+    (Decides-and _ _ (Decides-ltb p.receiver (256 ^ 4))
+    (Decides-and _ _ (Decides-ltb p.sender (256 ^ 4)) (Decides-and _ _ (Decides-ltb p.sn (256 ^ 4))
+    (Decides-and _ _ (Decides-ltb p.cs (256 ^ 4))
+    (Decides-and _ _ (Decides-ltb p.ts (256 ^ 4)) (Decides-ltb p.cts (256 ^ 4)))))))
 
 pub Decides-nat_le : (a b : ℕ) → Decides (nat_le a b) (a ≤ b)
 Decides-nat_le a b = (le_by_test a b, λ le. grind (arith, nat_tests))
 
 -- the test `is_text` is true for exactly the encodings
-pub is_text-Decides : (p : Pdu) (rule : CodeRule) (octets : List ℕ) → Decides (is_text p rule octets) (SafeText p rule octets)
+pub is_text-Decides : (p : Pdu) (rule : CodeRule) (octets : List ℕ)
+    → Decides (is_text p rule octets) (SafeText p rule octets)
 is_text-Decides p rule octets =
-    Decides-like (is_text p rule octets) (λ h. record { numbers = h.0; body = h.1.0; size = h.1.1.0; spelled = h.1.1.1 })
+    Decides-like (is_text p rule octets) (λ h. record {
+      numbers = h.0;
+      body = h.1.0;
+      size = h.1.1.0;
+      spelled = h.1.1.1;
+    })
     (λ text. (text.numbers, (text.body, (text.size, text.spelled))))
     (Decides-and _ _ (has_numbers-Decides p) (Decides-and _ _ (λ h. h, λ h. h)
-    (Decides-and _ _ (Decides-nat_le (length octets) (SAFE_FRONT_MAX + code_octets rule.length)) (bytes_eq-Decides octets (safe_text rule p)))))
+    (Decides-and _ _ (Decides-nat_le (length octets) (SAFE_FRONT_MAX + code_octets rule.length))
+    (bytes_eq-Decides octets (safe_text rule p)))))

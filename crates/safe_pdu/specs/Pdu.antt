@@ -1,4 +1,5 @@
--- A safety PDU as its fields, without its safety code and its place in memory (safety and retransmission layer of DIN VDE V 0831-200:2015).
+-- A safety PDU as its fields, without its safety code and its place in memory (safety and retransmission layer of DIN
+-- VDE V 0831-200:2015).
 use Rattle.std.specs.Prelude.{ℕ, List}
 use Rattle.safe_pdu.specs.declared.Kind.{Kind}
 use Rattle.safe_pdu.specs.declared.Kind.TheVariants.{ConnReq, ConnResp, RetrReq, RetrResp, DiscReq, Heartbeat, Data, RetrData}

@@ -74,7 +74,8 @@ FirstFault rule octets Length =
     (SAFE_HEADER + code_octets rule.length ≤ length octets)
     × ((length_field octets ≢ length octets) ⊎ (SAFE_FRONT_MAX + code_octets rule.length < length octets))
 FirstFault rule octets Code = IsSized rule octets × (¬ HasCode rule octets)
-FirstFault rule octets BadType = IsSized rule octets × HasCode rule octets × ((kind : Kind) → kind_number kind ≢ type_field octets)
+FirstFault rule octets BadType =
+    IsSized rule octets × HasCode rule octets × ((kind : Kind) → kind_number kind ≢ type_field octets)
 FirstFault rule octets Body =
     IsSized rule octets × HasCode rule octets
     × ((kind : Kind) × (kind_number kind ≡ type_field octets) × (¬ IsBody kind (body_of rule octets)))
@@ -104,7 +105,8 @@ read_of kind rule octets = read_as kind octets (body_of rule octets)
 -- the PDU read with this type: BadType if there is no type, Body if the body does not fit it
 abbrev pub read_kind : Option Kind → CodeRule → List ℕ → Result Pdu SafeFault
 read_kind None rule octets = Err BadType
-read_kind (Some kind) rule octets = if is_body kind (body_of rule octets) then Ok (read_of kind rule octets) else Err Body
+read_kind (Some kind) rule octets =
+    if is_body kind (body_of rule octets) then Ok (read_of kind rule octets) else Err Body
 
 -- the PDU read field by field, or the first fault
 abbrev pub safe_seen : CodeRule → List ℕ → Result Pdu SafeFault

@@ -77,7 +77,8 @@ config_of i b l channels =
 -- the remote addresses, if there are as many as local ones
 abbrev pub as_many : List (List ℕ) → List (List ℕ) → Result (List (List ℕ)) KeyFault
 as_many local remote =
-    if length local == length remote then Ok remote else Err (record { key = key.Remote; expected = expected.Addresses; found = found.Other })
+    if length local == length remote then Ok remote
+    else Err (record { key = key.Remote; expected = expected.Addresses; found = found.Other })
 
 -- the settings in a table whose keys are known, or the first fault
 abbrev pub end_of : Side → Data → Result SettingsSeen KeyFault
@@ -89,7 +90,13 @@ end_of e d = do
   others ← addresses_at d key.Remote
   remote ← as_many local others
   puts ← puts_at d key.Puts
-  Ok (record { config = config_of identity beginning limits (length local); first_sn = beginning.first_sn; local = local; remote = remote; puts = puts })
+  Ok (record {
+    config = config_of identity beginning limits (length local);
+    first_sn = beginning.first_sn;
+    local = local;
+    remote = remote;
+    puts = puts;
+  })
 
 -- a fault of a file
 pub data Wrong : Type 0 where
@@ -104,15 +111,19 @@ pub data Wrong : Type 0 where
 
 -- the keys of the identity of an end
 abbrev pub names_identity : List ℕ → Bool
-names_identity t = bytes_eq t (codes "id") || bytes_eq t (codes "peer_id") || bytes_eq t (codes "name") || bytes_eq t (codes "peer_name") || bytes_eq t (codes "protocol")
+names_identity t = bytes_eq t (codes "id") || bytes_eq t (codes "peer_id") || bytes_eq t (codes "name")
+    || bytes_eq t (codes "peer_name") || bytes_eq t (codes "protocol")
 
 -- the keys of the values that an end uses to connect
 abbrev pub names_beginning : List ℕ → Bool
-names_beginning t = bytes_eq t (codes "version") || bytes_eq t (codes "versions") || bytes_eq t (codes "code") || bytes_eq t (codes "checksum") || bytes_eq t (codes "iv") || bytes_eq t (codes "first_sn")
+names_beginning t = bytes_eq t (codes "version") || bytes_eq t (codes "versions") || bytes_eq t (codes "code")
+    || bytes_eq t (codes "checksum") || bytes_eq t (codes "iv") || bytes_eq t (codes "first_sn")
 
 -- the keys of limits
 abbrev pub names_limit : List ℕ → Bool
-names_limit t = bytes_eq t (codes "n_sendmax") || bytes_eq t (codes "n_maxpacket") || bytes_eq t (codes "q") || bytes_eq t (codes "t_max") || bytes_eq t (codes "t_h") || bytes_eq t (codes "t_seq") || bytes_eq t (codes "mwa") || bytes_eq t (codes "pdu_limit")
+names_limit t = bytes_eq t (codes "n_sendmax") || bytes_eq t (codes "n_maxpacket") || bytes_eq t (codes "q")
+    || bytes_eq t (codes "t_max") || bytes_eq t (codes "t_h") || bytes_eq t (codes "t_seq") || bytes_eq t (codes "mwa")
+    || bytes_eq t (codes "pdu_limit")
 
 -- the keys of lists
 abbrev pub names_list : List ℕ → Bool
@@ -152,7 +163,8 @@ with_table named (Err f) = Err (at named f)
 
 -- the settings in a table, all of whose keys must be known
 abbrev pub known_settings : Side → Option Side → Data → Members → Result SettingsSeen Wrong
-known_settings e named d ms = option_map_or (λ k. Err (unknown named k)) (first_unknown ms) (with_table named (end_of e d))
+known_settings e named d ms =
+    option_map_or (λ k. Err (unknown named k)) (first_unknown ms) (with_table named (end_of e d))
 
 -- the settings in a value, which must be a table
 abbrev pub end_settings : Side → Option Side → Data → Result SettingsSeen Wrong
@@ -173,21 +185,25 @@ first_strange (member k d ms) = if is_end k then first_strange ms else Some k
 
 -- the settings in table `il`
 abbrev pub il_settings : Data → Result SettingsSeen Wrong
-il_settings d = option_map_or (end_settings side.Interlocking (Some side.Interlocking)) (get (codes "il") d) (Err (no_table side.Interlocking))
+il_settings d = option_map_or (end_settings side.Interlocking (Some side.Interlocking)) (get (codes "il") d)
+    (Err (no_table side.Interlocking))
 
 -- the settings in table `fe`
 abbrev pub fe_settings : Data → Result SettingsSeen Wrong
-fe_settings d = option_map_or (end_settings side.FieldElement (Some side.FieldElement)) (get (codes "fe") d) (Err (no_table side.FieldElement))
+fe_settings d = option_map_or (end_settings side.FieldElement (Some side.FieldElement)) (get (codes "fe") d)
+    (Err (no_table side.FieldElement))
 
 -- both results, or the first fault
-abbrev pub both_or_fault : Result SettingsSeen Wrong → Result SettingsSeen Wrong → Result (SettingsSeen × SettingsSeen) Wrong
+abbrev pub both_or_fault : Result SettingsSeen Wrong → Result SettingsSeen Wrong
+    → Result (SettingsSeen × SettingsSeen) Wrong
 both_or_fault (Ok x) (Ok y) = Ok (x, y)
 both_or_fault (Ok x) (Err e) = Err e
 both_or_fault (Err e) r = Err e
 
 -- the settings in both tables, beside which nothing may be
 abbrev pub tables_settings : Members → Result (SettingsSeen × SettingsSeen) Wrong
-tables_settings ms = option_map_or (λ k. Err (unknown None k)) (first_strange ms) (both_or_fault (il_settings (table ms)) (fe_settings (table ms)))
+tables_settings ms = option_map_or (λ k. Err (unknown None k)) (first_strange ms)
+    (both_or_fault (il_settings (table ms)) (fe_settings (table ms)))
 
 -- the settings in a file for both ends
 abbrev pub pair_settings : List ℕ → Result (SettingsSeen × SettingsSeen) Wrong
@@ -219,7 +235,8 @@ ends_of word.Il text = read_all il_seen (file_settings side.Interlocking text)
 ends_of word.Fe text = read_all fe_seen (file_settings side.FieldElement text)
 ends_of word.Pair text = read_all (λ both_or_fault. pair_seen both_or_fault.0 both_or_fault.1) (pair_settings text)
 
--- the fault is that of the result; its line is not compared. Of want of memory nothing is claimed, since parsing any text takes some.
+-- the fault is that of the result; its line is not compared. Of want of memory nothing is claimed, since parsing any
+-- text takes some.
 abbrev pub IsWrong : {A : Type 0} → Result A Wrong → SettingsFault → Type 0
 IsWrong r (fault.Document line) = r ≡ Err no_document
 IsWrong r (fault.NoTable e) = r ≡ Err (no_table e)
@@ -243,7 +260,8 @@ MakesUnknown _ named t = ⊥
 abbrev pub line_at : ℕ → List ℕ → ℕ
 line_at place text = 1 + count_by (λ o. o == 10) (take place text)
 
--- the word that a file is for: both ends if it has the table of one, a field element if it has what only that has, and else an interlocking
+-- the word that a file is for: both ends if it has the table of one, a field element if it has what only that has, and
+-- else an interlocking
 abbrev pub word_in : Data → Subcommand
 word_in d =
     if is_some (get (codes "il") d) || is_some (get (codes "fe") d) then word.Pair

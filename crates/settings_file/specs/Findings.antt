@@ -71,12 +71,14 @@ fault_at e d k = result_err (limit_at d 0 k)
 
 -- the keys that are not lists, in the order in which they are read; `versions` is also for `version`
 abbrev pub plain_keys : List Key
-plain_keys = key.Id ∷ key.PeerId ∷ key.Name ∷ key.PeerName ∷ key.Protocol ∷ key.Versions ∷ key.Code ∷ key.Checksum ∷ key.InitialValue ∷ key.FirstSn
+plain_keys = key.Id ∷ key.PeerId ∷ key.Name ∷ key.PeerName ∷ key.Protocol ∷ key.Versions ∷ key.Code ∷ key.Checksum ∷
+    key.InitialValue ∷ key.FirstSn
     ∷ key.NSendmax ∷ key.NMaxpacket ∷ key.Deferral ∷ key.TMax ∷ key.THeartbeat ∷ key.TSeq ∷ key.Mwa ∷ key.PduLimit ∷ []
 
 -- a fault at a key, with the short text at that key
 abbrev pub at_its_key : Option Side → Data → KeyFault → FindingSeen
-at_its_key named d f = record { wrong = Some (at named f); entry = None; text = option_and_then text_in (get (text_of f.key) d) }
+at_its_key named d f =
+    record { wrong = Some (at named f); entry = None; text = option_and_then text_in (get (text_of f.key) d) }
 
 -- a list of one finding, or of none
 abbrev pub if_any : {A : Type 0} → (A → FindingSeen) → Option A → List FindingSeen
@@ -89,7 +91,8 @@ faults_at e named d [] = []
 faults_at e named d (k ∷ ks) = if_any (at_its_key named d) (fault_at e d k) ++ faults_at e named d ks
 
 -- the remote addresses, which must be as many as valid local ones
-abbrev pub remote_of : Data → Result (List (List ℕ)) KeyFault → Result (List (List ℕ)) KeyFault → Result (List (List ℕ)) KeyFault
+abbrev pub remote_of : Data → Result (List (List ℕ)) KeyFault → Result (List (List ℕ)) KeyFault
+    → Result (List (List ℕ)) KeyFault
 remote_of d (Ok local) (Ok remote) = as_many local remote
 remote_of d (Err f) r = r
 remote_of d (Ok local) (Err f) = Err f
@@ -106,25 +109,34 @@ is_put d = is_some (option_and_then put_of (as_str d))
 -- an entry of `puts` that is not a telegram, with its number and short text
 abbrev pub at_entry : Option Side → ℕ → Data → FindingSeen
 at_entry named place d =
-    record { wrong = Some (at named (record { key = key.Puts; expected = expected.Put; found = found.Other })); entry = Some place; text = text_in d }
+    record {
+      wrong = Some (at named (record { key = key.Puts; expected = expected.Put; found = found.Other }));
+      entry = Some place;
+      text = text_in d;
+    }
 
 -- the entries that are not telegrams, numbered from `place`
 abbrev pub entry_faults : Option Side → ℕ → Items → List FindingSeen
 entry_faults named place no_items = []
-entry_faults named place (item d ds) = (if is_put d then [] else at_entry named place d ∷ []) ++ entry_faults named (place + 1) ds
+entry_faults named place (item d ds) =
+    (if is_put d then [] else at_entry named place d ∷ []) ++ entry_faults named (place + 1) ds
 
 -- the faults of `puts`: its entries that are not telegrams, or that it is not a list
 abbrev pub put_faults : Option Side → Data → List FindingSeen
-put_faults named d = option_map_or (λ v. option_map_or (entry_faults named 1) (as_array v) (if_any (at_its_key named d) (result_err (puts_at d key.Puts)))) (get (text_of key.Puts) d) []
+put_faults named d =
+    option_map_or (λ v. option_map_or (entry_faults named 1) (as_array v)
+    (if_any (at_its_key named d) (result_err (puts_at d key.Puts)))) (get (text_of key.Puts) d) []
 
 -- the keys of a table that are not known, in order
 abbrev pub unknown_in : (List ℕ → Bool) → Option Side → Members → List FindingSeen
 unknown_in knows named no_members = []
-unknown_in knows named (member k d ms) = (if knows k then [] else plain_finding (unknown named k) ∷ []) ++ unknown_in knows named ms
+unknown_in knows named (member k d ms) =
+    (if knows k then [] else plain_finding (unknown named k) ∷ []) ++ unknown_in knows named ms
 
 -- the faults of the table of an end
 abbrev pub table_findings : Side → Option Side → Data → Members → List FindingSeen
-table_findings e named d ms = unknown_in is_known named ms ++ faults_at e named d plain_keys ++ address_faults named d ++ put_faults named d
+table_findings e named d ms =
+    unknown_in is_known named ms ++ faults_at e named d plain_keys ++ address_faults named d ++ put_faults named d
 
 -- the faults of a value that must be the table of an end
 abbrev pub end_findings : Side → Option Side → Data → List FindingSeen
@@ -137,12 +149,14 @@ name_of side.FieldElement = codes "fe"
 
 -- the faults of that table, or that it is missing
 abbrev pub required_table_findings : Side → Data → List FindingSeen
-required_table_findings e d = option_map_or (end_findings e (Some e)) (get (name_of e) d) (plain_finding (no_table e) ∷ [])
+required_table_findings e d =
+    option_map_or (end_findings e (Some e)) (get (name_of e) d) (plain_finding (no_table e) ∷ [])
 
 -- the faults of a file for both ends
 abbrev pub pair_findings : Members → List FindingSeen
 pair_findings ms =
-    unknown_in is_end None ms ++ required_table_findings side.Interlocking (table ms) ++ required_table_findings side.FieldElement (table ms)
+    unknown_in is_end None ms ++ required_table_findings side.Interlocking (table ms)
+    ++ required_table_findings side.FieldElement (table ms)
 
 -- the faults of a file's table for the ends of a word
 abbrev pub members_findings : Subcommand → Members → List FindingSeen

@@ -39,7 +39,16 @@ limits_of d = do
   t_seq ← limit_at d t_max key.TSeq
   mwa ← limit_at d t_max key.Mwa
   pdu_limit ← limit_at d t_max key.PduLimit
-  Ok (record { n_sendmax = n_sendmax; n_maxpacket = n_maxpacket; deferral = deferral; t_max = t_max; t_heartbeat = t_heartbeat; t_seq = t_seq; mwa = mwa; pdu_limit = pdu_limit })
+  Ok (record {
+    n_sendmax = n_sendmax;
+    n_maxpacket = n_maxpacket;
+    deferral = deferral;
+    t_max = t_max;
+    t_heartbeat = t_heartbeat;
+    t_seq = t_seq;
+    mwa = mwa;
+    pdu_limit = pdu_limit;
+  })
 
 -- an end and its peer, as plain values
 pub record IdentitySeen : Type 0 where
@@ -51,7 +60,13 @@ pub record IdentitySeen : Type 0 where
 
 -- an identity as plain values
 abbrev pub identity_seen : Identity → IdentitySeen
-identity_seen i = record { id = i.id; peer_id = i.peer_id; name = owned_characters i.name; peer_name = owned_characters i.peer_name; protocol = i.protocol }
+identity_seen i = record {
+  id = i.id;
+  peer_id = i.peer_id;
+  name = owned_characters i.name;
+  peer_name = owned_characters i.peer_name;
+  protocol = i.protocol;
+}
 
 -- the peer's identifier, if it differs from the end's own
 abbrev pub other_than : Data → ℕ → ℕ → Result ℕ KeyFault
@@ -79,7 +94,13 @@ pub record BeginningSeen : Type 0 where
 
 -- these values of the type `Beginning`
 abbrev pub beginning_seen : Beginning → BeginningSeen
-beginning_seen b = record { versions = versions_in b.versions; code = b.code; checksum = checksum_in b.checksum; initial_value = b.initial_value; first_sn = b.first_sn }
+beginning_seen b = record {
+  versions = versions_in b.versions;
+  code = b.code;
+  checksum = checksum_in b.checksum;
+  initial_value = b.initial_value;
+  first_sn = b.first_sn;
+}
 
 -- these values in a table, or the first fault
 abbrev pub beginning_of : Side → Data → Result BeginningSeen KeyFault
@@ -89,7 +110,13 @@ beginning_of e d = do
   checksum ← checksum_at d key.Checksum
   initial_value ← initial_value_at d key.InitialValue
   first_sn ← first_number_at d key.FirstSn
-  Ok (record { versions = versions; code = code; checksum = checksum; initial_value = initial_value; first_sn = first_sn })
+  Ok (record {
+    versions = versions;
+    code = code;
+    checksum = checksum;
+    initial_value = initial_value;
+    first_sn = first_sn;
+  })
 
 -- a telegram as message type and payload
 abbrev pub put_seen : PutEntry → ℕ × List ℕ

@@ -25,7 +25,8 @@ use Rattle.settings_file.specs.Keys.{text_of}
 
 -- what a table has at a key: nothing, a whole number, or another value
 abbrev pub present_value_at : Data → Key → PresentValue
-present_value_at d k = option_map_or (λ v. option_map_or found.Number (as_integer v) found.Other) (get (text_of k) d) found.Nothing
+present_value_at d k =
+    option_map_or (λ v. option_map_or found.Number (as_integer v) found.Other) (get (text_of k) d) found.Nothing
 
 -- the fault at a key that expects `e`
 abbrev pub wrong_at : Data → Key → ExpectedValue → KeyFault
@@ -46,11 +47,13 @@ whole_at d k default = option_map_or as_integer (get (text_of k) d) (option_map 
 
 -- the whole number at a key in this range, or the fault
 abbrev pub number_at : Data → Key → ℕ → ℕ → Option ℕ → Result ℕ KeyFault
-number_at d k low high default = ok_or (option_and_then (within low high) (whole_at d k default)) (wrong_at d k (expected.Whole low high))
+number_at d k low high default =
+    ok_or (option_and_then (within low high) (whole_at d k default)) (wrong_at d k (expected.Whole low high))
 
 -- a number of four bytes; none for the text `random`
 abbrev pub first_number_of : Data → Option (Option ℕ)
-first_number_of v = option_map_or (λ t. if bytes_eq t (codes "random") then Some None else None) (as_str v) (option_map Some (option_and_then (within 0 4294967295) (as_integer v)))
+first_number_of v = option_map_or (λ t. if bytes_eq t (codes "random") then Some None else None) (as_str v)
+    (option_map Some (option_and_then (within 0 4294967295) (as_integer v)))
 
 -- the first sequence number at a key, 1 if the key is missing
 abbrev pub first_number_at : Data → Key → Result (Option ℕ) KeyFault
@@ -76,12 +79,14 @@ code_at d k = at_key d k expected.CodeLength (Some 8) (λ v. option_and_then cod
 -- the four words of 16 bytes, the least significant byte of each first
 abbrev pub words_of : List ℕ → List ℕ
 words_of octets =
-    little_number 4 octets ∷ little_number 4 (drop 4 octets) ∷ little_number 4 (drop 8 octets) ∷ little_number 4 (drop 12 octets) ∷ []
+    little_number 4 octets ∷ little_number 4 (drop 4 octets) ∷ little_number 4 (drop 8 octets) ∷
+    little_number 4 (drop 12 octets) ∷ []
 
 -- the four words of 32 hex digits at a key, those of RFC 1320 if the key is missing
 abbrev pub initial_value_at : Data → Key → Result (List ℕ) KeyFault
 initial_value_at d k =
-    at_key d k expected.SixteenOctets (Some INITIAL_VALUE) (λ v. option_and_then (λ t. option_map words_of (result_ok (decode_sized t 16))) (as_str v))
+    at_key d k expected.SixteenOctets (Some INITIAL_VALUE)
+    (λ v. option_and_then (λ t. option_map words_of (result_ok (decode_sized t 16))) (as_str v))
 
 -- at most 16 bytes, from hex digits
 abbrev pub short_octets : List ℕ → Option (List ℕ)
@@ -89,7 +94,8 @@ short_octets t = if nat_le (length t / 2) CHECKSUM_MAX then result_ok (decode_si
 
 -- the checksum at a key, empty if the key is missing
 abbrev pub checksum_at : Data → Key → Result (List ℕ) KeyFault
-checksum_at d k = ok_or (option_and_then short_octets (option_map_or as_str (get (text_of k) d) (Some []))) (wrong_at d k expected.UpToSixteenOctets)
+checksum_at d k = ok_or (option_and_then short_octets (option_map_or as_str (get (text_of k) d) (Some [])))
+    (wrong_at d k expected.UpToSixteenOctets)
 
 -- the result of a reader, its value seen through `f`
 abbrev pub read_as : {A B : Type 0} → (A → B) → Result A KeyFault → Result B KeyFault
@@ -104,7 +110,8 @@ items_length (item d ds) = suc (items_length ds)
 -- the numbers of all items, each from 0 to 255
 abbrev pub octets_of : Items → Option (List ℕ)
 octets_of no_items = Some []
-octets_of (item d ds) = option_and_then (λ b. option_map (λ bs. b ∷ bs) (octets_of ds)) (option_and_then (within 0 255) (as_integer d))
+octets_of (item d ds) =
+    option_and_then (λ b. option_map (λ bs. b ∷ bs) (octets_of ds)) (option_and_then (within 0 255) (as_integer d))
 
 -- the number is in the list
 abbrev pub contains_number : ℕ → List ℕ → Bool
@@ -138,11 +145,13 @@ one_version d = read_as (λ v. v ∷ []) (number_at d key.Version 0 255 (Some 1)
 
 -- the version of an interlocking, which must not have `versions`
 abbrev pub il_versions : Data → Result (List ℕ) KeyFault
-il_versions d = if is_some (get (text_of key.Versions) d) then Err (wrong_at d key.Versions expected.Absent) else one_version d
+il_versions d =
+    if is_some (get (text_of key.Versions) d) then Err (wrong_at d key.Versions expected.Absent) else one_version d
 
 -- the versions at `versions`, beside which `version` must be absent
 abbrev pub listed_versions : Data → Data → Result (List ℕ) KeyFault
-listed_versions d v = if is_some (get (text_of key.Version) d) then Err (wrong_at d key.Version expected.Absent) else ok_or (option_and_then different_octets (as_array v)) (wrong_at d key.Versions expected.DifferentVersions)
+listed_versions d v = if is_some (get (text_of key.Version) d) then Err (wrong_at d key.Version expected.Absent)
+    else ok_or (option_and_then different_octets (as_array v)) (wrong_at d key.Versions expected.DifferentVersions)
 
 -- the versions of a field element, in one of the two keys
 abbrev pub fe_versions : Data → Result (List ℕ) KeyFault
@@ -169,7 +178,9 @@ addresses_at d k = at_key d k expected.Addresses None (λ v. option_and_then few
 -- the telegram that a text spells: four hex digits, a colon, and hex digits
 abbrev pub put_of : List ℕ → Option (ℕ × List ℕ)
 put_of t = if nat_lt (length t) 5 then None
-    else if slice_index t 4 == 58 then option_and_then (λ kind. option_map (λ payload. (slice_index kind 0 * 256 + slice_index kind 1, payload)) (result_ok (decode_of (drop 5 t)))) (result_ok (decode_sized (take 4 t) 2))
+    else if slice_index t 4 == 58 then option_and_then
+    (λ kind. option_map (λ payload. (slice_index kind 0 * 256 + slice_index kind 1, payload))
+    (result_ok (decode_of (drop 5 t)))) (result_ok (decode_sized (take 4 t) 2))
     else None
 
 -- the telegrams of all items

@@ -45,19 +45,22 @@ are_two_kinds t u = if is_v6 t then not (is_v6 u) else is_v6 u
 abbrev pub channel_warnings : ℕ → List (List ℕ) → List (List ℕ) → List Warning
 channel_warnings n [] us = []
 channel_warnings n (t ∷ ts) (u ∷ us) =
-    if_so (bytes_eq t u) (warning.ToItself n) ++ if_so (are_two_kinds t u) (warning.TwoKinds n (is_v6 u)) ++ channel_warnings (n + 1) ts us
+    if_so (bytes_eq t u) (warning.ToItself n) ++ if_so (are_two_kinds t u) (warning.TwoKinds n (is_v6 u))
+    ++ channel_warnings (n + 1) ts us
 channel_warnings n (t ∷ ts) [] = []
 
 -- the warnings of all addresses
 abbrev pub address_warnings : (local remote : List (List ℕ)) → List Warning
 address_warnings local remote =
-    port_warnings key.Local 1 local ++ port_warnings key.Remote 1 remote ++ repeat_warnings key.Local 1 local ++ repeat_warnings key.Remote 1 remote ++ channel_warnings 1 local remote
+    port_warnings key.Local 1 local ++ port_warnings key.Remote 1 remote ++ repeat_warnings key.Local 1 local
+    ++ repeat_warnings key.Remote 1 remote ++ channel_warnings 1 local remote
 
 -- how many heartbeats confirm the units of a full window
 abbrev pub heartbeats_of : (window mwa : ℕ) → ℕ
 heartbeats_of window mwa = if mwa == 0 then 0 else window / mwa
 
--- what can come after one lost datagram, the other units of a window and the heartbeats that confirm units, is more than `q`
+-- what can come after one lost datagram, the other units of a window and the heartbeats that confirm units, is more
+-- than `q`
 abbrev pub exceeds_q : (window mwa q : ℕ) → Bool
 exceeds_q window mwa q = nat_lt q ((window - 1) + heartbeats_of window mwa)
 
@@ -65,11 +68,14 @@ exceeds_q window mwa q = nat_lt q ((window - 1) + heartbeats_of window mwa)
 abbrev pub is_t_max_short : (t_max t_h t_seq : ℕ) → Bool
 is_t_max_short t_max t_h t_seq = nat_lt t_max (t_h * 3 + t_seq)
 
--- T_seq at or above T_max: a deferred part is too old. `mwa` at or above the window: the peer waits for a heartbeat. Then the window for `q`, and T_max.
+-- T_seq at or above T_max: a deferred part is too old. `mwa` at or above the window: the peer waits for a heartbeat.
+-- Then the window for `q`, and T_max.
 abbrev pub limit_warnings : (t_seq t_max t_h mwa n_sendmax q : ℕ) → List Warning
 limit_warnings t_seq t_max t_h mwa n_sendmax q =
-    if_so (nat_le t_max t_seq) (warning.LongWait t_seq t_max) ++ if_so (nat_le n_sendmax mwa) (warning.RareConfirmation mwa n_sendmax)
-    ++ if_so (exceeds_q n_sendmax mwa q) (warning.WideWindow n_sendmax mwa q) ++ if_so (is_t_max_short t_max t_h t_seq) (warning.ShortAge t_max t_h t_seq)
+    if_so (nat_le t_max t_seq) (warning.LongWait t_seq t_max) ++ if_so (nat_le n_sendmax mwa)
+    (warning.RareConfirmation mwa n_sendmax)
+    ++ if_so (exceeds_q n_sendmax mwa q) (warning.WideWindow n_sendmax mwa q) ++ if_so (is_t_max_short t_max t_h t_seq)
+    (warning.ShortAge t_max t_h t_seq)
 
 -- an interlocking has a checksum, which only a field element sends
 abbrev pub is_unsent : Side → List ℕ → Bool
@@ -84,16 +90,19 @@ number_warnings keep (Some n) = if_so keep (warning.FixedNumber n)
 -- equal names, a checksum that is never sent, and a fixed first sequence number of an end that is reopened
 abbrev pub identity_warnings : Side → Bool → (own peer checksum : List ℕ) → Option ℕ → List Warning
 identity_warnings e keep own peer checksum first_sn =
-    if_so (bytes_eq own peer) warning.SameName ++ if_so (is_unsent e checksum) warning.UnsentChecksum ++ number_warnings keep first_sn
+    if_so (bytes_eq own peer) warning.SameName ++ if_so (is_unsent e checksum) warning.UnsentChecksum
+    ++ number_warnings keep first_sn
 
 -- a warning for each telegram whose payload is longer than that of a message, numbered from `n`
 abbrev pub long_payloads : ℕ → List (ℕ × List ℕ) → List Warning
 long_payloads n [] = []
-long_payloads n (p ∷ ps) = if_so (nat_lt PAYLOAD_MAX (length p.1)) (warning.LongPayload n (length p.1)) ++ long_payloads (n + 1) ps
+long_payloads n (p ∷ ps) =
+    if_so (nat_lt PAYLOAD_MAX (length p.1)) (warning.LongPayload n (length p.1)) ++ long_payloads (n + 1) ps
 
 -- all warnings for an end of this side, which is reopened after a loss if the flag is true
 abbrev pub warnings_of : Side → Bool → SettingsSeen → List Warning
 warnings_of e keep s =
-    limit_warnings s.config.t_seq s.config.connection.t_max s.config.connection.t_h s.config.connection.mwa s.config.connection.n_sendmax s.config.q
+    limit_warnings s.config.t_seq s.config.connection.t_max s.config.connection.t_h s.config.connection.mwa
+    s.config.connection.n_sendmax s.config.q
     ++ identity_warnings e keep s.config.addressing.own s.config.addressing.peer s.config.checksum s.first_sn
     ++ address_warnings s.local s.remote ++ long_payloads 1 s.puts

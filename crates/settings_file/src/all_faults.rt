@@ -14,7 +14,7 @@ ghost use Rattle.settings_file.specs.FileContents.{is_end, is_known, no_table, u
 ghost use Rattle.settings_file.specs.Findings.{address_faults, at_entry, at_its_key, end_findings, entry_faults, fault_at, faults_at, finding_seen, findings_of, heartbeat_fault, if_any, is_put, members_findings, required_table_findings, pair_findings, peer_fault, plain_finding, put_faults, short_text, table_findings, text_in, unknown_in};
 
 use crate::Subcommand;
-use crate::file_contents::{document, knows, names_end, unknown};
+use crate::file_contents::{document, knows, names_end, unknown_fault};
 use crate::groups::limit;
 use crate::keys::{ExpectedValue, Key, KeyFault, PresentValue, ReadFault, SettingsFault, prefix};
 use crate::lists::{addresses, put, puts};
@@ -215,7 +215,7 @@ fn add_unknown(
     // If `add_unknown` succeeds, it has appended that the key is unknown in this table.
     ensures { OnOk result (map finding_seen list.new.items ≡ map finding_seen list.old.items ++ plain_finding (unknown named key.now) ∷ []) }
 {
-    match unknown(alloc, named, key) {
+    match unknown_fault(alloc, named, key) {
         SettingsFault::Memory(refused) => Err(refused),
         fault => add(fault, list),
     }

@@ -188,7 +188,7 @@ fn strange_key(table: &Table) -> Option<&str>
 }
 
 /// Returns the fault of an unknown key, with its text.
-pub fn unknown(alloc: Global, table: Option<Side>, key: &str) -> SettingsFault
+pub fn unknown_fault(alloc: Global, table: Option<Side>, key: &str) -> SettingsFault
     // `unknown` returns that this key is unknown in this table, or `Memory` if its text cannot be copied.
     ensures { MakesUnknown result table key.now }
 {
@@ -218,7 +218,7 @@ fn of_end(
         return Err(SettingsFault::NoTable(side));
     };
     if let Some(key) = unknown_key(table) {
-        return Err(unknown(alloc, named, key));
+        return Err(unknown_fault(alloc, named, key));
     }
     match read(alloc, side, value) {
         Ok(settings) => Ok(settings),
@@ -359,7 +359,7 @@ pub fn pair(alloc: Global, text: &str) -> Result<(Settings, Settings), SettingsF
 {
     let table = document(alloc, text)?;
     if let Some(key) = strange_key(&table) {
-        return Err(unknown(alloc, None, key));
+        return Err(unknown_fault(alloc, None, key));
     }
     let value = Value::Table(table);
     let il = il_of(alloc, &value)?;

@@ -52,7 +52,8 @@ numbers_text (n ∷ ns) = join_pieces (decimal n ∷ all_texts later_number ns �
 -- `version` for one version, and else the list `versions`
 abbrev pub versions_line : Option Side → List ℕ → List ℕ
 versions_line named vs =
-    if length vs == 1 then number_line named key.Version (slice_index vs 0) else list_line named key.Versions (numbers_text vs)
+    if length vs == 1 then number_line named key.Version (slice_index vs 0)
+    else list_line named key.Versions (numbers_text vs)
 
 -- a word in hex digits, the least significant byte first
 abbrev pub word_text : ℕ → List ℕ
@@ -74,7 +75,8 @@ addresses_text (t ∷ ts) = join_pieces (codes "\"" ∷ t ∷ codes "\"" ∷ all
 
 -- a telegram in quotes: message type, colon, payload
 unfoldable pub put_text : ℕ × List ℕ → List ℕ
-put_text p = join_pieces (codes "\"" ∷ encode_lower (to_be_bytes w16 p.0) ∷ codes ":" ∷ encode_lower p.1 ∷ codes "\"" ∷ [])
+put_text p =
+    join_pieces (codes "\"" ∷ encode_lower (to_be_bytes w16 p.0) ∷ codes ":" ∷ encode_lower p.1 ∷ codes "\"" ∷ [])
 
 -- a telegram after a comma
 abbrev pub later_put : ℕ × List ℕ → List ℕ
@@ -89,7 +91,8 @@ puts_text (p ∷ ps) = join_pieces (put_text p ∷ all_texts later_put ps ∷ []
 unfoldable pub identity_lines : Option Side → EndSettings → List ℕ
 identity_lines named c =
     join_pieces
-    (number_line named key.Id c.connection.own ∷ number_line named key.PeerId c.connection.peer ∷ text_line named key.Name c.addressing.own
+    (number_line named key.Id c.connection.own ∷ number_line named key.PeerId c.connection.peer ∷
+    text_line named key.Name c.addressing.own
     ∷ text_line named key.PeerName c.addressing.peer ∷ number_line named key.Protocol c.addressing.protocol ∷ [])
 
 -- the lines of what an end of this side expects of its peer's telegrams
@@ -102,36 +105,42 @@ beginning_lines named c first_sn =
     join_pieces
     (versions_line named c.versions ∷ number_line named key.Code (code_octets c.connection.rule.length)
     ∷ text_line named key.Checksum (encode_lower c.checksum)
-    ∷ text_line named key.InitialValue (all_texts word_text c.connection.rule.initial_value) ∷ first_line named first_sn ∷ [])
+    ∷ text_line named key.InitialValue (all_texts word_text c.connection.rule.initial_value) ∷
+    first_line named first_sn ∷ [])
 
 -- the lines of addresses
 unfoldable pub address_lines : Option Side → List (List ℕ) → List (List ℕ) → List ℕ
 address_lines named local remote =
-    join_pieces (list_line named key.Local (addresses_text local) ∷ list_line named key.Remote (addresses_text remote) ∷ [])
+    join_pieces (list_line named key.Local (addresses_text local) ∷ list_line named key.Remote (addresses_text remote) ∷
+    [])
 
 -- the lines of limits that count
 unfoldable pub count_lines : Option Side → EndSettings → List ℕ
 count_lines named c =
     join_pieces
-    (number_line named key.NSendmax c.connection.n_sendmax ∷ number_line named key.NMaxpacket c.n_maxpacket ∷ number_line named key.Deferral c.q ∷ [])
+    (number_line named key.NSendmax c.connection.n_sendmax ∷ number_line named key.NMaxpacket c.n_maxpacket ∷
+    number_line named key.Deferral c.q ∷ [])
 
 -- the lines of times
 unfoldable pub time_lines : Option Side → EndSettings → List ℕ
 time_lines named c =
     join_pieces
-    (number_line named key.TMax c.connection.t_max ∷ number_line named key.THeartbeat c.connection.t_h ∷ number_line named key.TSeq c.t_seq ∷ [])
+    (number_line named key.TMax c.connection.t_max ∷ number_line named key.THeartbeat c.connection.t_h ∷
+    number_line named key.TSeq c.t_seq ∷ [])
 
 -- the lines of limits
 unfoldable pub limit_lines : Option Side → EndSettings → List ℕ
 limit_lines named c =
     join_pieces
-    (count_lines named c ∷ time_lines named c ∷ number_line named key.Mwa c.connection.mwa ∷ number_line named key.PduLimit c.connection.pdu_limit ∷ [])
+    (count_lines named c ∷ time_lines named c ∷ number_line named key.Mwa c.connection.mwa ∷
+    number_line named key.PduLimit c.connection.pdu_limit ∷ [])
 
 -- the lines of an end
 unfoldable pub end_lines : Option Side → SettingsSeen → List ℕ
 end_lines named s =
     join_pieces
-    (identity_lines named s.config ∷ beginning_lines named s.config s.first_sn ∷ address_lines named s.local s.remote ∷ limit_lines named s.config
+    (identity_lines named s.config ∷ beginning_lines named s.config s.first_sn ∷ address_lines named s.local s.remote ∷
+    limit_lines named s.config
     ∷ list_line named key.Puts (puts_text s.puts) ∷ [])
 
 -- the words of the program that take the file, as a comment
@@ -144,7 +153,8 @@ head_text (pair_seen s t) = codes "# for pair\n"
 unfoldable pub all_lines : EndsSeen → List ℕ
 all_lines (il_seen s) = end_lines None s
 all_lines (fe_seen s) = end_lines None s
-all_lines (pair_seen s t) = join_pieces (end_lines (Some side.Interlocking) s ∷ end_lines (Some side.FieldElement) t ∷ [])
+all_lines (pair_seen s t) =
+    join_pieces (end_lines (Some side.Interlocking) s ∷ end_lines (Some side.FieldElement) t ∷ [])
 
 -- the comment, and the lines of all ends
 unfoldable pub settings_text : EndsSeen → List ℕ

@@ -16,10 +16,12 @@ both_right : (a b : Bool) → (a && b) ≡ true → b ≡ true
 both_right true b h = h
 both_right false b h = cc
 
-pub list_all_weaker : {X : Type 0} (p q : X → Bool) → ((x : X) → p x ≡ true → q x ≡ true) → (xs : List X) → list_all p xs ≡ true → list_all q xs ≡ true
+pub list_all_weaker : {X : Type 0} (p q : X → Bool) → ((x : X) → p x ≡ true → q x ≡ true) → (xs : List X)
+    → list_all p xs ≡ true → list_all q xs ≡ true
 list_all_weaker p q weaker [] h = refl
 list_all_weaker p q weaker (x ∷ xs) h =
-    rw (weaker x (both_left (p x) (list_all p xs) h)) (list_all_weaker p q weaker xs (both_right (p x) (list_all p xs) h))
+    rw (weaker x (both_left (p x) (list_all p xs) h))
+    (list_all_weaker p q weaker xs (both_right (p x) (list_all p xs) h))
 
 -- Naming one PDU does not change the others.
 pub stays_named : (ps : List MadePdu) (j k : ℕ) → is_named_at j ps ≡ true → is_named_at j (mark_named_at k ps) ≡ true
@@ -30,7 +32,8 @@ stays_named (p ∷ ps) (suc j) zero h = h
 stays_named (p ∷ ps) (suc j) (suc k) h = stays_named ps j k h
 
 -- Adding a PDU does not change the others.
-pub stays_named_before : (ps : List MadePdu) (datagram : List ℕ) (j : ℕ) → is_named_at j ps ≡ true → is_named_at j (ps ++ new_pdu datagram ∷ []) ≡ true
+pub stays_named_before : (ps : List MadePdu) (datagram : List ℕ) (j : ℕ) → is_named_at j ps ≡ true
+    → is_named_at j (ps ++ new_pdu datagram ∷ []) ≡ true
 stays_named_before [] datagram j h = cc
 stays_named_before (p ∷ ps) datagram zero h = h
 stays_named_before (p ∷ ps) datagram (suc j) h = stays_named_before ps datagram j h
@@ -43,10 +46,12 @@ side_stays il fe il' fe' a b FieldElement place h = b place h
 
 -- Labels stay named if the PDUs of both ends do.
 pub labels_stay : (il fe il' fe' : List MadePdu) → ((j : ℕ) → is_named_at j il ≡ true → is_named_at j il' ≡ true)
-    → ((j : ℕ) → is_named_at j fe ≡ true → is_named_at j fe' ≡ true) → (xs : List Label) → list_all (is_named_among il fe) xs ≡ true
+    → ((j : ℕ) → is_named_at j fe ≡ true → is_named_at j fe' ≡ true) → (xs : List Label)
+    → list_all (is_named_among il fe) xs ≡ true
     → list_all (is_named_among il' fe') xs ≡ true
 labels_stay il fe il' fe' a b xs h =
-    list_all_weaker (is_named_among il fe) (is_named_among il' fe') (λ label. side_stays il fe il' fe' a b label.side label.place) xs h
+    list_all_weaker (is_named_among il fe) (is_named_among il' fe')
+    (λ label. side_stays il fe il' fe' a b label.side label.place) xs h
 
 -- The first element that fails the test comes after all that pass it.
 pub first_left : {X : Type 0} (p : X → Bool) (xs : List X) (i : ℕ) → list_all p (take i xs) ≡ true
@@ -59,7 +64,8 @@ first_left p (x ∷ xs) (suc i) h last =
 
 -- One more label after the named ones leaves them named.
 pub more_made : (il fe il' fe' : List MadePdu) (order later : List Label) (label : Label) (unnamed : ℕ)
-    → ((j : ℕ) → is_named_at j il ≡ true → is_named_at j il' ≡ true) → ((j : ℕ) → is_named_at j fe ≡ true → is_named_at j fe' ≡ true)
+    → ((j : ℕ) → is_named_at j il ≡ true → is_named_at j il' ≡ true)
+    → ((j : ℕ) → is_named_at j fe ≡ true → is_named_at j fe' ≡ true)
     → unnamed ≤ length order → later ≡ order ++ label ∷ [] → list_all (is_named_among il fe) (take unnamed order) ≡ true
     → list_all (is_named_among il' fe') (take unnamed later) ≡ true
 more_made il fe il' fe' order later label unnamed a b within is h =

@@ -317,7 +317,7 @@ impl<W: Write + Drop, A: Allocator + Copy> Script<W, A> {
             damaged.as_slice(),
             is_on,
         );
-        self.arrived(label, arrival)
+        self.print_arrival(label, arrival)
     }
 
     /// Delivers all datagrams that no line has named.
@@ -358,11 +358,11 @@ impl<W: Write + Drop, A: Allocator + Copy> Script<W, A> {
         let is_on = self.trace.is_on;
         let datagram = datagram(&self.trace.labels, label)?;
         let arrival = arrive(&mut self.pair, side, now, channel, datagram, is_on);
-        self.arrived(label, arrival)
+        self.print_arrival(label, arrival)
     }
 
     /// Prints what a delivery did.
-    fn arrived(&mut self, label: Label, arrival: Arrival) -> Result<(), ScriptLineFault> {
+    fn print_arrival(&mut self, label: Label, arrival: Arrival) -> Result<(), ScriptLineFault> {
         if arrival.is_dead {
             self.trace.warn(label)?;
         }

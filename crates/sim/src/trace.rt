@@ -111,13 +111,13 @@ impl<W: Write + Drop, A: Allocator + Copy> Trace<W, A> {
                 self.hand_up()?;
                 let side = side_name(event.side);
                 let name = phase_name(phase);
-                self.traced(format_args!("{side} phase {name}"))
+                self.print_step(format_args!("{side} phase {name}"))
             }
             NoteView::Note(Note::State(state)) => {
                 self.catch_up()?;
                 let side = side_name(event.side);
                 let name = state_name(state);
-                self.traced(format_args!("{side} state {name}"))
+                self.print_step(format_args!("{side} state {name}"))
             }
             NoteView::Note(Note::Redundancy(number, answer)) => self.redundancy(
                 event, number, answer,
@@ -137,7 +137,7 @@ impl<W: Write + Drop, A: Allocator + Copy> Trace<W, A> {
 
     /// Prints that a delivery breaks the premise of the promises.
     pub fn warn(&mut self, label: Label) -> Result<(), ScriptLineFault> {
-        self.traced(format_args!("note {label} not live"))
+        self.print_step(format_args!("note {label} not live"))
     }
 
     /// Prints a refusal.
@@ -171,7 +171,7 @@ impl<W: Write + Drop, A: Allocator + Copy> Trace<W, A> {
         self.progress.in_step = true;
         self.progress.had_step = true;
         match (step_cause(step), part) {
-            (Some(cause), Some(label)) => self.dropped(event.side, label, cause),
+            (Some(cause), Some(label)) => self.print_drop(event.side, label, cause),
             _ => Ok(()),
         }
     }
@@ -208,7 +208,7 @@ impl<W: Write + Drop, A: Allocator + Copy> Trace<W, A> {
             return Ok(());
         }
         self.progress.unprinted = first.saturating_add(1);
-        self.made(label)
+        self.print_pdu(label)
     }
 
     /// Prints what the redundancy layer did with the datagram that came.
@@ -228,10 +228,10 @@ impl<W: Write + Drop, A: Allocator + Copy> Trace<W, A> {
                 .waits
                 .of_mut(event.side)
                 .try_push((number, label.place));
-            return self.waiting(event.side, label);
+            return self.print_wait(event.side, label);
         }
         match red_cause(answer) {
-            Some(cause) => self.dropped(event.side, label, cause),
+            Some(cause) => self.print_drop(event.side, label, cause),
             None => Ok(()),
         }
     }
@@ -254,14 +254,14 @@ impl<W: Write + Drop, A: Allocator + Copy> Trace<W, A> {
         }
         for place in first..self.labels.len() {
             if let Some(label) = self.labels.label(place) {
-                self.made(label)?;
+                self.print_pdu(label)?;
             }
         }
         Ok(())
     }
 
     /// Prints a PDU with its numbers.
-    fn made(&mut self, label: Label) -> Result<(), ScriptLineFault> {
+    fn print_pdu(&mut self, label: Label) -> Result<(), ScriptLineFault> {
         let Some(header) = self.header(label) else {
             return Ok(());
         };
@@ -269,10 +269,10 @@ impl<W: Write + Drop, A: Allocator + Copy> Trace<W, A> {
         let sn = header.sn;
         let cs = header.cs;
         match header.leaving {
-            Some((detail, reason)) => self.traced(format_args!(
+            Some((detail, reason)) => self.print_step(format_args!(
                 "{label} {name} {sn} {cs} reason {reason} detail {detail}"
             )),
-            None => self.traced(format_args!("{label} {name} {sn} {cs}")),
+            None => self.print_step(format_args!("{label} {name} {sn} {cs}")),
         }
     }
 
@@ -291,15 +291,15 @@ impl<W: Write + Drop, A: Allocator + Copy> Trace<W, A> {
     }
 
     /// Prints that a PDU was dropped, and why.
-    fn dropped(&mut self, side: Side, label: Label, cause: &str) -> Result<(), ScriptLineFault> {
+    fn print_drop(&mut self, side: Side, label: Label, cause: &str) -> Result<(), ScriptLineFault> {
         let side = side_name(side);
-        self.traced(format_args!("{side} drop {label} {cause}"))
+        self.print_step(format_args!("{side} drop {label} {cause}"))
     }
 
     /// Prints that a part waits.
-    fn waiting(&mut self, side: Side, label: Label) -> Result<(), ScriptLineFault> {
+    fn print_wait(&mut self, side: Side, label: Label) -> Result<(), ScriptLineFault> {
         let side = side_name(side);
-        self.traced(format_args!("{side} wait {label}"))
+        self.print_step(format_args!("{side} wait {label}"))
     }
 
     /// Returns the header of a PDU.
@@ -308,7 +308,7 @@ impl<W: Write + Drop, A: Allocator + Copy> Trace<W, A> {
     }
 
     /// Prints a line if steps are printed.
-    fn traced(&mut self, line: impl Display + Drop) -> Result<(), ScriptLineFault> {
+    fn print_step(&mut self, line: impl Display + Drop) -> Result<(), ScriptLineFault> {
         if self.is_on {
             check_written(writeln!(self.out, "{line}"))
         } else {
@@ -351,13 +351,13 @@ impl Header {
             kind,
             sn: u32_at(header, 12),
             cs: u32_at(header, 16),
-            leaving: leaving(kind, body),
+            leaving: departure(kind, body),
         })
     }
 }
 
 /// Returns detail and reason of a DiscReq; `None` for any other type.
-fn leaving(kind: Kind, body: &[u8]) -> Option<(u16, u16)> {
+fn departure(kind: Kind, body: &[u8]) -> Option<(u16, u16)> {
     if kind != Kind::DiscReq {
         return None;
     }

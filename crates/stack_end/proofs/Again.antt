@@ -20,7 +20,8 @@ use Rattle.safe_machine.specs.View.{kept_of}
 use Rattle.safe_machine.specs.World.{Side}
 use Rattle.safe_machine.specs.World.Side.{Il, Fe}
 use Rattle.end_settings.specs.EndSettings.{connection_of, session_of}
-use Rattle.stack_end.proofs.TurnOfCall.{behind-wrap, datagrams-are, opens-made}
+use Rattle.stack_end.proofs.SentNumbers.{behind-wrap, datagrams-are}
+use Rattle.stack_end.proofs.TurnOfCall.{opens-made}
 use Rattle.stack_end.proofs.Effects.{answered, handed_up, heard, leaves, moved, settle, with_machine, with_session}
 use Rattle.stack_end.proofs.TurnSteps.{closed-is, finished-is, guarded-is, packed-is, part-is, queued-is, ticked-is}
 use Rattle.stack_end.specs.Ends.{Call, Close, Deliver, EndState, InitDone, is_shut, new_end, Put, Tick}
@@ -48,7 +49,8 @@ same-read : (r : Result Tele TeleFault) (d : Dialogue) → Same d (judge_read r 
 same-read (Ok t) d = same-meets (Arrives t) d
 same-read (Err fault) d = same d
 
-same-unless : (o : Option Leaving) (d : Dialogue) (a b : Judgement) → Same d b.left → Same d a.left → Same d (unless_leaving o a b).left
+same-unless : (o : Option Leaving) (d : Dialogue) (a b : Judgement) → Same d b.left → Same d a.left
+    → Same d (unless_leaving o a b).left
 same-unless None d a b k h = k
 same-unless (Some why) d a b k h = h
 
@@ -57,7 +59,8 @@ same-messages [] d = same d
 same-messages (m ∷ ms) d =
     let first = judge_read (tele_seen m) d in
     let one = same-read (tele_seen m) d in
-    same-unless first.leaving d first (judge_messages ms first.left) (same-then d first.left (judge_messages ms first.left).left one (same-messages ms first.left)) one
+    same-unless first.leaving d first (judge_messages ms first.left)
+    (same-then d first.left (judge_messages ms first.left).left one (same-messages ms first.left)) one
 
 same-unpacked : (r : Result (List (List ℕ)) PackFault) (d : Dialogue) → Same d (judge_unpacked r d).left
 same-unpacked (Ok ms) d = same-messages ms d
@@ -68,7 +71,8 @@ same-units [] d = same d
 same-units (u ∷ us) d =
     let first = judge_unpacked (unit_seen u) d in
     let one = same-unpacked (unit_seen u) d in
-    same-unless first.leaving d first (judge_units us first.left) (same-then d first.left (judge_units us first.left).left one (same-units us first.left)) one
+    same-unless first.leaving d first (judge_units us first.left)
+    (same-then d first.left (judge_units us first.left).left one (same-units us first.left)) one
 
 same-rises : (up : Bool) (d : Dialogue) → Same d (bring_up up d)
 same-rises true d = same-meets Event.Up d
@@ -89,7 +93,8 @@ still-if : (b : Bool) (r q p : Receiver) → Still r q → Still r p → Still r
 still-if true r q p h k = h
 still-if false r q p h k = k
 
-steps-if : (b : Bool) (r : Receiver) (s t : ReceiverStep) → Still r s.left → Still r t.left → Still r (if b then s else t).left
+steps-if : (b : Bool) (r : Receiver) (s t : ReceiverStep) → Still r s.left → Still r t.left
+    → Still r (if b then s else t).left
 steps-if true r s t h k = h
 steps-if false r s t h k = k
 
@@ -101,7 +106,8 @@ still-release now r = still-if (is_due now r) r _ _ (still-follow now (least_wai
 
 still-deferred : (now : ℕ) (p : Part) (r : Receiver) → Still r (defer now p r).left
 still-deferred now p r =
-    steps-if (has_number p.0 r.waiting) r _ _ (still r) (steps-if (length r.waiting == r.q) r _ _ (still r) (record { q = refl; t_seq = refl }))
+    steps-if (has_number p.0 r.waiting) r _ _ (still r)
+    (steps-if (length r.waiting == r.q) r _ _ (still r) (record { q = refl; t_seq = refl }))
 
 still-arrival : (now : ℕ) (p : Part) (r : Receiver) → Still r (arrival now p r).left
 still-arrival now p r =
@@ -142,7 +148,8 @@ kept-if true x y z h k = h
 kept-if false x y z h k = k
 
 kept-machine : (m : Move) (x : EndState) → Kept x (with_machine (move m x.machine) x)
-kept-machine m x = record { settings = refl; red = still x.red; machine = settings_law_holds m x.machine; session = same x.session }
+kept-machine m x =
+    record { settings = refl; red = still x.red; machine = settings_law_holds m x.machine; session = same x.session }
 
 kept-meets : (e : Event) (x : EndState) → Kept x (with_session (process_event e x.session) x)
 kept-meets e x = record { settings = refl; red = still x.red; machine = refl; session = same-meets e x.session }
@@ -159,7 +166,8 @@ kept-leaves : (now : ℕ) (o : Option Leaving) (x : EndState) → Kept x (leaves
 kept-leaves now None x = kept x
 kept-leaves now (Some why) x = kept-machine (Leaves why.0 why.1 now) x
 
-kept-answered : (now : ℕ) (octets : List ℕ) (x : EndState) → Kept x (answered octets x (arrive_octets octets now x.machine))
+kept-answered : (now : ℕ) (octets : List ℕ) (x : EndState)
+    → Kept x (answered octets x (arrive_octets octets now x.machine))
 kept-answered now octets x =
     let s = arrive_octets octets now x.machine in
     let d = (judge_units (handed_up x s) x.session).left in
@@ -167,7 +175,8 @@ kept-answered now octets x =
       settings = refl;
       red = still x.red;
       machine = settings_law_holds (heard_move (seen_by x.machine octets) now) x.machine;
-      session = same-then x.session d _ (same-units (handed_up x s) x.session) (same-rises (comes_up x.machine.connection s.connection) d);
+      session = same-then x.session d _ (same-units (handed_up x s) x.session)
+          (same-rises (comes_up x.machine.connection s.connection) d);
     }
 
 kept-part : (now : ℕ) (octets : List ℕ) (x : EndState) → Kept x (part_step now octets x)
@@ -175,7 +184,8 @@ kept-part now octets x =
     let s = arrive_octets octets now x.machine in
     let y = answered octets x s in
     let z = heard now octets x in
-    let left = kept-then x y z (kept-answered now octets x) (kept-leaves now (judge_units (handed_up x s) x.session).leaving y) in
+    let left = kept-then x y z (kept-answered now octets x)
+    (kept-leaves now (judge_units (handed_up x s) x.session).leaving y) in
     subst (Kept x) (sym (part-is now octets x)) (kept-then x z (settle z) left (kept-settle z))
 
 kept-parts : (now : ℕ) (ps : List Part) (x : EndState) → Kept x (parts_step now ps x)
@@ -187,7 +197,8 @@ kept-parts now (p ∷ ps) x =
 kept-receives : (now : ℕ) (i : Input) (x : EndState) → Kept x (input_step now i x)
 kept-receives now i x =
     let y = with_input i x in
-    let red : Kept x y = record { settings = refl; red = still-after i x.red; machine = refl; session = same x.session } in
+    let red : Kept x y = record { settings = refl; red = still-after i x.red; machine = refl; session = same x.session }
+    in
     kept-then x y (input_step now i x) red (kept-parts now (parts_passed i x.red) y)
 
 kept-packed : (now : ℕ) (x : EndState) → Kept x (step (pack_turn now) x)
@@ -213,24 +224,30 @@ kept-sends now x = kept-packs (length x.session.waiting) now x
 kept-goes_on : (now : ℕ) (i : Input) (x : EndState) → Kept x (input_and_send_by whole_way now i x)
 kept-goes_on now i x =
     let y = input_step now i x in
-    kept-if (is_shut x) x _ _ (kept x) (kept-then x y (send_by by_steps now y) (kept-receives now i x) (kept-sends now y))
+    kept-if (is_shut x) x _ _ (kept x) (kept-then x y (send_by by_steps now y) (kept-receives now i x)
+    (kept-sends now y))
 
 -- what follows the timers of the machine
-kept-first : (now : ℕ) (i : Input) (m : Move) (x y : EndState) → y ≡ moved m x → Kept x (if is_shut x then x else input_and_send_by whole_way now i y)
+kept-first : (now : ℕ) (i : Input) (m : Move) (x y : EndState) → y ≡ moved m x
+    → Kept x (if is_shut x then x else input_and_send_by whole_way now i y)
 kept-first now i m x y is =
-    kept-if (is_shut x) x _ _ (kept x) (kept-then x y (input_and_send_by whole_way now i y) (subst (Kept x) (sym is) (kept-moved m x)) (kept-goes_on now i y))
+    kept-if (is_shut x) x _ _ (kept x) (kept-then x y (input_and_send_by whole_way now i y)
+    (subst (Kept x) (sym is) (kept-moved m x)) (kept-goes_on now i y))
 
 kept-did : (c : Call) (x : EndState) → Kept x (call_by whole_way c x)
 kept-did (Close now) x = subst (Kept x) (sym (closed-is now x)) (kept-moved (Leaves ClosedByUser Unspecified now) x)
 kept-did (Put kind payload now) x =
     let y = step (queue_turn kind payload) x in
-    let queued = subst (Kept x) (sym (queued-is kind payload x)) (kept-meets (Puts kind payload (length x.session.waiting)) x) in
+    let queued = subst (Kept x) (sym (queued-is kind payload x))
+    (kept-meets (Puts kind payload (length x.session.waiting)) x) in
     kept-then x y (send_by by_steps now y) queued (kept-sends now y)
 kept-did (InitDone now) x =
     let y = step finish_turn x in
-    kept-then x y (send_by by_steps now y) (subst (Kept x) (sym (finished-is x)) (kept-meets (Completes (length x.session.waiting)) x)) (kept-sends now y)
+    kept-then x y (send_by by_steps now y) (subst (Kept x) (sym (finished-is x))
+    (kept-meets (Completes (length x.session.waiting)) x)) (kept-sends now y)
 kept-did (Tick now) x = kept-first now (RedTick now) (Ticks now) x (tick_step now x) (ticked-is now x)
-kept-did (Deliver channel octets now) x = kept-first now (Datagram octets now) (Guards now) x (guard_step now x) (guarded-is now x)
+kept-did (Deliver channel octets now) x =
+    kept-first now (Datagram octets now) (Guards now) x (guard_step now x) (guarded-is now x)
 
 kept-call : (c : Call) (x : EndState) → Kept x (call c x)
 kept-call c x =
@@ -245,7 +262,8 @@ kept-calls (c ∷ cs) x =
 
 -- an opening
 opened-settings : (settings : Settings) (first now : ℕ) → (new_state settings first now).settings ≡ settings
-opened-settings settings first now = opened-cases (λ t. t.settings ≡ settings) settings first now (λ _. refl) (λ _. refl)
+opened-settings settings first now =
+    opened-cases (λ t. t.settings ≡ settings) settings first now (λ _. refl) (λ _. refl)
 
 rule-same : (side : Side) (s : EndSettings) → (connection_of side s).rule ≡ rule_of s
 rule-same Il s = refl
@@ -255,11 +273,15 @@ rule-same Fe s = refl
 record Machine (side : Side) (s : EndSettings) (first now : ℕ) (m : Settings) (n : ℕ) : Type 0 where
   stands : (opening_turn m first now).left ≡ kept_of (new_state (connection_of side s) first now)
   has_made : HasMade (opening_turn m first now).left
-  numbers : number_after 0 (opening_turn m first now).made ≡ length (new_state (connection_of side s) first now).made % 2 ^ 32
-  made : with_made (opening_turn m first now).made no_made_counts ≡ with_made (new_state (connection_of side s) first now).made no_made_counts
-  sent : datagrams m.rule n 0 (opening_turn m first now).made ≡ sendings s 0 (new_state (connection_of side s) first now).made
+  numbers : number_after 0 (opening_turn m first now).made
+      ≡ length (new_state (connection_of side s) first now).made % 2 ^ 32
+  made : with_made (opening_turn m first now).made no_made_counts
+      ≡ with_made (new_state (connection_of side s) first now).made no_made_counts
+  sent : datagrams m.rule n 0 (opening_turn m first now).made
+      ≡ sendings s 0 (new_state (connection_of side s) first now).made
 
-machine-new : (side : Side) (s : EndSettings) (first now : ℕ) → Machine side s first now (connection_of side s) s.channels
+machine-new : (side : Side) (s : EndSettings) (first now : ℕ)
+    → Machine side s first now (connection_of side s) s.channels
 machine-new side s first now =
     let m = connection_of side s in
     let law = opening_law_holds m first now in
@@ -270,7 +292,8 @@ machine-new side s first now =
       numbers = behind-wrap 0 made
           ∙ (ap (λ n. n % 2 ^ 32) (zero-add (length made)) ∙ ap (λ ms. length ms % 2 ^ 32) (sym law.made));
       made = ap (λ ms. with_made ms no_made_counts) (sym law.made);
-      sent = ap (λ r. datagrams r s.channels 0 made) (rule-same side s) ∙ (datagrams-are s 0 made ∙ ap (λ ms. sendings s 0 ms) (sym law.made));
+      sent = ap (λ r. datagrams r s.channels 0 made) (rule-same side s)
+          ∙ (datagrams-are s 0 made ∙ ap (λ ms. sendings s 0 ms) (sym law.made));
     }
 
 pub again-holds : AgainLaw
@@ -283,8 +306,10 @@ again-holds side s first began calls v h next now =
     let count : v.upper.count ≡ s.channels = h.upper.count ∙ ap (λ (e : EndSettings). e.channels) k.settings in
     let machine = subst (λ (m : Settings). Machine side s next now m v.upper.count) (sym settings)
     (subst (λ (n : ℕ). Machine side s next now (connection_of side s) n) (sym count) (machine-new side s next now)) in
-    let addressing : v.upper.session.addressing ≡ s.addressing = ap (λ (q : SessionState). q.addressing) h.upper.speaks.state ∙ k.session.addressing in
-    let role : v.upper.session.role ≡ session_of side s = ap (λ (q : SessionState). q.role) h.upper.speaks.state ∙ k.session.role in
+    let addressing : v.upper.session.addressing
+    ≡ s.addressing = ap (λ (q : SessionState). q.addressing) h.upper.speaks.state ∙ k.session.addressing in
+    let role : v.upper.session.role ≡ session_of side s = ap (λ (q : SessionState). q.role) h.upper.speaks.state
+    ∙ k.session.role in
     let q : v.red.q ≡ s.q = ap (λ (r : Receiver). r.q) h.red ∙ k.red.q in
     let t_seq : v.red.t_seq ≡ s.t_seq = ap (λ (r : Receiver). r.t_seq) h.red ∙ k.red.t_seq in
     record {
@@ -294,7 +319,8 @@ again-holds side s first began calls v h next now =
           machine = machine.stands;
           has_made = machine.has_made;
           speaks = record {
-            state = ap (λ a. session_opened a v.upper.session.role) addressing ∙ ap (λ r. session_opened s.addressing r) role;
+            state = ap (λ a. session_opened a v.upper.session.role) addressing
+                ∙ ap (λ r. session_opened s.addressing r) role;
             waits = refl;
           };
           request = refl;
@@ -307,7 +333,8 @@ again-holds side s first began calls v h next now =
           t_max =
               h.upper.t_max
               ∙ ap (λ (m : Settings). m.t_max)
-              (k.machine ∙ opened-settings (connection_of side s) first began ∙ sym (opened-settings (connection_of side s) next now));
+              (k.machine ∙ opened-settings (connection_of side s) first began
+              ∙ sym (opened-settings (connection_of side s) next now));
         };
       };
       sent = machine.sent;

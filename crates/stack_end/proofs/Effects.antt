@@ -1,4 +1,5 @@
--- What the steps of an end do to its history, change by change: the vocabulary of the laws' proofs. `TurnSteps` proves that a step is these changes.
+-- What the steps of an end do to its history, change by change: the vocabulary of the laws' proofs. `TurnSteps` proves
+-- that a step is these changes.
 use Rattle.stack_end.proofs.Words.{Closes, Completes, Dialogue, drop, if◌then◌else◌, Input, judge_units, Leaving, length, List, process_event, None, Option, Puts}
 use Rattle.stack_end.proofs.Words.{comes_up, request_after, bring_up, Some, take, unit_text, ℕ}
 use Rattle.safe_machine.specs.Moves.{Move, move}
@@ -30,7 +31,8 @@ moved m x = settle (with_machine (move m x.machine) x)
 abbrev pub handed_up : EndState → State → List (List ℕ)
 handed_up x s = drop (length x.machine.taken) s.taken
 
--- a step of the machine to this state at a part: the session judges the units delivered, and goes up with the connection
+-- a step of the machine to this state at a part: the session judges the units delivered, and goes up with the
+-- connection
 abbrev pub answered : List ℕ → EndState → State → EndState
 answered octets x s =
     record {

@@ -3,6 +3,9 @@ pub mod CallParts
 pub mod Deliveries
 pub mod Effects
 pub mod TurnSteps
+pub mod SentNumbers
+pub mod Deadlines
+pub mod Rides
 pub mod TurnOfCall
 pub mod Takes
 pub mod Timely

@@ -24,11 +24,13 @@ use Rattle.std.proofs.lemmas.Bool.{leb-false}
 use Rattle.std.specs.Prelude.{nat_lt, ◌||◌}
 
 -- A machine in Down accepts the request.
-accepts-turn : (m : View) (p : Pdu) (now : ℕ) → m.connection ≡ Down → is_foreign m.settings p ≡ false → p.kind ≡ ConnReq → is_ours p.body ≡ true
+accepts-turn : (m : View) (p : Pdu) (now : ℕ) → m.connection ≡ Down → is_foreign m.settings p ≡ false → p.kind ≡ ConnReq
+    → is_ours p.body ≡ true
     → machine_arrives p now m ≡ acceptance_turn p now m
 accepts-turn m p now down known request ours = rw (down, known, request, ours) refl
 
-accepts-hands : (m : View) (p : Pdu) (now : ℕ) → m.connection ≡ Down → is_foreign m.settings p ≡ false → p.kind ≡ ConnReq → is_ours p.body ≡ true
+accepts-hands : (m : View) (p : Pdu) (now : ℕ) → m.connection ≡ Down → is_foreign m.settings p ≡ false
+    → p.kind ≡ ConnReq → is_ours p.body ≡ true
     → handed_units p now m ≡ []
 accepts-hands m p now down known request ours = rw (down, known, request, ours) refl
 
@@ -42,11 +44,13 @@ abbrev part-by : ConnectionState → MachineTurn → List (List ℕ) → Option 
 part-by before t units cause now octets u =
     let j = judge_units units (dialogue_of u) in
     turn_then
-    (turn_then (turn_then (turn_then (turn_then (turn_then (machine_turn t u) (session_turn j.left)) (note_request_turn before octets)) (up_turn before)) (leave_turn now j.leaving))
+    (turn_then (turn_then (turn_then (turn_then (turn_then (machine_turn t u) (session_turn j.left))
+    (note_request_turn before octets)) (up_turn before)) (leave_turn now j.leaving))
     end_session_turn)
     (departure_turn cause)
 
-part-accepts : (upper : List ℕ) (p : Pdu) (now : ℕ) (u : Fields) → u.machine.connection ≡ Down → machine_octets_turn upper now u.machine ≡ acceptance_turn p now u.machine
+part-accepts : (upper : List ℕ) (p : Pdu) (now : ℕ) (u : Fields) → u.machine.connection ≡ Down
+    → machine_octets_turn upper now u.machine ≡ acceptance_turn p now u.machine
     → octets_units upper now u.machine ≡ []
     → Accepted upper p now u (part_turn now upper u).left
 part-accepts upper p now u down turns none =
@@ -68,7 +72,9 @@ part-accepts upper p now u down turns none =
 -- an end in Start packs nothing
 packs-none : (n now : ℕ) (w : Fields) → has_room w.machine ≡ false → (pack_up_to_turn n now w).left ≡ w
 packs-none zero now w shut = refl
-packs-none (suc n) now w shut = ap (λ (b : Bool). (if b then turn_then (pack_turn now w) (pack_up_to_turn n now) else still w).left) (none (is_nil w.waiting) shut)
+packs-none (suc n) now w shut =
+    ap (λ (b : Bool). (if b then turn_then (pack_turn now w) (pack_up_to_turn n now) else still w).left)
+    (none (is_nil w.waiting) shut)
   where
     none : (nil : Bool) {b : Bool} → b ≡ false → (not nil && b) ≡ false
     none true h = refl
@@ -102,7 +108,8 @@ fresh : Receiver → Receiver
 fresh r = record r { expected = 0; waiting = [] }
 
 is-fresh : (r : Receiver) → has_begun r ≡ false → r ≡ record r { expected = 0; waiting = [] }
-is-fresh r h = ap (λ (n : ℕ). record r { expected = n }) (expects-first r h) ∙ ap (λ (ps : List Part). record r { expected = 0; waiting = ps }) (nil-of r.waiting (none-waits r h))
+is-fresh r h = ap (λ (n : ℕ). record r { expected = n }) (expects-first r h)
+    ∙ ap (λ (ps : List Part). record r { expected = 0; waiting = ps }) (nil-of r.waiting (none-waits r h))
 
 passes-first : (r : Receiver) (octets upper : List ℕ) (now : ℕ) → has_begun r ≡ false → decoded octets ≡ Ok (0, upper)
     → parts_passed (Datagram octets now) r ≡ (0, upper) ∷ []
@@ -137,14 +144,18 @@ takes_request_holds v channel now octets upper p fresh down r =
     let w : Inside = record { red = red_after i v.red; upper = (part_turn now upper v.upper).left } in
     let open-end : is_over v ≡ false = ap is_closed down in
     let received : (input_turn now i v).left ≡ w =
-    ap (λ (ps : List Part). record { red = red_after i v.red; upper = (parts_turn now ps v.upper).left }) (passes-first v.red octets upper now begun r.first) in
+    ap (λ (ps : List Part). record { red = red_after i v.red; upper = (parts_turn now ps v.upper).left })
+    (passes-first v.red octets upper now begun r.first) in
     let shut : has_room w.upper.machine ≡ false = ap has_room taken.machine in
-    let sent : (upper_turn (send_turn now) w).left ≡ w = ap (λ (u : Fields). record { red = w.red; upper = u }) (packs-none _ now w.upper shut) in
+    let sent : (upper_turn (send_turn now) w).left ≡ w = ap (λ (u : Fields). record { red = w.red; upper = u })
+    (packs-none _ now w.upper shut) in
     let on : (input_and_send_turn now i v).left ≡ w =
-    ap (λ (b : Bool). (if b then still v else turn_then (input_turn now i v) (upper_turn (send_turn now))).left) open-end
+    ap (λ (b : Bool). (if b then still v else turn_then (input_turn now i v) (upper_turn (send_turn now))).left)
+    open-end
     ∙ (ap (λ (x : Inside). (upper_turn (send_turn now) x).left) received ∙ sent) in
     let all : (turn (Deliver channel octets now) v).left ≡ w =
-    ap (λ (b : Bool). (if b then still v else turn_then (upper_turn (guard_turn now) v) (input_and_send_turn now i)).left) open-end
+    ap (λ (b : Bool). (if b then still v else turn_then (upper_turn (guard_turn now) v)
+    (input_and_send_turn now i)).left) open-end
     ∙ (ap (λ (x : Inside). (input_and_send_turn now i x).left) (guards-none now v down) ∙ on) in
     subst (λ (x : Inside). HasTaken v upper p now x) (sym all)
     record {
@@ -155,11 +166,13 @@ takes_request_holds v channel now octets upper p fresh down r =
     }
 
 -- a newly opened end waits for the answer to its request, or for a request
-opens-fresh : (settings : Settings) (first now : ℕ) → stale_in (opening_turn settings first now).left.connection false ≡ false
+opens-fresh : (settings : Settings) (first now : ℕ) → stale_in (opening_turn settings first now).left.connection false
+    ≡ false
 opens-fresh settings first now = by_client settings.client
   where
     by_client : (client : Bool) → stale_in
-        (if client then sending_turn ConnReq (opening_body settings.n_sendmax) now (new_view settings first now Start) else machine_still
+        (if client then sending_turn ConnReq (opening_body settings.n_sendmax) now (new_view settings first now Start)
+        else machine_still
         (new_view settings first now Down)).left.connection
         false ≡ false
     by_client true = refl
@@ -168,4 +181,5 @@ opens-fresh settings first now = by_client settings.client
 pub fresh_law_holds : FreshLaw
 fresh_law_holds side settings first now v h =
     ap (λ (r : Receiver). stale_in v.upper.machine.connection (has_begun r)) h.red
-    ∙ (ap (λ (m : View). stale_in m.connection false) h.upper.machine ∙ opens-fresh (connection_of side settings) first now)
+    ∙ (ap (λ (m : View). stale_in m.connection false) h.upper.machine
+    ∙ opens-fresh (connection_of side settings) first now)

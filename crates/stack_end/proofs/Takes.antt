@@ -42,7 +42,8 @@ equal-row true = refl
 equal-row false = refl
 
 check-row : (b : Bool) (version : ℕ) (versions : List ℕ)
-    → let v = if b then Answers phase.AwaitRequest (notice.VersionEqual version) else Answers phase.Refused (notice.VersionDiffers (first_version versions)) in
+    → let v = if b then Answers phase.AwaitRequest (notice.VersionEqual version)
+    else Answers phase.Refused (notice.VersionDiffers (first_version versions)) in
     sameb the_type (phase_by phase.AwaitCheck v) phase.AwaitCheck ≡ is_take v
 check-row true version versions = refl
 check-row false version versions = refl
@@ -89,7 +90,8 @@ stays (Interlocking own) phase.Ended form e = none-of e
 stays (Field versions checksum) phase.Idle form e = refl
 stays (Field versions checksum) phase.Checking form e = refl
 stays (Field versions checksum) phase.Requesting form e = refl
-stays (Field versions checksum) phase.AwaitCheck (Notifies (notice.VersionCheck version)) e = check-row (list_any (λ v. v == version) versions) version versions
+stays (Field versions checksum) phase.AwaitCheck (Notifies (notice.VersionCheck version)) e =
+    check-row (list_any (λ v. v == version) versions) version versions
 stays (Field versions checksum) phase.AwaitCheck (Notifies (notice.VersionEqual version)) e = refl
 stays (Field versions checksum) phase.AwaitCheck (Notifies (notice.VersionDiffers version)) e = refl
 stays (Field versions checksum) phase.AwaitCheck (Notifies notice.InitialisationRequest) e = refl
@@ -118,18 +120,23 @@ stays (Field versions checksum) phase.Established OtherPayload e = refl
 stays (Field versions checksum) phase.Ended form e = none-of e
 
 -- a telegram is taken if and only if it leaves the phase as it was, unless it ends the session
-addressed : (a : Bool) (role : Role) (p : Phase) (form : Form) → Stays p (if a then table role p form else Ends detail.NotOfThisPair)
+addressed : (a : Bool) (role : Role) (p : Phase) (form : Form)
+    → Stays p (if a then table role p form else Ends detail.NotOfThisPair)
 addressed true role p form e = stays role p form e
 addressed false role p form e = none-of e
 
-pub stays-takes : (read : Result Tele TeleFault) (t : Tele) (s u : SessionState) (before p : Phase) (b : Bool) → read ≡ Ok t → u ≡ after (Arrives t) s
-    → end_of (judge_telegram s t) ≡ None → before ≡ s.phase → p ≡ u.phase → b ≡ sameb the_type p before → b ≡ is_taken read s
+pub stays-takes : (read : Result Tele TeleFault) (t : Tele) (s u : SessionState) (before p : Phase) (b : Bool)
+    → read ≡ Ok t → u ≡ after (Arrives t) s
+    → end_of (judge_telegram s t) ≡ None → before ≡ s.phase → p ≡ u.phase → b ≡ sameb the_type p before
+    → b ≡ is_taken read s
 stays-takes read t s u before p b coded left goes was now same =
     same
     ∙ (ap (λ q. sameb the_type p q) was
     ∙ (ap (λ q. sameb the_type q s.phase) (now ∙ ap (λ (w : SessionState). w.phase) left)
-    ∙ (addressed (is_addressed s.addressing t) s.role s.phase (form_of t.kind t.payload) goes ∙ sym (ap (λ r. is_taken r s) coded))))
+    ∙ (addressed (is_addressed s.addressing t) s.role s.phase (form_of t.kind t.payload) goes
+    ∙ sym (ap (λ r. is_taken r s) coded))))
 
-pub ends-taken : (read : Result Tele TeleFault) (t : Tele) (s : SessionState) (why : SessionDetail) → read ≡ Ok t → end_of (judge_telegram s t) ≡ Some why
+pub ends-taken : (read : Result Tele TeleFault) (t : Tele) (s : SessionState) (why : SessionDetail) → read ≡ Ok t
+    → end_of (judge_telegram s t) ≡ Some why
     → false ≡ is_taken read s
 ends-taken read t s why coded ends = ends-takes (judge_telegram s t) why ends ∙ sym (ap (λ r. is_taken r s) coded)

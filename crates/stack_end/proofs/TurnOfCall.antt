@@ -1,22 +1,20 @@
 -- What a state of an end keeps takes the turn of each call; and before the first deadline a tick does nothing.
-use Rattle.stack_end.proofs.Words.{[], upper_turn, added_by, after, ap, append-nil, append_assoc, arith, Arrives, Bool, by_cond, can_pack, ClosedByUser, Closes}
-use Rattle.stack_end.proofs.Words.{comes_up, Completes, init_done_turn, ConnectionState, Datagram, datagrams, Deliver, Dialogue, dialogue_of, Down, drop, end_of}
-use Rattle.stack_end.proofs.Words.{EndSettings, Err, Event, false, Fields, turn_then, input_and_send_turn, up_turn, has_room, HasMade, judge_turn, octets_units, if_ended}
-use Rattle.stack_end.proofs.Words.{if◌then◌else◌, inl, Input, inr, Inside, is_closed, is_nil, is_none, is_over, IsBefore, IsReachedAt, Item, judge_messages}
-use Rattle.stack_end.proofs.Words.{judge_read, judge_units, judge_unpacked, Judgement, judge_telegram, judge_part, kept_of, leave_turn, Leaving, length, length-append, List}
-use Rattle.stack_end.proofs.Words.{machine_octets_turn, machine_still, machine_turn, MachineTurn, Made, process_event, next_number, None, not, request_after, note_request_turn, number_after, Ok}
-use Rattle.stack_end.proofs.Words.{on_channels, opening_turn, Option, PackFault, pack_turn, pack_up_to_turn, Part, part_turn, parts_turn, parts_passed, Puts, put_turn, Receiver, input_turn}
-use Rattle.stack_end.proofs.Words.{red_after, red_text, RedTick, refl, Result, bring_up, rule_of, sendings, send_turn, session_in, session_turn, Settings, end_session_turn}
-use Rattle.stack_end.proofs.Words.{Some, RepresentsDialogue, Start, subst, suc, sym, take, taken_by, Tele, tele_seen, TeleFault, text_of, texts, tick_turn, ChannelHistory, true}
+use Rattle.stack_end.proofs.Words.{[], upper_turn, ap, append-nil, append_assoc, arith, Bool, by_cond, can_pack, ClosedByUser, Closes}
+use Rattle.stack_end.proofs.Words.{comes_up, Completes, init_done_turn, ConnectionState, Datagram, datagrams, Deliver, Dialogue, dialogue_of, Down, drop}
+use Rattle.stack_end.proofs.Words.{Err, Event, false, Fields, turn_then, input_and_send_turn, up_turn, has_room, HasMade, judge_turn, octets_units}
+use Rattle.stack_end.proofs.Words.{if◌then◌else◌, Input, Inside, is_closed, is_nil, is_none, is_over, Item, judge_messages}
+use Rattle.stack_end.proofs.Words.{judge_read, judge_units, judge_unpacked, Judgement, judge_part, leave_turn, Leaving, length, length-append, List}
+use Rattle.stack_end.proofs.Words.{machine_octets_turn, machine_still, machine_turn, MachineTurn, process_event, None, not, request_after, note_request_turn, number_after, Ok}
+use Rattle.stack_end.proofs.Words.{opening_turn, Option, PackFault, pack_turn, pack_up_to_turn, Part, part_turn, parts_turn, parts_passed, Puts, put_turn, Receiver, input_turn}
+use Rattle.stack_end.proofs.Words.{red_after, RedTick, refl, Result, bring_up, rule_of, sendings, send_turn, session_in, session_turn, Settings, end_session_turn}
+use Rattle.stack_end.proofs.Words.{Some, Start, subst, suc, sym, take, Tele, tele_seen, TeleFault, ChannelHistory, true}
 use Rattle.stack_end.proofs.Words.{true≢false, turn, unit_seen, unit_text, unless_leaving, Unspecified, View, zero, ℕ, ◌%◌, ◌&&◌, ◌++◌, ◌+◌, ◌^◌, ◌∙◌, ◌∷◌, ◌≡◌}
-use Rattle.stack_end.proofs.Words.{◌≢◌, ◌≤◌, ◌⊎◌}
-use Rattle.byteorder.specs.Endian.{little_bytes}
+use Rattle.stack_end.proofs.Words.{◌≢◌}
 use Rattle.pdi_session.specs.TelegramCounts.{is_item, items_in, items_read}
 use Rattle.pdi_session.specs.Histories.{History, put_by}
 use Rattle.pdi_session.specs.Laws.{items_of}
 use Rattle.pdi_session.specs.Telegrams.{is_reserved}
 use Rattle.pdi_session.specs.SessionStep.{item_of, put_refusal}
-use Rattle.red_layer.specs.Redundancy.{deadline_of, is_due}
 use Rattle.safe_machine.proofs.one.StepLemmas.{made_law_holds}
 use Rattle.safe_machine.proofs.one.SameSettings.{settings_law_holds}
 use Rattle.safe_machine.proofs.one.Runs.{ring_of-units}
@@ -28,18 +26,15 @@ use Rattle.safe_machine.specs.Moves.Move.{Guards, Leaves, Sends, Ticks}
 use Rattle.safe_machine.specs.Octets.{arrive_octets, move_of as heard_move, decoded_answer, seen_by}
 use Rattle.safe_machine.specs.declared.Step.{Step as Outcome}
 use Rattle.safe_machine.specs.State.{State, unconfirmed}
-use Rattle.safe_machine.specs.Step.{send, tick}
+use Rattle.safe_machine.specs.Step.{send}
 use Rattle.safe_machine.specs.TurnLaws.{MaySend, turn as machine_move, LeadsByTurn as MachineTurned}
-use Rattle.safe_machine.specs.Turns.{sending_turn, still, Turn, new_view}
-use Rattle.safe_machine.specs.View.{StandsFor}
+use Rattle.safe_machine.specs.Turns.{sending_turn, new_view}
 use Rattle.safe_machine.specs.retrans.Units.{octets_of}
 use Rattle.safe_machine.specs.World.{is_joining}
 use Rattle.safe_pdu.specs.Places.{safe_seen}
 use Rattle.safe_pdu.specs.declared.Kind.TheVariants.{ConnReq}
 use Rattle.stack_end.specs.Certain.{confirmed_in, confirmed_of, cap_count, found_messages, found_telegram, items_in_units, items_waiting, messages_in}
 use Rattle.stack_end.specs.Certain.{telegrams_in}
-use Rattle.stack_end.specs.Datagrams.{upper_of}
-use Rattle.stack_end.specs.Deadlines.{earliest}
 use Rattle.stack_end.specs.EndValue.{EndTakesTurn, EndValue}
 use Rattle.stack_end.proofs.Effects.{handed_up, leaves as end_leave_turn, moved, packed, sends as end_send_turn, settle, with_machine, with_session}
 use Rattle.stack_end.proofs.TurnSteps.{closed-is, finished-is, guarded-is, heard_alone, noted_from, packed-is, part-is, queued-is, rises_from, ticked-is}
@@ -48,8 +43,7 @@ use Rattle.stack_end.specs.Steps.{by_steps, guard_step, kept_of as fields_kept, 
 use Rattle.stack_end.specs.Steps.{whole_way, with_input}
 use Rattle.stack_end.specs.Fields.{LayersTakeTurn, LayersRepresent, UpperRepresent}
 use Rattle.stack_end.specs.Departures.{known_departure}
-use Rattle.stack_end.specs.Statistics.{no_made_counts, with_kind, with_made, with_step}
-use Rattle.stack_end.specs.declared.statistics.MadeCounts.{MadeCounts}
+use Rattle.stack_end.specs.Statistics.{no_made_counts, with_made, with_step}
 use Rattle.stack_end.specs.declared.statistics.PartCounts.{PartCounts}
 use Rattle.stack_end.specs.declared.statistics.DatagramCounts.{DatagramCounts}
 use Rattle.stack_end.specs.TurnLaws.{AnyChannelLaw, GrowsBy, LastLaw, DeterminesLaw, LeadsByTurn, TurnsLaw}
@@ -59,195 +53,34 @@ use Rattle.stack_end.specs.Turns.{waiting_time, with_units}
 use Rattle.stack_end.specs.declared.departure.Departure.{Departure}
 use Rattle.safe_machine.specs.Deadlines.{overdue}
 use Rattle.stack_end.specs.declared.layers.Layers.{Layers}
-use Rattle.std.proofs.Common.{◌/◌}
 use Rattle.std.proofs.Math.Seq.{drop-append_seam}
-use Rattle.std.proofs.lemmas.Bool.{le-leb, leb-false, leb-true}
-use Rattle.std.specs.Prelude.{min, nat_le, ◌-◌}
-
-pub record Rides (before : List Item) (d e : Dialogue) : Type 0 where
-  pub speaks : RepresentsDialogue (session_in d) d.waiting e
-  pub taken : e.history.taken ≡ before ++ d.history.taken
-
-pub record RidesJudged (before : List Item) (j k : Judgement) : Type 0 where
-  pub left : Rides before j.left k.left
-  pub leaving : j.leaving ≡ k.leaving
-
-pub rides-meets : (event : Event) (before : List Item) (d e : Dialogue) → Rides before d e → Rides before (process_event event d) (process_event event e)
-rides-meets event before d e h =
-    record {
-      speaks =
-          record {
-            state = ap (after event) h.speaks.state;
-            waits = ap (λ ws. ws ++ texts (added_by event (session_in d))) h.speaks.waits ∙ ap (λ s. e.waiting ++ texts (added_by event s)) h.speaks.state;
-          };
-      taken =
-          ap (λ xs. xs ++ taken_by event (session_in e)) h.taken
-          ∙ (append_assoc before d.history.taken (taken_by event (session_in e))
-          ∙ ap (λ s. before ++ (d.history.taken ++ taken_by event s)) (sym h.speaks.state));
-    }
-
-pub rides-rises : (a b : Bool) (before : List Item) (d e : Dialogue) → a ≡ b → Rides before d e → Rides before (bring_up a d) (bring_up b e)
-rides-rises a b before d e same h = subst (λ q. Rides before (bring_up a d) (bring_up q e)) same (both a)
-  where
-    both : (a : Bool) → Rides before (bring_up a d) (bring_up a e)
-    both true = rides-meets Event.Up before d e h
-    both false = h
-
-rides-read : (before : List Item) (r : Result Tele TeleFault) (d e : Dialogue) → Rides before d e → RidesJudged before (judge_read r d) (judge_read r e)
-rides-read before (Ok t) d e h = record { left = rides-meets (Arrives t) before d e h; leaving = ap (λ s. if_ended (end_of (judge_telegram s t))) h.speaks.state }
-rides-read before (Err fault) d e h = record { left = h; leaving = refl }
-
-rides-unless : (before : List Item) (a b : Option Leaving) (first rest first_too rest_too : Judgement) → a ≡ b → RidesJudged before first first_too
-    → RidesJudged before rest rest_too
-    → RidesJudged before (unless_leaving a first rest) (unless_leaving b first_too rest_too)
-rides-unless before a b first rest first_too rest_too same h k =
-    subst (λ q. RidesJudged before (unless_leaving a first rest) (unless_leaving q first_too rest_too)) same (both a)
-  where
-    both : (a : Option Leaving) → RidesJudged before (unless_leaving a first rest) (unless_leaving a first_too rest_too)
-    both None = k
-    both (Some why) = h
-
-rides-messages : (before : List Item) (ms : List (List ℕ)) (d e : Dialogue) → Rides before d e → RidesJudged before (judge_messages ms d) (judge_messages ms e)
-rides-messages before [] d e h = record { left = h; leaving = refl }
-rides-messages before (m ∷ ms) d e h =
-    let first = rides-read before (tele_seen m) d e h in
-    let j = judge_read (tele_seen m) d in
-    let k = judge_read (tele_seen m) e in
-    rides-unless before j.leaving k.leaving j (judge_messages ms j.left) k (judge_messages ms k.left) first.leaving first
-    (rides-messages before ms j.left k.left first.left)
-
-rides-unpacked : (before : List Item) (r : Result (List (List ℕ)) PackFault) (d e : Dialogue) → Rides before d e
-    → RidesJudged before (judge_unpacked r d) (judge_unpacked r e)
-rides-unpacked before (Ok ms) d e h = rides-messages before ms d e h
-rides-unpacked before (Err fault) d e h = record { left = h; leaving = refl }
-
-pub rides-units : (before : List Item) (us : List (List ℕ)) (d e : Dialogue) → Rides before d e → RidesJudged before (judge_units us d) (judge_units us e)
-rides-units before [] d e h = record { left = h; leaving = refl }
-rides-units before (u ∷ us) d e h =
-    let first = rides-unpacked before (unit_seen u) d e h in
-    let j = judge_unpacked (unit_seen u) d in
-    let k = judge_unpacked (unit_seen u) e in
-    rides-unless before j.leaving k.leaving j (judge_units us j.left) k (judge_units us k.left) first.leaving first
-    (rides-units before us j.left k.left first.left)
-
--- two histories of which the same is kept, and that made and took the same
-same-state : (s t : State) → kept_of t ≡ kept_of s → t.made ≡ s.made → t.taken ≡ s.taken → t ≡ s
-same-state s t kept made taken = λ i.
-    record {
-      settings = (kept i).settings;
-      first = (kept i).first;
-      connection = (kept i).connection;
-      made = made i;
-      taken = taken i;
-      since = (kept i).since;
-      expected = (kept i).expected;
-      last_sn = (kept i).last_sn;
-      last_ts = (kept i).last_ts;
-      confirmed = (kept i).confirmed;
-      confirmed_at = (kept i).confirmed_at;
-      answered = (kept i).answered;
-      window = (kept i).window;
-    }
-
--- a tick changes a history if and only if it changes what is kept of it
-pub quiet-tick : (now : ℕ) (v : View) (s : State) → StandsFor v s → tick_turn now v ≡ still v → tick now s ≡ s
-quiet-tick now v s h quiet =
-    let one = machine_turns (Ticks now) v s tt h in
-    same-state s (tick now s) (sym one.stands ∙ (ap (λ (t : Turn). t.left) quiet ∙ h))
-    (one.made ∙ (ap (λ (t : Turn). s.made ++ t.made) quiet ∙ append-nil s.made))
-    (one.taken ∙ append-nil s.taken)
-
-pub fallen-tick : (now : ℕ) (v : View) (s : State) → StandsFor v s → (tick_turn now v).left ≢ v → tick now s ≢ s
-fallen-tick now v s h changes same = changes ((machine_turns (Ticks now) v s tt h).stands ∙ (ap kept_of same ∙ sym h))
-
-pub before-both : (now : ℕ) (a b : Option ℕ) → IsBefore now (earliest a b) → IsBefore now a × IsBefore now b
-before-both now None b h = (tt, h)
-before-both now (Some a) None h = (h, tt)
-before-both now (Some a) (Some b) h = (omega arith, omega arith)
-
-pub at-either : (now : ℕ) (a b : Option ℕ) → IsReachedAt now (earliest a b) → IsReachedAt now a ⊎ IsReachedAt now b
-at-either now None b h = inr h
-at-either now (Some a) None h = inl h
-at-either now (Some a) (Some b) h = at-min (nat_le a b) refl
-  where
-    at-min : (t : Bool) → nat_le a b ≡ t → (a ≤ now) ⊎ (b ≤ now)
-    at-min true e = inl (let k = leb-true a b e in omega (arith, h, k))
-    at-min false e = inr (let k = leb-false a b e in omega (arith, h, k))
-
-undue : (nil late : Bool) (now : ℕ) (r : Receiver) → is_nil r.waiting ≡ nil → nat_le (r.since + r.t_seq) now ≡ late → IsBefore now (deadline_of r)
-    → is_due now r ≡ false
-undue true late now r n l h = rw n refl
-undue false true now r n l h = let k = rw n at h in let m = leb-true (r.since + r.t_seq) now l in absurd (omega (arith, k, m))
-undue false false now r n l h = rw (n, l) refl
-
-pub red-before : (now : ℕ) (r : Receiver) → IsBefore now (deadline_of r) → (red_after (RedTick now) r ≡ r) × (parts_passed (RedTick now) r ≡ [])
-red-before now r h =
-    let e = undue (is_nil r.waiting) (nat_le (r.since + r.t_seq) now) now r refl refl h in
-    (rw e refl, rw e refl)
-
-pub red-at : (now : ℕ) (r : Receiver) (nil : Bool) → is_nil r.waiting ≡ nil → IsReachedAt now (deadline_of r) → is_due now r ≡ true
-red-at now r true n h = absurd (rw n at h)
-red-at now r false n h = let k = rw n at h in rw (n, le-leb (r.since + r.t_seq) now k) refl
+use Rattle.std.specs.Prelude.{min, ◌-◌}
+use Rattle.stack_end.proofs.SentNumbers.{behind-wrap, datagrams-are, sendings-append, made-append}
+use Rattle.stack_end.proofs.Deadlines.{quiet-tick, fallen-tick}
+use Rattle.stack_end.proofs.Rides.{Rides, RidesJudged, rides-meets, rides-rises, rides-units}
 
 packs-history : (n now : ℕ) (x : EndState) → (pack_by by_steps n now x).session.history ≡ x.session.history
 packs-history zero now x = refl
 packs-history (suc n) now x =
-    by_cond (λ (y : EndState). y.session.history ≡ x.session.history) (can_pack (fields_kept x)) (pack_by by_steps n now (step (pack_turn now) x)) x
+    by_cond (λ (y : EndState). y.session.history ≡ x.session.history) (can_pack (fields_kept x))
+    (pack_by by_steps n now (step (pack_turn now) x)) x
     (λ _. packs-history n now (step (pack_turn now) x)) (λ _. refl)
 
-pub puts-last : (kind : ℕ) (payload : List ℕ) (now : ℕ) (x : EndState) → put_refusal (session_in x.session) kind payload (length x.session.waiting) ≡ None
+pub puts-last : (kind : ℕ) (payload : List ℕ) (now : ℕ) (x : EndState)
+    → put_refusal (session_in x.session) kind payload (length x.session.waiting) ≡ None
     → (call_by whole_way (Put kind payload now) x).session.history.put ≡ x.session.history.put ++ (kind, payload) ∷ []
 puts-last kind payload now x accepted =
     let y : EndState = step (queue_turn kind payload) x in
     ap (λ (h : History). h.put) (packs-history (length y.session.waiting) now y)
     ∙ ap (λ r. x.session.history.put ++ (if is_none r then (kind, payload) ∷ [] else [])) accepted
 
--- four bytes give a number modulo 2^32
-little-wrap : (n : ℕ) → little_bytes 4 (n % 2 ^ 32) ≡ little_bytes 4 n
-little-wrap n =
-    let a : n % 2 ^ 32 % 256 ≡ n % 256 = omega arith in
-    let b : n % 2 ^ 32 / 256 ^ 1 % 256 ≡ n / 256 ^ 1 % 256 = omega arith in
-    let c : n % 2 ^ 32 / 256 ^ 2 % 256 ≡ n / 256 ^ 2 % 256 = omega arith in
-    let d : n % 2 ^ 32 / 256 ^ 3 % 256 ≡ n / 256 ^ 3 % 256 = omega arith in
-    λ i. a i ∷ (b i ∷ (c i ∷ (d i ∷ [])))
-
-red-wrap : (n : ℕ) (upper : List ℕ) → red_text (n % 2 ^ 32) upper ≡ red_text n upper
-red-wrap n upper = ap (λ octets. little_bytes 2 (8 + length upper) ++ little_bytes 2 0 ++ octets ++ upper) (little-wrap n)
-
-next-wrap : (n : ℕ) → next_number (n % 2 ^ 32) ≡ (n + 1) % 2 ^ 32
-next-wrap n = omega arith
-
-pub behind-wrap : (n : ℕ) (ms : List Made) → number_after (n % 2 ^ 32) ms ≡ (n + length ms) % 2 ^ 32
-behind-wrap n [] = ap (λ k. k % 2 ^ 32) (omega arith)
-behind-wrap n (m ∷ ms) = ap (λ k. number_after k ms) (next-wrap n) ∙ (behind-wrap (n + 1) ms ∙ ap (λ k. k % 2 ^ 32) (omega arith))
-
-pub datagrams-are : (s : EndSettings) (n : ℕ) (ms : List Made) → datagrams (rule_of s) s.channels (n % 2 ^ 32) ms ≡ sendings s n ms
-unfolding text_of
-datagrams-are s n [] = refl
-datagrams-are s n (m ∷ ms) =
-    let octets = upper_of (rule_of s) m in
-    let first = on_channels s.channels (red_text n octets) in
-    ap (λ o. on_channels s.channels o ++ datagrams (rule_of s) s.channels (next_number (n % 2 ^ 32)) ms) (red-wrap n octets)
-    ∙ (ap (λ k. first ++ datagrams (rule_of s) s.channels k ms) (next-wrap n) ∙ ap (λ xs. first ++ xs) (datagrams-are s (n + 1) ms))
-
-sendings-append : (s : EndSettings) (index : ℕ) (ms ns : List Made) → sendings s index (ms ++ ns) ≡ sendings s index ms ++ sendings s (index + length ms) ns
-sendings-append s index [] ns = ap (λ n. sendings s n ns) (omega arith)
-sendings-append s index (m ∷ ms) ns =
-    let first = on_channels s.channels (red_text index (upper_of (rule_of s) m)) in
-    ap (λ xs. first ++ xs) (sendings-append s (index + 1) ms ns ∙ ap (λ n. sendings s (index + 1) ms ++ sendings s n ns) (omega arith))
-    ∙ sym (append_assoc first (sendings s (index + 1) ms) (sendings s (index + length (m ∷ ms)) ns))
-
--- more that was made is counted after what was made before
-made-append : (ms ns : List Made) (c : MadeCounts) → with_made (ms ++ ns) c ≡ with_made ns (with_made ms c)
-made-append [] ns c = refl
-made-append (m ∷ ms) ns c = made-append ms ns (with_kind m.pdu.kind c)
-
 -- who is opened sends nothing in turn
 pub opens-made : (settings : Settings) (first now : ℕ) → HasMade (opening_turn settings first now).left
 opens-made settings first now = by_client settings.client
   where
     by_client : (client : Bool) → HasMade
-        (if client then sending_turn ConnReq (opening_body settings.n_sendmax) now (new_view settings first now Start) else machine_still
+        (if client then sending_turn ConnReq (opening_body settings.n_sendmax) now (new_view settings first now Start)
+        else machine_still
         (new_view settings first now Down)).left
     by_client true turn = absurd (true≢false (sym turn))
     by_client false turn = absurd (true≢false (sym turn))
@@ -259,9 +92,16 @@ pub record UpperTurned (t : EndTurn Fields) (x y : EndState) : Type 0 where
   pub grew : GrowsBy t x y
 
 grew-none : {V : Type 0} (v : V) (x : EndState) → GrowsBy (end_still v) x x
-grew-none v x = record { settings = refl; more = []; made = sym (append-nil x.machine.made); sent = refl; taken = sym (append-nil x.session.history.taken) }
+grew-none v x = record {
+  settings = refl;
+  more = [];
+  made = sym (append-nil x.machine.made);
+  sent = refl;
+  taken = sym (append-nil x.session.history.taken);
+}
 
-grew-then : {V : Type 0} (t : EndTurn V) (next : V → EndTurn V) (x y z : EndState) → GrowsBy t x y → GrowsBy (next t.left) y z → GrowsBy (turn_then t next) x z
+grew-then : {V : Type 0} (t : EndTurn V) (next : V → EndTurn V) (x y z : EndState) → GrowsBy t x y
+    → GrowsBy (next t.left) y z → GrowsBy (turn_then t next) x z
 grew-then t next x y z h k =
     let start = length x.machine.made in
     let u = next t.left in
@@ -273,7 +113,8 @@ grew-then t next x y z h k =
       sent =
           ap (λ xs. xs ++ u.sent) h.sent
           ∙ (ap (λ ys. sendings x.settings start h.more ++ ys)
-          (k.sent ∙ (ap (λ s. sendings s (length y.machine.made) k.more) h.settings ∙ ap (λ i. sendings x.settings i k.more) long))
+          (k.sent ∙ (ap (λ s. sendings s (length y.machine.made) k.more) h.settings
+          ∙ ap (λ i. sendings x.settings i k.more) long))
           ∙ sym (sendings-append x.settings start h.more k.more));
       taken = k.taken ∙ (ap (λ xs. xs ++ u.taken) h.taken ∙ append_assoc x.session.history.taken t.taken u.taken);
     }
@@ -281,18 +122,22 @@ grew-then t next x y z h k =
 upper-still : (v : Fields) (x : EndState) → UpperRepresent v x → UpperTurned (end_still v) x x
 upper-still v x h = record { stands = h; red = refl; grew = grew-none v x }
 
-upper-then : (t : EndTurn Fields) (next : Fields → EndTurn Fields) (x y z : EndState) → UpperTurned t x y → UpperTurned (next t.left) y z
+upper-then : (t : EndTurn Fields) (next : Fields → EndTurn Fields) (x y z : EndState) → UpperTurned t x y
+    → UpperTurned (next t.left) y z
     → UpperTurned (turn_then t next) x z
-upper-then t next x y z h k = record { stands = k.stands; red = k.red ∙ h.red; grew = grew-then t next x y z h.grew k.grew }
+upper-then t next x y z h k =
+    record { stands = k.stands; red = k.red ∙ h.red; grew = grew-then t next x y z h.grew k.grew }
 
 -- one of two, on both sides
-choose : {V : Type 0} (P : EndTurn V → EndState → Type 0) (a b : Bool) (t u : EndTurn V) (y z : EndState) → a ≡ b → P t y → P u z
+choose : {V : Type 0} (P : EndTurn V → EndState → Type 0) (a b : Bool) (t u : EndTurn V) (y z : EndState) → a ≡ b
+    → P t y → P u z
     → P (if a then t else u) (if b then y else z)
 choose P true b t u y z e h k = subst (λ q. P t (if q then y else z)) e h
 choose P false b t u y z e h k = subst (λ q. P u (if q then y else z)) e k
 
 -- a turn of the machine
-upper-machine : (m : MachineTurn) (units : List (List ℕ)) (v : Fields) (x : EndState) (s : State) → MachineTurned m units x.machine s → HasMade m.left
+upper-machine : (m : MachineTurn) (units : List (List ℕ)) (v : Fields) (x : EndState) (s : State)
+    → MachineTurned m units x.machine s → HasMade m.left
     → s.settings ≡ x.machine.settings → UpperRepresent v x
     → UpperTurned (machine_turn m v) x (with_machine s x)
 upper-machine m units v x s one has_made kept h =
@@ -307,13 +152,15 @@ upper-machine m units v x s one has_made kept h =
             request = h.request;
             numbers =
                 ap (λ n. number_after n m.made) h.numbers
-                ∙ (behind-wrap start m.made ∙ ap (λ n. n % 2 ^ 32) (sym (ap length one.made ∙ length-append x.machine.made m.made)));
+                ∙ (behind-wrap start m.made ∙ ap (λ n. n % 2 ^ 32)
+                (sym (ap length one.made ∙ length-append x.machine.made m.made)));
             count = h.count;
             max = h.max;
             accepted = h.accepted;
             made =
                 ap (with_made m.made) h.made
-                ∙ (sym (made-append x.machine.made m.made no_made_counts) ∙ ap (λ ms. with_made ms no_made_counts) (sym one.made));
+                ∙ (sym (made-append x.machine.made m.made no_made_counts)
+                ∙ ap (λ ms. with_made ms no_made_counts) (sym one.made));
             rule = ap (λ (q : Settings). q.rule) kept ∙ h.rule;
             t_max = h.t_max ∙ sym (ap (λ (q : Settings). q.t_max) kept);
           };
@@ -326,7 +173,8 @@ upper-machine m units v x s one has_made kept h =
             sent =
                 ap (λ r. datagrams r v.count v.numbers m.made) rule
                 ∙ (ap (λ n. datagrams (rule_of x.settings) n v.numbers m.made) h.count
-                ∙ (ap (λ n. datagrams (rule_of x.settings) x.settings.channels n m.made) h.numbers ∙ datagrams-are x.settings start m.made));
+                ∙ (ap (λ n. datagrams (rule_of x.settings) x.settings.channels n m.made) h.numbers
+                ∙ datagrams-are x.settings start m.made));
             taken = sym (append-nil x.session.history.taken);
           };
     }
@@ -334,12 +182,14 @@ upper-machine m units v x s one has_made kept h =
 upper-move : (m : Move) (v : Fields) (x : EndState) → MaySend m v.machine → UpperRepresent v x
     → UpperTurned (machine_turn (machine_move m v.machine) v) x (with_machine (move m x.machine) x)
 upper-move m v x may h =
-    upper-machine (machine_move m v.machine) _ v x (move m x.machine) (machine_turns m v.machine x.machine may h.machine)
+    upper-machine (machine_move m v.machine) _ v x (move m x.machine)
+    (machine_turns m v.machine x.machine may h.machine)
     (made_law_holds m v.machine x.machine h.has_made h.machine)
     (settings_law_holds m x.machine) h
 
 -- what is judged puts nothing in, and neither does going up
-put-unless : (put : List Item) (a : Option Leaving) (first rest : Judgement) → first.left.history.put ≡ put → rest.left.history.put ≡ put
+put-unless : (put : List Item) (a : Option Leaving) (first rest : Judgement) → first.left.history.put ≡ put
+    → rest.left.history.put ≡ put
     → (unless_leaving a first rest).left.history.put ≡ put
 put-unless put None first rest h k = k
 put-unless put (Some why) first rest h k = h
@@ -355,7 +205,8 @@ put-messages (m ∷ ms) d =
     put-unless d.history.put first.leaving first (judge_messages ms first.left) (put-read (tele_seen m) d)
     (put-messages ms first.left ∙ put-read (tele_seen m) d)
 
-put-unpacked : (r : Result (List (List ℕ)) PackFault) (d : Dialogue) → (judge_unpacked r d).left.history.put ≡ d.history.put
+put-unpacked : (r : Result (List (List ℕ)) PackFault) (d : Dialogue)
+    → (judge_unpacked r d).left.history.put ≡ d.history.put
 put-unpacked (Ok ms) d = put-messages ms d
 put-unpacked (Err fault) d = refl
 
@@ -374,7 +225,8 @@ counted-more : (n m : ℕ) → min (min n (2 ^ 64 - 1) + m) (2 ^ 64 - 1) ≡ min
 counted-more n m = omega arith
 
 -- the session goes on
-upper-counted : (n : ℕ) (d e : Dialogue) (v : Fields) (x : EndState) → n ≡ cap_count (length e.history.put) → Rides x.session.history.taken d e → UpperRepresent v x
+upper-counted : (n : ℕ) (d e : Dialogue) (v : Fields) (x : EndState) → n ≡ cap_count (length e.history.put)
+    → Rides x.session.history.taken d e → UpperRepresent v x
     → UpperTurned (session_turn d (record v { accepted = n })) x (with_session e x)
 upper-counted n d e v x c r h =
     record {
@@ -392,23 +244,28 @@ upper-counted n d e v x c r h =
         t_max = h.t_max;
       };
       red = refl;
-      grew = record { settings = refl; more = []; made = sym (append-nil x.machine.made); sent = refl; taken = r.taken };
+      grew =
+          record { settings = refl; more = []; made = sym (append-nil x.machine.made); sent = refl; taken = r.taken };
     }
 
 -- if nothing is put
-upper-session : (d e : Dialogue) (v : Fields) (x : EndState) → e.history.put ≡ x.session.history.put → Rides x.session.history.taken d e → UpperRepresent v x
+upper-session : (d e : Dialogue) (v : Fields) (x : EndState) → e.history.put ≡ x.session.history.put
+    → Rides x.session.history.taken d e → UpperRepresent v x
     → UpperTurned (session_turn d v) x (with_session e x)
-upper-session d e v x put r h = upper-counted v.accepted d e v x (h.accepted ∙ ap (λ (is : List Item). cap_count (length is)) (sym put)) r h
+upper-session d e v x put r h =
+    upper-counted v.accepted d e v x (h.accepted ∙ ap (λ (is : List Item). cap_count (length is)) (sym put)) r h
 
 rides-here : (v : Fields) (x : EndState) → UpperRepresent v x → Rides x.session.history.taken (dialogue_of v) x.session
 rides-here v x h = record { speaks = h.speaks; taken = sym (append-nil x.session.history.taken) }
 
 upper-settles : (v : Fields) (x : EndState) → UpperRepresent v x → UpperTurned (end_session_turn v) x (settle x)
 upper-settles v x h =
-    choose (λ t y. UpperTurned t x y) (is_closed v.machine.connection) (is_shut x) (session_turn (process_event Closes (dialogue_of v)) v) (end_still v)
+    choose (λ t y. UpperTurned t x y) (is_closed v.machine.connection) (is_shut x)
+    (session_turn (process_event Closes (dialogue_of v)) v) (end_still v)
     (with_session (process_event Closes x.session) x) x
     (ap (λ (m : View). is_closed m.connection) h.machine)
-    (upper-session (process_event Closes (dialogue_of v)) (process_event Closes x.session) v x (append-nil x.session.history.put)
+    (upper-session (process_event Closes (dialogue_of v)) (process_event Closes x.session) v x
+    (append-nil x.session.history.put)
     (rides-meets Closes x.session.history.taken (dialogue_of v) x.session (rides-here v x h)) h) (upper-still v x h)
 
 upper-moved : (m : Move) (v : Fields) (x : EndState) → MaySend m v.machine → UpperRepresent v x
@@ -419,7 +276,8 @@ upper-moved m v x may h =
     let one = upper-move m v x may h in
     upper-then t end_session_turn x y (settle y) one (upper-settles t.left y one.stands)
 
-upper-leaves : (now : ℕ) (a b : Option Leaving) (v : Fields) (x : EndState) → a ≡ b → UpperRepresent v x → UpperTurned (leave_turn now a v) x (end_leave_turn now b x)
+upper-leaves : (now : ℕ) (a b : Option Leaving) (v : Fields) (x : EndState) → a ≡ b → UpperRepresent v x
+    → UpperTurned (leave_turn now a v) x (end_leave_turn now b x)
 upper-leaves now a b v x same h = subst (λ q. UpperTurned (leave_turn now a v) x (end_leave_turn now q x)) same (both a)
   where
     both : (a : Option Leaving) → UpperTurned (leave_turn now a v) x (end_leave_turn now a x)
@@ -427,34 +285,44 @@ upper-leaves now a b v x same h = subst (λ q. UpperTurned (leave_turn now a v) 
     both (Some why) = upper-move (Leaves why.0 why.1 now) v x tt h
 
 -- A part, step by step.
-upper-hears : (now : ℕ) (octets : List ℕ) (v : Fields) (x : EndState) → UpperRepresent v x → UpperTurned (judge_turn now octets v) x (heard_alone now octets x)
-    × ((judge_part now octets v).leaving ≡ (judge_units (handed_up x (arrive_octets octets now x.machine)) x.session).leaving)
+upper-hears : (now : ℕ) (octets : List ℕ) (v : Fields) (x : EndState) → UpperRepresent v x
+    → UpperTurned (judge_turn now octets v) x (heard_alone now octets x)
+    × ((judge_part now octets v).leaving ≡ (judge_units (handed_up x (arrive_octets octets now x.machine))
+    x.session).leaving)
 upper-hears now octets v x h =
     let s : State = arrive_octets octets now x.machine in
     let m = machine_octets_turn octets now v.machine in
     let units = octets_units octets now v.machine in
     let one = octets_law_holds octets now v.machine x.machine h.machine in
-    let has_made = made_law_holds (heard_move (safe_seen v.machine.settings.rule octets) now) v.machine x.machine h.has_made h.machine in
-    let first = upper-machine m units v x s one has_made (settings_law_holds (heard_move (seen_by x.machine octets) now) x.machine) h in
-    let up : units ≡ handed_up x s = sym (ap (drop (length x.machine.taken)) one.taken ∙ drop-append_seam x.machine.taken units) in
+    let has_made = made_law_holds (heard_move (safe_seen v.machine.settings.rule octets) now) v.machine x.machine
+    h.has_made h.machine in
+    let first = upper-machine m units v x s one has_made
+    (settings_law_holds (heard_move (seen_by x.machine octets) now) x.machine) h in
+    let up : units ≡ handed_up x s = sym (ap (drop (length x.machine.taken)) one.taken
+    ∙ drop-append_seam x.machine.taken units) in
     let before = x.session.history.taken in
     let both = subst (λ us. RidesJudged before (judge_part now octets v) (judge_units us x.session)) up
     (rides-units before units (dialogue_of v) x.session (rides-here v x h)) in
-    let second = upper-session (judge_part now octets v).left (judge_units (handed_up x s) x.session).left (machine_turn m v).left (with_machine s x)
+    let second = upper-session (judge_part now octets v).left (judge_units (handed_up x s) x.session).left
+    (machine_turn m v).left (with_machine s x)
     (put-units (handed_up x s) x.session) both.left first.stands in (
-      upper-then (with_units units (machine_turn m v)) (session_turn (judge_part now octets v).left) x (with_machine s x) (heard_alone now octets x)
+      upper-then (with_units units (machine_turn m v)) (session_turn (judge_part now octets v).left) x
+          (with_machine s x) (heard_alone now octets x)
           (record { stands = first.stands; red = first.red; grew = delivers first.grew }) second,
       both.leaving,
     )
   where
-    delivers : {t : EndTurn Fields} {x y : EndState} {us : List (List ℕ)} → GrowsBy t x y → GrowsBy (with_units us t) x y
+    delivers : {t : EndTurn Fields} {x y : EndState} {us : List (List ℕ)} → GrowsBy t x y
+        → GrowsBy (with_units us t) x y
     delivers g = record { settings = g.settings; more = g.more; made = g.made; sent = g.sent; taken = g.taken }
 
 upper-notes : (before : ConnectionState) (octets : List ℕ) (v : Fields) (x : EndState) → UpperRepresent v x
     → UpperTurned (note_request_turn before octets v) x (noted_from before octets x)
 upper-notes before octets v x h =
-    let same : request_after (is_joining before v.machine.connection) octets v.request ≡ request_after (is_joining before x.machine.connection) octets x.request =
-    ap (λ (m : View). request_after (is_joining before m.connection) octets v.request) h.machine ∙ ap (request_after (is_joining before x.machine.connection) octets) h.request in
+    let same : request_after (is_joining before v.machine.connection) octets v.request
+    ≡ request_after (is_joining before x.machine.connection) octets x.request =
+    ap (λ (m : View). request_after (is_joining before m.connection) octets v.request) h.machine
+    ∙ ap (request_after (is_joining before x.machine.connection) octets) h.request in
     record {
       stands = record {
         machine = h.machine;
@@ -470,18 +338,31 @@ upper-notes before octets v x h =
         t_max = h.t_max;
       };
       red = refl;
-      grew = record { settings = refl; more = []; made = sym (append-nil x.machine.made); sent = refl; taken = sym (append-nil x.session.history.taken) };
+      grew = record {
+        settings = refl;
+        more = [];
+        made = sym (append-nil x.machine.made);
+        sent = refl;
+        taken = sym (append-nil x.session.history.taken);
+      };
     }
 
 -- what is kept next to what represents the state
-upper-beside : (t : EndTurn Fields) (next : Fields → Fields) (x y : EndState) → UpperRepresent (next t.left) y → UpperTurned t x y
+upper-beside : (t : EndTurn Fields) (next : Fields → Fields) (x y : EndState) → UpperRepresent (next t.left) y
+    → UpperTurned t x y
     → UpperTurned (turn_then t (λ v. end_still (next v))) x y
 upper-beside t next x y s h =
     upper-then t (λ v. end_still (next v)) x y y h
     (record {
       stands = s;
       red = refl;
-      grew = record { settings = refl; more = []; made = sym (append-nil y.machine.made); sent = refl; taken = sym (append-nil y.session.history.taken) };
+      grew = record {
+        settings = refl;
+        more = [];
+        made = sym (append-nil y.machine.made);
+        sent = refl;
+        taken = sym (append-nil y.session.history.taken);
+      };
     })
 
 -- departure and counts of parts are no part of what represents the state
@@ -503,7 +384,8 @@ beside-stands v y departed parts_turn s =
     }
 
 -- the recorded departure is kept next to it
-upper-departs : (cause : Option Departure) (t : EndTurn Fields) (x y : EndState) → UpperTurned t x y → UpperTurned (turn_then t (departure_turn cause)) x y
+upper-departs : (cause : Option Departure) (t : EndTurn Fields) (x y : EndState) → UpperTurned t x y
+    → UpperTurned (turn_then t (departure_turn cause)) x y
 upper-departs cause t x y h =
     upper-beside t (λ v. record v { departed = known_departure cause v.departed }) x y
     (beside-stands t.left y (known_departure cause t.left.departed) t.left.parts h.stands) h
@@ -513,16 +395,20 @@ upper-counts : (answer : Outcome) (long now : ℕ) (t : EndTurn Fields) (x y : E
     → UpperTurned (turn_then t (count_turn answer long now)) x y
 upper-counts answer long now t x y h =
     upper-beside t (λ v. record v { parts = with_step answer long (now - v.machine.confirmed_at) v.parts }) x y
-    (beside-stands t.left y t.left.departed (with_step answer long (now - t.left.machine.confirmed_at) t.left.parts) h.stands) h
+    (beside-stands t.left y t.left.departed (with_step answer long (now - t.left.machine.confirmed_at) t.left.parts)
+    h.stands) h
 
-upper-goes_up : (before : ConnectionState) (v : Fields) (x : EndState) → UpperRepresent v x → UpperTurned (up_turn before v) x (rises_from before x)
+upper-goes_up : (before : ConnectionState) (v : Fields) (x : EndState) → UpperRepresent v x
+    → UpperTurned (up_turn before v) x (rises_from before x)
 upper-goes_up before v x h =
     let a = comes_up before v.machine.connection in
     let b = comes_up before x.machine.connection in
     upper-session (bring_up a (dialogue_of v)) (bring_up b x.session) v x (put-rises b x.session)
-    (rides-rises a b x.session.history.taken (dialogue_of v) x.session (ap (λ (m : View). comes_up before m.connection) h.machine) (rides-here v x h)) h
+    (rides-rises a b x.session.history.taken (dialogue_of v) x.session
+    (ap (λ (m : View). comes_up before m.connection) h.machine) (rides-here v x h)) h
 
-upper-part : (now : ℕ) (octets : List ℕ) (v : Fields) (x : EndState) → UpperRepresent v x → UpperTurned (part_turn now octets v) x (end_part now octets x)
+upper-part : (now : ℕ) (octets : List ℕ) (v : Fields) (x : EndState) → UpperRepresent v x
+    → UpperTurned (part_turn now octets v) x (end_part now octets x)
 upper-part now octets v x h =
     let before = v.machine.connection in
     let heard = upper-hears now octets v x h in
@@ -536,18 +422,21 @@ upper-part now octets v x h =
     let x1 : EndState = noted_from before octets x0 in
     let x2 : EndState = rises_from before x1 in
     let x3 : EndState = end_leave_turn now asked x2 in
-    let h1 = upper-then t0 (note_request_turn before octets) x x0 x1 heard.0 (upper-notes before octets t0.left x0 heard.0.stands) in
+    let h1 = upper-then t0 (note_request_turn before octets) x x0 x1 heard.0
+    (upper-notes before octets t0.left x0 heard.0.stands) in
     let h2 = upper-then t1 (up_turn before) x x1 x2 h1 (upper-goes_up before t1.left x1 h1.stands) in
     let h3 = upper-then t2 (leave_turn now why) x x2 x3 h2 (upper-leaves now why asked t2.left x2 heard.1 h2.stands) in
     let h4 = upper-then t3 end_session_turn x x3 (settle x3) h3 (upper-settles t3.left x3 h3.stands) in
     subst (UpperTurned (part_turn now octets v) x)
-    (ap (λ (q : ConnectionState). settle (end_leave_turn now asked (rises_from q (noted_from q octets x0)))) (ap (λ (m : View). m.connection) h.machine)
+    (ap (λ (q : ConnectionState). settle (end_leave_turn now asked (rises_from q (noted_from q octets x0))))
+    (ap (λ (m : View). m.connection) h.machine)
     ∙ sym (part-is now octets x))
     (upper-counts (decoded_answer (safe_seen v.machine.settings.rule octets) now v.machine) (waiting_time now v) now
     (turn_then (turn_then t3 end_session_turn) (departure_turn (closing_departure now octets v))) x (settle x3)
     (upper-departs (closing_departure now octets v) (turn_then t3 end_session_turn) x (settle x3) h4))
 
-upper-parts : (now : ℕ) (ps : List Part) (v : Fields) (x : EndState) → UpperRepresent v x → UpperTurned (parts_turn now ps v) x (end_parts now ps x)
+upper-parts : (now : ℕ) (ps : List Part) (v : Fields) (x : EndState) → UpperRepresent v x
+    → UpperTurned (parts_turn now ps v) x (end_parts now ps x)
 upper-parts now [] v x h = upper-still v x h
 upper-parts now (p ∷ ps) v x h =
     let t = part_turn now p.1 v in
@@ -557,9 +446,11 @@ upper-parts now (p ∷ ps) v x h =
 
 -- a unit goes out, and what is left of the messages
 abbrev sent_out : List ℕ → List (List ℕ) → ℕ → EndState → EndState
-sent_out unit rest now x = record x { machine = send unit now x.machine; session = record { history = x.session.history; waiting = rest } }
+sent_out unit rest now x =
+    record x { machine = send unit now x.machine; session = record { history = x.session.history; waiting = rest } }
 
-upper-packs : (now : ℕ) (v : Fields) (x : EndState) → UpperRepresent v x → UpperTurned (pack_turn now v) x (step (pack_turn now) x)
+upper-packs : (now : ℕ) (v : Fields) (x : EndState) → UpperRepresent v x
+    → UpperTurned (pack_turn now v) x (step (pack_turn now) x)
 upper-packs now v x h =
     let unit = unit_text (take v.max v.waiting) in
     let rest = drop v.max v.waiting in
@@ -584,14 +475,23 @@ upper-packs now v x h =
         t_max = s.t_max;
       };
       red = refl;
-      grew = record { settings = refl; more = []; made = sym (append-nil y.machine.made); sent = refl; taken = sym (append-nil x.session.history.taken) };
+      grew = record {
+        settings = refl;
+        more = [];
+        made = sym (append-nil y.machine.made);
+        sent = refl;
+        taken = sym (append-nil x.session.history.taken);
+      };
     } in
     let is : z ≡ packed now x =
     ap (λ n. sent_out (unit_text (take n v.waiting)) (drop n v.waiting) now x) h.max
-    ∙ ap (λ ws. sent_out (unit_text (take x.settings.n_maxpacket ws)) (drop x.settings.n_maxpacket ws) now x) h.speaks.waits in
-    subst (UpperTurned (pack_turn now v) x) (is ∙ sym (packed-is now x)) (upper-then t (λ w. end_still (record w { waiting = rest })) x y z one behind)
+    ∙ ap (λ ws. sent_out (unit_text (take x.settings.n_maxpacket ws)) (drop x.settings.n_maxpacket ws) now x)
+    h.speaks.waits in
+    subst (UpperTurned (pack_turn now v) x) (is ∙ sym (packed-is now x))
+    (upper-then t (λ w. end_still (record w { waiting = rest })) x y z one behind)
 
-upper-up_to : (n now : ℕ) (v : Fields) (x : EndState) → UpperRepresent v x → UpperTurned (pack_up_to_turn n now v) x (pack_by by_steps n now x)
+upper-up_to : (n now : ℕ) (v : Fields) (x : EndState) → UpperRepresent v x
+    → UpperTurned (pack_up_to_turn n now v) x (pack_by by_steps n now x)
 upper-up_to zero now v x h = upper-still v x h
 upper-up_to (suc n) now v x h =
     let t = pack_turn now v in
@@ -601,16 +501,22 @@ upper-up_to (suc n) now v x h =
     let more = upper-then t (pack_up_to_turn n now) x y z one (upper-up_to n now t.left y one.stands) in
     let nil = is_nil x.session.waiting in
     let can : can_pack v ≡ can_pack (fields_kept x) =
-    ap (λ ws. not (is_nil ws) && has_room v.machine) h.speaks.waits ∙ ap (λ (m : View). not nil && has_room m) h.machine in
-    choose (λ q w. UpperTurned q x w) (can_pack v) (can_pack (fields_kept x)) (turn_then t (pack_up_to_turn n now)) (end_still v) z x can more (upper-still v x h)
+    ap (λ ws. not (is_nil ws) && has_room v.machine) h.speaks.waits
+    ∙ ap (λ (m : View). not nil && has_room m) h.machine in
+    choose (λ q w. UpperTurned q x w) (can_pack v) (can_pack (fields_kept x)) (turn_then t (pack_up_to_turn n now))
+    (end_still v) z x can more (upper-still v x h)
 
-upper-sends : (now : ℕ) (v : Fields) (x : EndState) → UpperRepresent v x → UpperTurned (send_turn now v) x (end_send_turn now x)
-upper-sends now v x h = subst (λ ws. UpperTurned (send_turn now v) x (pack_by by_steps (length ws) now x)) h.speaks.waits (upper-up_to (length v.waiting) now v x h)
+upper-sends : (now : ℕ) (v : Fields) (x : EndState) → UpperRepresent v x
+    → UpperTurned (send_turn now v) x (end_send_turn now x)
+upper-sends now v x h = subst (λ ws. UpperTurned (send_turn now v) x (pack_by by_steps (length ws) now x))
+    h.speaks.waits (upper-up_to (length v.waiting) now v x h)
 
 -- an event of the session that knows how many messages wait, and then sending
 upper-event : (event : ℕ → Event) (n now : ℕ) (v : Fields) (x : EndState)
-    → n ≡ cap_count (length (process_event (event (length x.session.waiting)) x.session).history.put) → UpperRepresent v x
-    → UpperTurned (turn_then (session_turn (process_event (event (length v.waiting)) (dialogue_of v)) (record v { accepted = n })) (send_turn now)) x
+    → n ≡ cap_count (length (process_event (event (length x.session.waiting)) x.session).history.put)
+    → UpperRepresent v x
+    → UpperTurned (turn_then (session_turn (process_event (event (length v.waiting)) (dialogue_of v))
+    (record v { accepted = n })) (send_turn now)) x
     (end_send_turn now (with_session (process_event (event (length x.session.waiting)) x.session) x))
 upper-event event n now v x c h =
     let d = process_event (event (length v.waiting)) (dialogue_of v) in
@@ -632,8 +538,10 @@ puts-counted kind payload v x h =
     let before = x.session.history.put in
     let more = put_by (Puts kind payload (length x.session.waiting)) (session_in x.session) in
     ap (λ (n : ℕ). min (n + length (put_by (Puts kind payload (length v.waiting)) v.session)) (2 ^ 64 - 1)) h.accepted
-    ∙ ap (λ s. min (cap_count (length before) + length (put_by (Puts kind payload (length v.waiting)) s)) (2 ^ 64 - 1)) h.speaks.state
-    ∙ ap (λ (ws : List (List ℕ)). min (cap_count (length before) + length (put_by (Puts kind payload (length ws)) (session_in x.session))) (2 ^ 64 - 1))
+    ∙ ap (λ s. min (cap_count (length before) + length (put_by (Puts kind payload (length v.waiting)) s)) (2 ^ 64 - 1))
+    h.speaks.state
+    ∙ ap (λ (ws : List (List ℕ)). min (cap_count (length before)
+    + length (put_by (Puts kind payload (length ws)) (session_in x.session))) (2 ^ 64 - 1))
     h.speaks.waits
     ∙ counted-more (length before) (length more) ∙ ap cap_count (sym (length-append before more))
 
@@ -641,17 +549,26 @@ puts-counted kind payload v x h =
 whole-still : (v : Inside) (x : EndState) → LayersRepresent v x → LeadsByTurn (end_still v) x x
 whole-still v x h = record { stands = h; grew = grew-none v x }
 
-whole-then : (t : EndTurn Inside) (next : Inside → EndTurn Inside) (x y z : EndState) → LeadsByTurn t x y → LeadsByTurn (next t.left) y z → LeadsByTurn (turn_then t next) x z
+whole-then : (t : EndTurn Inside) (next : Inside → EndTurn Inside) (x y z : EndState) → LeadsByTurn t x y
+    → LeadsByTurn (next t.left) y z → LeadsByTurn (turn_then t next) x z
 whole-then t next x y z h k = record { stands = k.stands; grew = grew-then t next x y z h.grew k.grew }
 
-whole-above : (next : Fields → EndTurn Fields) (v : Inside) (x y : EndState) → LayersRepresent v x → UpperTurned (next v.upper) x y → LeadsByTurn (upper_turn next v) x y
+whole-above : (next : Fields → EndTurn Fields) (v : Inside) (x y : EndState) → LayersRepresent v x
+    → UpperTurned (next v.upper) x y → LeadsByTurn (upper_turn next v) x y
 whole-above next v x y h k =
     record {
       stands = record { red = h.red ∙ sym k.red; upper = k.stands };
-      grew = record { settings = k.grew.settings; more = k.grew.more; made = k.grew.made; sent = k.grew.sent; taken = k.grew.taken };
+      grew = record {
+        settings = k.grew.settings;
+        more = k.grew.more;
+        made = k.grew.made;
+        sent = k.grew.sent;
+        taken = k.grew.taken;
+      };
     }
 
-whole-receives : (now : ℕ) (i : Input) (v : Inside) (x : EndState) → LayersRepresent v x → LeadsByTurn (input_turn now i v) x (end_input_turn now i x)
+whole-receives : (now : ℕ) (i : Input) (v : Inside) (x : EndState) → LayersRepresent v x
+    → LeadsByTurn (input_turn now i v) x (end_input_turn now i x)
 whole-receives now i v x h =
     let y : EndState = with_input i x in
     let s = h.upper in
@@ -669,57 +586,78 @@ whole-receives now i v x h =
       rule = s.rule;
       t_max = s.t_max;
     } in
-    let k = subst (λ (r : Receiver). UpperTurned (parts_turn now (parts_passed i v.red) v.upper) y (end_parts now (parts_passed i r) y)) h.red
+    let k = subst (λ (r : Receiver). UpperTurned (parts_turn now (parts_passed i v.red) v.upper) y
+    (end_parts now (parts_passed i r) y)) h.red
     (upper-parts now (parts_passed i v.red) v.upper y noted_too) in
     record {
       stands = record { red = ap (red_after i) h.red ∙ sym k.red; upper = k.stands };
-      grew = record { settings = k.grew.settings; more = k.grew.more; made = k.grew.made; sent = k.grew.sent; taken = k.grew.taken };
+      grew = record {
+        settings = k.grew.settings;
+        more = k.grew.more;
+        made = k.grew.made;
+        sent = k.grew.sent;
+        taken = k.grew.taken;
+      };
     }
 
 over-is : (v : Inside) (x : EndState) → LayersRepresent v x → is_over v ≡ is_shut x
 over-is v x h = ap (λ (m : View). is_closed m.connection) h.upper.machine
 
-whole-goes_on : (now : ℕ) (i : Input) (v : Inside) (x : EndState) → LayersRepresent v x → LeadsByTurn (input_and_send_turn now i v) x (input_and_send_by whole_way now i x)
+whole-goes_on : (now : ℕ) (i : Input) (v : Inside) (x : EndState) → LayersRepresent v x
+    → LeadsByTurn (input_and_send_turn now i v) x (input_and_send_by whole_way now i x)
 whole-goes_on now i v x h =
     let t = input_turn now i v in
     let y : EndState = end_input_turn now i x in
     let one = whole-receives now i v x h in
     let more = whole-then t (upper_turn (send_turn now)) x y (end_send_turn now y) one
-    (whole-above (send_turn now) t.left y (end_send_turn now y) one.stands (upper-sends now t.left.upper y one.stands.upper)) in
-    choose (λ q w. LeadsByTurn q x w) (is_over v) (is_shut x) (end_still v) (turn_then t (upper_turn (send_turn now))) x (end_send_turn now y)
+    (whole-above (send_turn now) t.left y (end_send_turn now y) one.stands
+    (upper-sends now t.left.upper y one.stands.upper)) in
+    choose (λ q w. LeadsByTurn q x w) (is_over v) (is_shut x) (end_still v) (turn_then t (upper_turn (send_turn now))) x
+    (end_send_turn now y)
     (over-is v x h) (whole-still v x h) more
 
 -- the machine first, and then what follows
-whole-first : (m : Move) (now : ℕ) (i : Input) (v : Inside) (x y : EndState) → y ≡ moved m x → MaySend m v.upper.machine → LayersRepresent v x
+whole-first : (m : Move) (now : ℕ) (i : Input) (v : Inside) (x y : EndState) → y ≡ moved m x → MaySend m v.upper.machine
+    → LayersRepresent v x
     → LeadsByTurn
     (if is_over v then end_still v else turn_then
-    (upper_turn (λ w. turn_then (turn_then (machine_turn (machine_move m w.machine) w) end_session_turn) (departure_turn (own_departure (overdue now w.machine) now))) v)
+    (upper_turn (λ w. turn_then (turn_then (machine_turn (machine_move m w.machine) w) end_session_turn)
+    (departure_turn (own_departure (overdue now w.machine) now))) v)
     (input_and_send_turn now i)) x
     (if is_shut x then x else input_and_send_by whole_way now i y)
 whole-first m now i v x y is may h =
     let cause = own_departure (overdue now v.upper.machine) now in
-    let next = λ (w : Fields). turn_then (turn_then (machine_turn (machine_move m w.machine) w) end_session_turn) (departure_turn (own_departure (overdue now w.machine) now)) in
+    let next = λ (w : Fields). turn_then (turn_then (machine_turn (machine_move m w.machine) w) end_session_turn)
+    (departure_turn (own_departure (overdue now w.machine) now)) in
     let t = upper_turn next v in
     let one = whole-above next v x y h
-    (subst (UpperTurned (next v.upper) x) (sym is) (upper-departs cause _ x (moved m x) (upper-moved m v.upper x may h.upper))) in
-    choose (λ q w. LeadsByTurn q x w) (is_over v) (is_shut x) (end_still v) (turn_then t (input_and_send_turn now i)) x (input_and_send_by whole_way now i y) (over-is v x h)
+    (subst (UpperTurned (next v.upper) x) (sym is)
+    (upper-departs cause _ x (moved m x) (upper-moved m v.upper x may h.upper))) in
+    choose (λ q w. LeadsByTurn q x w) (is_over v) (is_shut x) (end_still v) (turn_then t (input_and_send_turn now i)) x
+    (input_and_send_by whole_way now i y) (over-is v x h)
     (whole-still v x h)
-    (whole-then t (input_and_send_turn now i) x y (input_and_send_by whole_way now i y) one (whole-goes_on now i t.left y one.stands))
+    (whole-then t (input_and_send_turn now i) x y (input_and_send_by whole_way now i y) one
+    (whole-goes_on now i t.left y one.stands))
 
-pub turns_did : (c : Call) (v : Inside) (x : EndState) → LayersRepresent v x → LeadsByTurn (turn c v) x (call_by whole_way c x)
+pub turns_did : (c : Call) (v : Inside) (x : EndState) → LayersRepresent v x
+    → LeadsByTurn (turn c v) x (call_by whole_way c x)
 turns_did (Close now) v x h = whole-above (close_turn now) v x (step (close_turn now) x) h
     (subst (UpperTurned (close_turn now v.upper) x) (sym (closed-is now x))
-    (upper-departs _ _ x (moved (Leaves ClosedByUser Unspecified now) x) (upper-moved (Leaves ClosedByUser Unspecified now) v.upper x tt h.upper)))
+    (upper-departs _ _ x (moved (Leaves ClosedByUser Unspecified now) x)
+    (upper-moved (Leaves ClosedByUser Unspecified now) v.upper x tt h.upper)))
 turns_did (Put kind payload now) v x h =
     whole-above (put_turn kind payload now) v x (call_by whole_way (Put kind payload now) x) h
-    (subst (λ (y : EndState). UpperTurned (put_turn kind payload now v.upper) x (end_send_turn now y)) (sym (queued-is kind payload x))
+    (subst (λ (y : EndState). UpperTurned (put_turn kind payload now v.upper) x (end_send_turn now y))
+    (sym (queued-is kind payload x))
     (upper-event (λ n. Puts kind payload n) _ now v.upper x (puts-counted kind payload v.upper x h.upper) h.upper))
 turns_did (InitDone now) v x h = whole-above (init_done_turn now) v x (call_by whole_way (InitDone now) x) h
     (subst (λ (y : EndState). UpperTurned (init_done_turn now v.upper) x (end_send_turn now y)) (sym (finished-is x))
     (upper-event (λ n. Completes n) v.upper.accepted now v.upper x
-    (h.upper.accepted ∙ ap (λ (is : List Item). cap_count (length is)) (sym (append-nil x.session.history.put))) h.upper))
+    (h.upper.accepted ∙ ap (λ (is : List Item). cap_count (length is)) (sym (append-nil x.session.history.put)))
+    h.upper))
 turns_did (Tick now) v x h = whole-first (Ticks now) now (RedTick now) v x (tick_step now x) (ticked-is now x) tt h
-turns_did (Deliver channel octets now) v x h = whole-first (Guards now) now (Datagram octets now) v x (guard_step now x) (guarded-is now x) tt h
+turns_did (Deliver channel octets now) v x h =
+    whole-first (Guards now) now (Datagram octets now) v x (guard_step now x) (guarded-is now x) tt h
 
 -- the time of a call does not change what the layers represent
 timed : (v : Inside) (x : EndState) (time : ℕ) → LayersRepresent v x → LayersRepresent v (record x { time = time })
@@ -763,10 +701,12 @@ items-append : (ms ns : List (List ℕ)) → items_in (ms ++ ns) ≡ items_in ms
 items-append [] ns = omega arith
 items-append (m ∷ ms) ns = let k = items-append ms ns in omega (arith, k)
 
-items-found : (r : Result Tele TeleFault) (ts : List Tele) → length (items_of (found_telegram r ++ ts)) ≡ (if is_item r then 1 else 0) + length (items_of ts)
+items-found : (r : Result Tele TeleFault) (ts : List Tele)
+    → length (items_of (found_telegram r ++ ts)) ≡ (if is_item r then 1 else 0) + length (items_of ts)
 items-found (Ok t) ts = by_kind (is_reserved t.kind)
   where
-    by_kind : (b : Bool) → length (if b then items_of ts else item_of t ∷ items_of ts) ≡ (if not b then 1 else 0) + length (items_of ts)
+    by_kind : (b : Bool) → length (if b then items_of ts else item_of t ∷ items_of ts)
+        ≡ (if not b then 1 else 0) + length (items_of ts)
     by_kind true = omega arith
     by_kind false = omega arith
 items-found (Err fault) ts = omega arith
@@ -774,7 +714,8 @@ items-found (Err fault) ts = omega arith
 items-counted : (ms : List (List ℕ)) → items_in ms ≡ length (items_of (telegrams_in ms))
 items-counted [] = refl
 items-counted (m ∷ ms) =
-    ap (λ n. (if is_item (tele_seen m) then 1 else 0) + n) (items-counted ms) ∙ sym (items-found (tele_seen m) (telegrams_in ms))
+    ap (λ n. (if is_item (tele_seen m) then 1 else 0) + n) (items-counted ms)
+    ∙ sym (items-found (tele_seen m) (telegrams_in ms))
 
 items-read : (r : Result (List (List ℕ)) PackFault) → items_read r ≡ items_in (found_messages r)
 items-read (Ok ms) = refl
@@ -789,8 +730,10 @@ units-counted (u ∷ us) =
 
 confirmed-tells : (v : Fields) (x : EndState) → UpperRepresent v x → confirmed_in v ≡ confirmed_of x
 confirmed-tells v x h =
-    let held : octets_of v.machine.ring ≡ unconfirmed x.machine = ap (λ (m : View). octets_of m.ring) h.machine ∙ ring_of-units x.machine in
-    let units = ap items_in_units held ∙ units-counted (unconfirmed x.machine) ∙ items-counted (messages_in (unconfirmed x.machine)) in
+    let held : octets_of v.machine.ring ≡ unconfirmed x.machine = ap (λ (m : View). octets_of m.ring) h.machine
+    ∙ ring_of-units x.machine in
+    let units = ap items_in_units held ∙ units-counted (unconfirmed x.machine)
+    ∙ items-counted (messages_in (unconfirmed x.machine)) in
     let waits = ap items_in h.speaks.waits ∙ items-counted x.session.waiting in
     ap (λ n. n - (items_in v.waiting + items_in_units (octets_of v.machine.ring))) h.accepted
     ∙ ap (λ n. cap_count (length x.session.history.put) - (n + items_in_units (octets_of v.machine.ring))) waits
@@ -806,7 +749,8 @@ tells_law_holds v x h =
       settled =
           ap (λ (m : View). not (is_closed m.connection) && (is_nil waiting && is_nil ring)) u.machine
           ∙ (ap (λ (ws : List (List ℕ)). not (is_shut x) && (is_nil ws && is_nil ring)) u.speaks.waits
-          ∙ ap (λ (b : Bool). not (is_shut x) && (is_nil x.session.waiting && b)) (nil-alike ring (unconfirmed x.machine) count));
+          ∙ ap (λ (b : Bool). not (is_shut x) && (is_nil x.session.waiting && b))
+          (nil-alike ring (unconfirmed x.machine) count));
       unconfirmed = count;
       confirmed = confirmed-tells v.upper x u;
       quiet = λ now. quiet-tick now v.upper.machine x.machine u.machine;
@@ -820,8 +764,10 @@ pub any_channel_law_holds : AnyChannelLaw
 any_channel_law_holds channel other octets now v = refl
 
 -- a turn of the layers of an end is its turn
-pub layers-turn : {C A T : Type 0} (told : C → ChannelHistory) (takes : T → Item → T → Type 0) (next : Inside → EndTurn Inside) (l m : Layers C A) (time now : ℕ)
-    (r s : DatagramCounts) (v : EndValue C A) (t u : T) → record { layers = l; time = time; receptions = r } ≡ v → LayersTakeTurn told takes next l t m u
+pub layers-turn : {C A T : Type 0} (told : C → ChannelHistory) (takes : T → Item → T → Type 0) (next : Inside
+    → EndTurn Inside) (l m : Layers C A) (time now : ℕ)
+    (r s : DatagramCounts) (v : EndValue C A) (t u : T) → record { layers = l; time = time; receptions = r } ≡ v
+    → LayersTakeTurn told takes next l t m u
     → EndTakesTurn told takes next v t (record { layers = m; time = now; receptions = s }) u
 layers-turn {C} {A} told takes next l m time now r s v t u e h =
     let w : EndValue C A = record { layers = m; time = now; receptions = s } in

@@ -20,11 +20,13 @@ upper_of rule m = safe_text rule m.pdu
 -- the datagrams of PDUs, the first of which has this index
 abbrev pub sendings : EndSettings → ℕ → List Made → List SentDatagram
 sendings s index [] = []
-sendings s index (m ∷ ms) = on_channels s.channels (red_text index (upper_of (rule_of s) m)) ++ sendings s (index + 1) ms
+sendings s index (m ∷ ms) =
+    on_channels s.channels (red_text index (upper_of (rule_of s) m)) ++ sendings s (index + 1) ms
 
 -- the datagrams that an end sends while it changes from one state to another
 abbrev pub sent_between : EndState → EndState → List SentDatagram
-sent_between before after = sendings before.settings (length before.machine.made) (drop (length before.machine.made) after.machine.made)
+sent_between before after =
+    sendings before.settings (length before.machine.made) (drop (length before.machine.made) after.machine.made)
 
 -- the datagrams that an end sends when it is opened
 abbrev pub sent_at_opening : EndState → List SentDatagram

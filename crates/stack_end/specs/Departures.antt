@@ -14,7 +14,8 @@ use Rattle.stack_end.specs.declared.departure.Leaver.TheVariants.{Own, Peer}
 
 -- the departure of an end that disconnects by itself
 abbrev pub own_leaving : Leaving → (now : ℕ) → Departure
-own_leaving why now = record { by = Own; reason = reason_number why.0; detail = detail_number why.1; time = now; version = None }
+own_leaving why now =
+    record { by = Own; reason = reason_number why.0; detail = detail_number why.1; time = now; version = None }
 
 -- the departure of an end that disconnects by itself, if it has a reason to
 abbrev pub own_departure : Option Leaving → (now : ℕ) → Option Departure
@@ -28,14 +29,21 @@ number_at place octets = if nat_lt (length octets) (place + 2) then 0 else littl
 -- the departure by the peer, from the bytes of its DiscReq: detail in the two bytes after the header, then reason
 abbrev pub peer_leaving : List ℕ → (now : ℕ) → Departure
 peer_leaving octets now =
-    record { by = Peer; reason = number_at (SAFE_HEADER + 2) octets; detail = number_at SAFE_HEADER octets; time = now; version = None }
+    record {
+      by = Peer;
+      reason = number_at (SAFE_HEADER + 2) octets;
+      detail = number_at SAFE_HEADER octets;
+      time = now;
+      version = None;
+    }
 
 -- the departure by the peer, if it has disconnected
 abbrev pub peer_departure : Bool → List ℕ → (now : ℕ) → Option Departure
 peer_departure true octets now = Some (peer_leaving octets now)
 peer_departure false octets now = None
 
--- the version in a part whose unit begins with the reply to a version check: after the PDU's header, the message's length and header, and the result
+-- the version in a part whose unit begins with the reply to a version check: after the PDU's header, the message's
+-- length and header, and the result
 abbrev pub version_in : List ℕ → Option ℕ
 version_in octets = if nat_le (length octets) VERSION then None else Some (slice_index octets VERSION)
 
@@ -44,7 +52,8 @@ abbrev pub version_if : Detail → List ℕ → Option ℕ
 version_if VersionDiffers octets = version_in octets
 version_if _ octets = None
 
--- the departure of an end that disconnects because of a unit: if the versions differ, with the peer's version, which is in the unit's first message
+-- the departure of an end that disconnects because of a unit: if the versions differ, with the peer's version, which is
+-- in the unit's first message
 abbrev pub asked_leaving : Leaving → List ℕ → (now : ℕ) → Departure
 asked_leaving why octets now = record (own_leaving why now) { version = version_if why.1 octets }
 

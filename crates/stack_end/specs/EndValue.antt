@@ -35,13 +35,18 @@ statistics_of v =
       confirmed = u.made.units - length u.machine.ring;
     }
 
--- a call takes this turn: the end changes by it, its datagrams are sent or counted as failed, and the taker gets what it delivers
-abbrev pub EndTakesTurn : {C A T : Type 0} → (C → ChannelHistory) → (T → Item → T → Type 0) → (Inside → Turn Inside) → EndValue C A → T → EndValue C A → T → Type 0
-EndTakesTurn told takes turn v before w after = CarriesOut takes (turn (inside v)) (told (channels_of v)) before (inside w) (told (channels_of w)) after
+-- a call takes this turn: the end changes by it, its datagrams are sent or counted as failed, and the taker gets what
+-- it delivers
+abbrev pub EndTakesTurn : {C A T : Type 0} → (C → ChannelHistory) → (T → Item → T → Type 0) → (Inside → Turn Inside)
+    → EndValue C A → T → EndValue C A → T → Type 0
+EndTakesTurn told takes turn v before w after =
+    CarriesOut takes (turn (inside v)) (told (channels_of v)) before (inside w) (told (channels_of w)) after
 
 -- a call takes this turn and delivers nothing
-abbrev pub EndTakesTurnAlone : {C A : Type 0} → (C → ChannelHistory) → (Inside → Turn Inside) → EndValue C A → EndValue C A → Type 0
-EndTakesTurnAlone told turn v w = CarriesOutAlone (turn (inside v)) (told (channels_of v)) (inside w) (told (channels_of w))
+abbrev pub EndTakesTurnAlone : {C A : Type 0} → (C → ChannelHistory) → (Inside → Turn Inside) → EndValue C A
+    → EndValue C A → Type 0
+EndTakesTurnAlone told turn v w =
+    CarriesOutAlone (turn (inside v)) (told (channels_of v)) (inside w) (told (channels_of w))
 
 -- the end, over channels that show this of themselves, represents the state
 pub record EndRepresents {C A : Type 0} (told : C → ChannelHistory) (v : EndValue C A) (x : EndState) : Type 0 where

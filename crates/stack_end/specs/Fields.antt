@@ -35,27 +35,37 @@ fields_of u =
 abbrev pub inside_of : {C A : Type 0} → Layers C A → Inside
 inside_of l = record { red = l.red; upper = fields_of l.upper }
 
--- the layers above the redundancy layer take this turn: datagrams are sent or counted as failed, and the taker gets what it delivers
-abbrev pub UpperTakeTurn : {C A T : Type 0} → (C → ChannelHistory) → (T → Item → T → Type 0) → (Fields → Turn Fields) → UpperLayers C A → T → UpperLayers C A → T → Type 0
-UpperTakeTurn told takes turn u before w after = CarriesOut takes (turn (fields_of u)) (told u.channels) before (fields_of w) (told w.channels) after
+-- the layers above the redundancy layer take this turn: datagrams are sent or counted as failed, and the taker gets
+-- what it delivers
+abbrev pub UpperTakeTurn : {C A T : Type 0} → (C → ChannelHistory) → (T → Item → T → Type 0) → (Fields → Turn Fields)
+    → UpperLayers C A → T → UpperLayers C A → T → Type 0
+UpperTakeTurn told takes turn u before w after =
+    CarriesOut takes (turn (fields_of u)) (told u.channels) before (fields_of w) (told w.channels) after
 
 -- the layers above the redundancy layer take this turn, which delivers nothing
-abbrev pub UpperTakeTurnAlone : {C A : Type 0} → (C → ChannelHistory) → (Fields → Turn Fields) → UpperLayers C A → UpperLayers C A → Type 0
-UpperTakeTurnAlone told turn u w = CarriesOutAlone (turn (fields_of u)) (told u.channels) (fields_of w) (told w.channels)
+abbrev pub UpperTakeTurnAlone : {C A : Type 0} → (C → ChannelHistory) → (Fields → Turn Fields) → UpperLayers C A
+    → UpperLayers C A → Type 0
+UpperTakeTurnAlone told turn u w =
+    CarriesOutAlone (turn (fields_of u)) (told u.channels) (fields_of w) (told w.channels)
 
 -- all layers take this turn: datagrams are sent or counted as failed, and the taker gets what it delivers
-abbrev pub LayersTakeTurn : {C A T : Type 0} → (C → ChannelHistory) → (T → Item → T → Type 0) → (Inside → Turn Inside) → Layers C A → T → Layers C A → T → Type 0
-LayersTakeTurn told takes turn l before m after = CarriesOut takes (turn (inside_of l)) (told l.upper.channels) before (inside_of m) (told m.upper.channels) after
+abbrev pub LayersTakeTurn : {C A T : Type 0} → (C → ChannelHistory) → (T → Item → T → Type 0) → (Inside → Turn Inside)
+    → Layers C A → T → Layers C A → T → Type 0
+LayersTakeTurn told takes turn l before m after =
+    CarriesOut takes (turn (inside_of l)) (told l.upper.channels) before (inside_of m) (told m.upper.channels) after
 
 -- all layers take this turn, which delivers nothing
-abbrev pub LayersTakeTurnAlone : {C A : Type 0} → (C → ChannelHistory) → (Inside → Turn Inside) → Layers C A → Layers C A → Type 0
-LayersTakeTurnAlone told turn l m = CarriesOutAlone (turn (inside_of l)) (told l.upper.channels) (inside_of m) (told m.upper.channels)
+abbrev pub LayersTakeTurnAlone : {C A : Type 0} → (C → ChannelHistory) → (Inside → Turn Inside) → Layers C A
+    → Layers C A → Type 0
+LayersTakeTurnAlone told turn l m =
+    CarriesOutAlone (turn (inside_of l)) (told l.upper.channels) (inside_of m) (told m.upper.channels)
 
 -- what every call above the redundancy layer keeps, so that the next call of a layer is allowed
 pub record KeepsBounds {C A : Type 0} (most : ℕ) (u w : UpperLayers C A) : Type 0 where
   pub same : w.max ≡ u.max  -- how many messages go into one unit
   pub near : w.machine.expected ≤ u.machine.expected + most  -- how far the index of the peer's next PDU moves
-  pub few : FewWait u.session u.waiting → FewWait w.session w.waiting  -- there is room among the waiting messages for the session's next one
+  -- there is room among the waiting messages for the session's next one
+  pub few : FewWait u.session u.waiting → FewWait w.session w.waiting
 
 -- what is kept represents the state, field by field; the redundancy number is the low 32 bits of the index
 pub record UpperRepresent (v : Fields) (x : EndState) : Type 0 where

@@ -7,7 +7,9 @@ use Rattle.stack_end.specs.declared.layers.Layers.{Layers}
 
 -- the bounds between the layers, an invariant of an end
 pub record KeepsLayerBounds {C A : Type 0} (l : Layers C A) : Type 0 where
-  pub reach : l.upper.machine.expected ≤ index_step * l.red.expected  -- the index of the peer's next PDU moves by at most 321 with each part
-  pub few : FewWait l.upper.session l.upper.waiting  -- there is room among the waiting messages for the session's next one
+  -- the index of the peer's next PDU moves by at most 321 with each part
+  pub reach : l.upper.machine.expected ≤ index_step * l.red.expected
+  -- there is room among the waiting messages for the session's next one
+  pub few : FewWait l.upper.session l.upper.waiting
   pub some : 1 ≤ l.upper.max  -- a unit takes at least one message
   pub most : l.upper.max ≤ UNIT_MESSAGES  -- and at most 3

@@ -117,9 +117,11 @@ with_dropped cause.Request c = record c { unrequested = one_more c.unrequested }
 with_dropped cause.Answered c = record c { answered = one_more c.answered }
 with_dropped cause.Below c = record c { below = one_more c.below }
 
--- one part more has gone up: this long before it nothing was confirmed, and this old is the last confirmed timestamp after it
+-- one part more has gone up: this long before it nothing was confirmed, and this old is the last confirmed timestamp
+-- after it
 abbrev pub with_step : Outcome → (waited age : ℕ) → PartCounts → PartCounts
-with_step step.Taken waited age c = record c { taken = one_more c.taken; longest_wait = max c.longest_wait waited; oldest = max c.oldest age }
+with_step step.Taken waited age c =
+    record c { taken = one_more c.taken; longest_wait = max c.longest_wait waited; oldest = max c.oldest age }
 with_step step.Gap waited age c = record c { gaps = one_more c.gaps }
 with_step (step.Dropped why) waited age c = with_dropped why c
 with_step (step.Left reason detail) waited age c = c
@@ -128,7 +130,17 @@ with_step step.Nothing waited age c = c
 -- nothing has come on a channel
 abbrev pub no_reception_counts : ReceptionCounts
 no_reception_counts =
-    record { received = 0; passed = 0; deferred = 0; old = 0; repeated = 0; far = 0; full = 0; damaged = no_red_faults; last = None }
+    record {
+      received = 0;
+      passed = 0;
+      deferred = 0;
+      old = 0;
+      repeated = 0;
+      far = 0;
+      full = 0;
+      damaged = no_red_faults;
+      last = None;
+    }
 
 -- an event of the redundancy layer
 abbrev pub with_answer : RedEvent → ReceptionCounts → ReceptionCounts
@@ -163,7 +175,8 @@ no_datagram_counts = record { channels = replicate CHANNELS_MAX no_reception_cou
 
 -- a deferral deadline has passed, or not
 abbrev pub count_expired : (expired : Bool) → DatagramCounts → DatagramCounts
-count_expired expired c = record c { expired_deferrals = if expired then one_more c.expired_deferrals else c.expired_deferrals }
+count_expired expired c =
+    record c { expired_deferrals = if expired then one_more c.expired_deferrals else c.expired_deferrals }
 
 -- a datagram has come on a channel; if the redundancy layer processed it and was due, its deferral deadline has passed
 abbrev pub count_datagram : (channel : ℕ) → Option RedEvent → (due : Bool) → (now : ℕ) → DatagramCounts → DatagramCounts

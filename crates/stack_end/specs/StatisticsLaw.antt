@@ -18,8 +18,8 @@ abbrev pub how_many : {E : Type 0} → (E → Bool) → List E → ℕ
 how_many p [] = 0
 how_many p (e ∷ es) = if p e then one_more (how_many p es) else how_many p es
 
--- what counts of datagrams change by: a datagram comes on a channel, from 1 on, with the redundancy layer's event, or None at a closed end, at this time,
--- after the deferral deadline or not; or time passes, and the deadline or not
+-- what counts of datagrams change by: a datagram comes on a channel, from 1 on, with the redundancy layer's event, or
+-- None at a closed end, at this time, after the deferral deadline or not; or time passes, and the deadline or not
 pub data Input : Type 0 where
   Comes : (channel : ℕ) → (event : Option RedEvent) → (due : Bool) → (now : ℕ) → Input
   Passes : (expired : Bool) → Input
@@ -106,7 +106,8 @@ DatagramLaw = (place : ℕ) (is : List Input) → place < CHANNELS_MAX → Count
 abbrev pub ExpiryLaw : Type 0
 ExpiryLaw = (is : List Input) → (counts_of is).expired_deferrals ≡ how_many expires is
 
--- a part that went up: the machine's step, how long nothing was confirmed before it, and how old the last confirmed timestamp is after it
+-- a part that went up: the machine's step, how long nothing was confirmed before it, and how old the last confirmed
+-- timestamp is after it
 pub record PartStep : Type 0 where
   pub step : Outcome
   pub waited : ℕ

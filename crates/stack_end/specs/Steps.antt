@@ -1,4 +1,5 @@
--- The steps of an end with its whole history: what is kept of it takes the turns of a call (`Turns`), and what each did is appended to the history.
+-- The steps of an end with its whole history: what is kept of it takes the turns of a call (`Turns`), and what each did
+-- is appended to the history.
 use Rattle.std.specs.Prelude.{ℕ, ◌%◌, ◌^◌, None, is_none, if◌then◌else◌, List, [], ◌∷◌, ◌++◌, length}
 use Rattle.pdi_session.specs.Histories.{History}
 use Rattle.red_layer.specs.Parts.{Part}
@@ -11,7 +12,8 @@ use Rattle.stack_end.specs.Ends.{Call, EndState, time_of}
 use Rattle.stack_end.specs.Statistics.{no_part_counts, no_made_counts, with_made}
 use Rattle.stack_end.specs.Turns.{Fields, Turn, Way, WholeWay, call_by, guard_turn, part_turn as part_turn, parts_by, send_by, tick_turn}
 
--- what an end in this state keeps above its redundancy layer; how it was closed, and what it counts of parts, is no part of the state
+-- what an end in this state keeps above its redundancy layer; how it was closed, and what it counts of parts, is no
+-- part of the state
 abbrev pub kept_of : EndState → Fields
 kept_of x =
     record {

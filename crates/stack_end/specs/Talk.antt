@@ -22,10 +22,11 @@ pub record RepresentsDialogue (session : SessionState) (waiting : List (List ℕ
   pub waits : waiting ≡ d.waiting  -- its waiting messages
 
 -- the taker got, in order, what the application takes between two dialogues
-pub record TakesBetween {T : Type 0} (takes : T → Item → T → Type 0) (before : T) (d e : Dialogue) (after : T) : Type 0 where
-  pub more : List Item  -- what it takes
-  pub grown : e.history.taken ≡ d.history.taken ++ more  -- the history has grown by it
-  pub handed : FoldsTo takes before more after  -- the taker got each of it
+pub record TakesBetween {T : Type 0} (takes : T → Item → T → Type 0) (before : T) (d e : Dialogue) (after : T) : Type 0
+  where
+    pub more : List Item  -- what it takes
+    pub grown : e.history.taken ≡ d.history.taken ++ more  -- the history has grown by it
+    pub handed : FoldsTo takes before more after  -- the taker got each of it
 
 -- from one dialogue to another, for the session and for its taker
 pub record LeadsToDialogue {T : Type 0} (takes : T → Item → T → Type 0) (d e : Dialogue) (s t : Talk T) : Type 0 where
@@ -33,13 +34,16 @@ pub record LeadsToDialogue {T : Type 0} (takes : T → Item → T → Type 0) (d
   pub took : TakesBetween takes s.taker d e t.taker  -- the taker got what was taken between them
 
 -- of any dialogue that they represented, they now represent what judging leaves, with this reason to disconnect
-abbrev pub JudgesDialogue : {T : Type 0} → (T → Item → T → Type 0) → (Dialogue → Judgement) → Talk T → Talk T → Option Leaving → Type 0
+abbrev pub JudgesDialogue : {T : Type 0} → (T → Item → T → Type 0) → (Dialogue → Judgement) → Talk T → Talk T
+    → Option Leaving → Type 0
 JudgesDialogue takes judge s t asked =
-    (d : Dialogue) → RepresentsDialogue s.session s.waiting d → LeadsToDialogue takes d (judge d).left s t × (asked ≡ (judge d).leaving)
+    (d : Dialogue) → RepresentsDialogue s.session s.waiting d → LeadsToDialogue takes d (judge d).left s t
+    × (asked ≡ (judge d).leaving)
 
 -- of any dialogue that they represented, they now represent its step
 abbrev pub StepsDialogue : {T : Type 0} → (T → Item → T → Type 0) → (Dialogue → Dialogue) → Talk T → Talk T → Type 0
-StepsDialogue takes step s t = (d : Dialogue) → RepresentsDialogue s.session s.waiting d → LeadsToDialogue takes d (step d) s t
+StepsDialogue takes step s t = (d : Dialogue) → RepresentsDialogue s.session s.waiting d
+    → LeadsToDialogue takes d (step d) s t
 
 -- a unit is judged only if the end did not have to disconnect before
 abbrev pub judge_next : Option Leaving → List ℕ → Dialogue → Judgement

@@ -1,5 +1,5 @@
--- The bridge from what an end keeps to its whole history: what a turn leaves represents the state after the call's steps, and the state grows by what was
--- sent and delivered.
+-- The bridge from what an end keeps to its whole history: what a turn leaves represents the state after the call's
+-- steps, and the state grows by what was sent and delivered.
 use Rattle.std.specs.Prelude.{◌≡◌, ◌≢◌, ℕ, None, List, [], ◌∷◌, ◌++◌, length}
 use Rattle.pdi_session.specs.SessionStep.{put_refusal}
 use Rattle.safe_machine.specs.Made.{Made}
@@ -20,7 +20,8 @@ pub record GrowsBy {V : Type 0} (t : Turn V) (x y : EndState) : Type 0 where
   pub more : List Made  -- the PDUs that were made
   pub made : y.machine.made ≡ x.machine.made ++ more  -- they come after all made before
   pub sent : t.sent ≡ sendings x.settings (length x.machine.made) more  -- the turn sends exactly their datagrams
-  pub taken : y.session.history.taken ≡ x.session.history.taken ++ t.taken  -- what the turn delivers was taken, after all taken before
+  -- what the turn delivers was taken, after all taken before
+  pub taken : y.session.history.taken ≡ x.session.history.taken ++ t.taken
 
 -- a turn leads from one state to the other
 pub record LeadsByTurn (t : Turn Inside) (x y : EndState) : Type 0 where
@@ -33,7 +34,8 @@ TurnsLaw = (c : Call) (v : Inside) (x : EndState) → LayersRepresent v x → Le
 
 -- on which channel a datagram comes has no effect
 abbrev pub AnyChannelLaw : Type 0
-AnyChannelLaw = (channel other : ℕ) (octets : List ℕ) (now : ℕ) (v : Inside) → turn (Deliver channel octets now) v ≡ turn (Deliver other octets now) v
+AnyChannelLaw = (channel other : ℕ) (octets : List ℕ) (now : ℕ) (v : Inside)
+    → turn (Deliver channel octets now) v ≡ turn (Deliver other octets now) v
 
 -- what an end keeps determines these facts of the state that it represents
 pub record Determines (v : Inside) (x : EndState) : Type 0 where
@@ -52,5 +54,6 @@ DeterminesLaw = (v : Inside) (x : EndState) → LayersRepresent v x → Determin
 -- an accepted telegram is the last of all that were put
 abbrev pub LastLaw : Type 0
 LastLaw =
-    (kind : ℕ) (payload : List ℕ) (now : ℕ) (x : EndState) → put_refusal (session_in x.session) kind payload (length x.session.waiting) ≡ None
+    (kind : ℕ) (payload : List ℕ) (now : ℕ) (x : EndState)
+    → put_refusal (session_in x.session) kind payload (length x.session.waiting) ≡ None
     → (call (Put kind payload now) x).session.history.put ≡ x.session.history.put ++ (kind, payload) ∷ []

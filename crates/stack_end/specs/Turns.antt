@@ -1,6 +1,8 @@
--- One call of an end: its new contents, the datagrams that it sends, and the telegrams that its application takes, each in order.
+-- One call of an end: its new contents, the datagrams that it sends, and the telegrams that its application takes, each
+-- in order.
 --
--- A turn depends only on what is kept. A state with its whole history takes the same turns (`Steps`), and appends what they did.
+-- A turn depends only on what is kept. A state with its whole history takes the same turns (`Steps`), and appends what
+-- they did.
 use Rattle.std.specs.Prelude.{◌≡◌, ℕ, zero, suc, ◌+◌, ◌-◌, min, ◌%◌, ◌^◌, Bool, true, false, not, ◌&&◌, Option, Some, None, List, [], ◌∷◌, ◌++◌, take, drop, length}
 use Rattle.std.specs.Prelude.{if◌then◌else◌}
 use Rattle.std.specs.List.{FoldsTo}
@@ -68,13 +70,15 @@ pub record Turn (V : Type 0) : Type 0 where
   pub talks : List History  -- what the session does, in order: each is a history that begins here
 
 -- a turn was taken: it left this, its datagrams were sent or counted as failed, and the taker got what it delivers
-pub record CarriesOut {V T : Type 0} (takes : T → Item → T → Type 0) (t : Turn V) (told : ChannelHistory) (taker : T) (now : V) (told_now : ChannelHistory) (taker_now : T) : Type 0 where
+pub record CarriesOut {V T : Type 0} (takes : T → Item → T → Type 0) (t : Turn V) (told : ChannelHistory) (taker : T)
+    (now : V) (told_now : ChannelHistory) (taker_now : T) : Type 0 where
   pub left : now ≡ t.left  -- what is there now
   pub sent : FoldsTo SendsOne told t.sent told_now  -- what became of the channels
   pub taken : FoldsTo takes taker t.taken taker_now  -- what became of the taker
 
 -- a turn was taken that delivers nothing
-pub record CarriesOutAlone {V : Type 0} (t : Turn V) (told : ChannelHistory) (now : V) (told_now : ChannelHistory) : Type 0 where
+pub record CarriesOutAlone {V : Type 0} (t : Turn V) (told : ChannelHistory) (now : V)
+    (told_now : ChannelHistory) : Type 0 where
   pub left : now ≡ t.left  -- what is there now
   pub sent : FoldsTo SendsOne told t.sent told_now  -- what became of the channels
   pub none : t.taken ≡ []  -- nothing is taken
@@ -108,7 +112,8 @@ number_after number (m ∷ ms) = number_after (next_number number) ms
 -- the datagrams of PDUs, the first of which has this redundancy number
 abbrev pub datagrams : CodeRule → (channels number : ℕ) → List Made → List SentDatagram
 datagrams rule channels number [] = []
-datagrams rule channels number (m ∷ ms) = on_channels channels (red_text number (text_of rule m)) ++ datagrams rule channels (next_number number) ms
+datagrams rule channels number (m ∷ ms) =
+    on_channels channels (red_text number (text_of rule m)) ++ datagrams rule channels (next_number number) ms
 
 -- the machine takes a turn, and the PDUs that it makes are sent
 abbrev pub machine_turn : MachineTurn → Fields → Turn Fields
@@ -129,7 +134,18 @@ with_units us t = record t { units = us }
 -- a dialogue that begins here, without a past: one with a past goes on in the same way
 abbrev pub from_here : SessionState → List (List ℕ) → Dialogue
 from_here session waiting =
-    record { history = record { state = session; phases = []; queue = []; judged = []; put = []; taken = []; ended_in = None }; waiting = waiting }
+    record {
+      history = record {
+        state = session;
+        phases = [];
+        queue = [];
+        judged = [];
+        put = [];
+        taken = [];
+        ended_in = None;
+      };
+      waiting = waiting;
+    }
 
 -- the dialogue of what an end keeps
 abbrev pub dialogue_of : Fields → Dialogue
@@ -149,7 +165,8 @@ session_turn d v =
 
 -- if the machine is closed, the session ends
 abbrev pub end_session_turn : Fields → Turn Fields
-end_session_turn v = if is_closed v.machine.connection then session_turn (process_event Closes (dialogue_of v)) v else still v
+end_session_turn v =
+    if is_closed v.machine.connection then session_turn (process_event Closes (dialogue_of v)) v else still v
 
 -- the cause of the closing is recorded, if it is known
 abbrev pub departure_turn : Option Departure → Fields → Turn Fields
@@ -161,17 +178,20 @@ waiting_time now v = if is_live v.machine.connection then now - v.machine.confir
 
 -- a part is counted, by the step that is reported for it
 abbrev pub count_turn : Outcome → (waiting_time now : ℕ) → Fields → Turn Fields
-count_turn answer waiting_time now v = still (record v { parts = with_step answer waiting_time (now - v.machine.confirmed_at) v.parts })
+count_turn answer waiting_time now v =
+    still (record v { parts = with_step answer waiting_time (now - v.machine.confirmed_at) v.parts })
 
 -- the timeout check of the machine; a closed machine ends the session, and the departure is recorded
 abbrev pub guard_turn : ℕ → Fields → Turn Fields
 guard_turn now v =
-    turn_then (turn_then (machine_turn (machine_guard_turn now v.machine) v) end_session_turn) (departure_turn (own_departure (overdue now v.machine) now))
+    turn_then (turn_then (machine_turn (machine_guard_turn now v.machine) v) end_session_turn)
+    (departure_turn (own_departure (overdue now v.machine) now))
 
 -- the timers of the machine; a closed machine ends the session, and the departure is recorded
 abbrev pub tick_turn : ℕ → Fields → Turn Fields
 tick_turn now v =
-    turn_then (turn_then (machine_turn (machine_tick_turn now v.machine) v) end_session_turn) (departure_turn (own_departure (overdue now v.machine) now))
+    turn_then (turn_then (machine_turn (machine_tick_turn now v.machine) v) end_session_turn)
+    (departure_turn (own_departure (overdue now v.machine) now))
 
 -- the end disconnects if it is asked to
 abbrev pub leave_turn : ℕ → Option Leaving → Fields → Turn Fields
@@ -182,7 +202,8 @@ leave_turn now (Some why) v = machine_turn (machine_leave_turn why.0 why.1 now v
 abbrev pub close_turn : ℕ → Fields → Turn Fields
 close_turn now v =
     turn_then (turn_then (leave_turn now (Some (ClosedByUser, Unspecified)) v) end_session_turn)
-    (departure_turn (own_departure (if is_closed v.machine.connection then None else Some (ClosedByUser, Unspecified)) now))
+    (departure_turn (own_departure (if is_closed v.machine.connection then None else Some (ClosedByUser, Unspecified))
+    now))
 
 -- what the session makes of the units that the machine delivers of a part
 abbrev pub judge_part : ℕ → List ℕ → Fields → Judgement
@@ -191,7 +212,8 @@ judge_part now octets v = judge_units (octets_units octets now v.machine) (dialo
 -- the machine processes a part, and the session judges the units that it delivers
 abbrev pub judge_turn : ℕ → List ℕ → Fields → Turn Fields
 judge_turn now octets v =
-    turn_then (with_units (octets_units octets now v.machine) (machine_turn (machine_octets_turn octets now v.machine) v)) (session_turn (judge_part now octets v).left)
+    turn_then (with_units (octets_units octets now v.machine)
+    (machine_turn (machine_octets_turn octets now v.machine) v)) (session_turn (judge_part now octets v).left)
 
 -- the bytes of a ConnReq are kept if it was accepted
 abbrev pub request_after : Bool → List ℕ → Option (List ℕ) → Option (List ℕ)
@@ -200,7 +222,8 @@ request_after false octets before = before
 
 -- the bytes of an accepted ConnReq are kept, by the state before the part
 abbrev pub note_request_turn : ConnectionState → List ℕ → Fields → Turn Fields
-note_request_turn before octets v = still (record v { request = request_after (is_joining before v.machine.connection) octets v.request })
+note_request_turn before octets v =
+    still (record v { request = request_after (is_joining before v.machine.connection) octets v.request })
 
 -- the connection comes up with this step
 abbrev pub comes_up : ConnectionState → ConnectionState → Bool
@@ -219,17 +242,20 @@ up_turn before v = session_turn (bring_up (comes_up before v.machine.connection)
 -- how a part closes an end that was open before it
 abbrev pub closing_departure : ℕ → List ℕ → Fields → Option Departure
 closing_departure now octets v =
-    part_departure (decoded_answer (safe_seen v.machine.settings.rule octets) now v.machine) (judge_part now octets v).leaving
-    (not (is_closed v.machine.connection) && is_closed (machine_octets_turn octets now v.machine).left.connection) octets now
+    part_departure (decoded_answer (safe_seen v.machine.settings.rule octets) now v.machine)
+    (judge_part now octets v).leaving
+    (not (is_closed v.machine.connection) && is_closed (machine_octets_turn octets now v.machine).left.connection)
+    octets now
 
--- a part that goes up: machine and session, the kept request, going up, disconnecting if asked, the end of the session, the departure, and the count, in
--- this order
+-- a part that goes up: machine and session, the kept request, going up, disconnecting if asked, the end of the session,
+-- the departure, and the count, in this order
 abbrev pub part_turn : ℕ → List ℕ → Fields → Turn Fields
 part_turn now octets v =
     let before = v.machine.connection in
     turn_then
     (turn_then
-    (turn_then (turn_then (turn_then (turn_then (judge_turn now octets v) (note_request_turn before octets)) (up_turn before)) (leave_turn now (judge_part now octets v).leaving)) end_session_turn)
+    (turn_then (turn_then (turn_then (turn_then (judge_turn now octets v) (note_request_turn before octets))
+    (up_turn before)) (leave_turn now (judge_part now octets v).leaving)) end_session_turn)
     (departure_turn (closing_departure now octets v)))
     (count_turn (decoded_answer (safe_seen v.machine.settings.rule octets) now v.machine) (waiting_time now v) now)
 
@@ -240,13 +266,15 @@ can_pack v = not (is_nil v.waiting) && has_room v.machine
 -- one unit of the first waiting messages is sent
 abbrev pub pack_turn : ℕ → Fields → Turn Fields
 pack_turn now v =
-    turn_then (machine_turn (machine_send_turn (unit_text (take v.max v.waiting)) now v.machine) v) (λ w. still (record w { waiting = drop v.max v.waiting }))
+    turn_then (machine_turn (machine_send_turn (unit_text (take v.max v.waiting)) now v.machine) v)
+    (λ w. still (record w { waiting = drop v.max v.waiting }))
 
 -- one unit is sent if that is possible
 abbrev pub pack_once_turn : ℕ → Fields → Turn Fields
 pack_once_turn now v = if can_pack v then pack_turn now v else still v
 
--- how states take turns one after another: of what is kept alone this is a turn, and of a whole history the state afterwards
+-- how states take turns one after another: of what is kept alone this is a turn, and of a whole history the state
+-- afterwards
 pub record Way (V R : Type 0) : Type 0 where
   pub kept : V → Fields  -- what is kept of a state above the redundancy layer
   pub stays : V → R  -- nothing happens
@@ -265,9 +293,11 @@ parts_by w now (p ∷ ps) v = w.follows (w.takes (part_turn now p.1) v) (parts_b
 -- packing and sending while that is possible, at most this many units
 abbrev pub pack_by : {V R : Type 0} → Way V R → ℕ → ℕ → V → R
 pack_by w zero now v = w.stays v
-pack_by w (suc n) now v = if can_pack (w.kept v) then w.follows (w.takes (pack_turn now) v) (pack_by w n now) else w.stays v
+pack_by w (suc n) now v =
+    if can_pack (w.kept v) then w.follows (w.takes (pack_turn now) v) (pack_by w n now) else w.stays v
 
--- packing and sending until no message waits or the machine may not send: each unit takes at least one message, so this many units suffice
+-- packing and sending until no message waits or the machine may not send: each unit takes at least one message, so this
+-- many units suffice
 abbrev pub send_by : {V R : Type 0} → Way V R → ℕ → V → R
 send_by w now v = pack_by w (length (w.kept v).waiting) now v
 
@@ -352,14 +382,17 @@ pub record WholeWay (V R : Type 0) : Type 0 where
 -- what follows the machine's timers if they leave the end open: the redundancy layer's input, then sending
 abbrev pub input_and_send_by : {V R : Type 0} → WholeWay V R → ℕ → Input → V → R
 input_and_send_by w now i v =
-    if is_closed (w.way.kept v).machine.connection then w.way.stays v else w.way.follows (w.receives now i v) (w.sends now)
+    if is_closed (w.way.kept v).machine.connection then w.way.stays v else w.way.follows (w.receives now i v)
+    (w.sends now)
 
 -- a turn of the machine's timers at an open end, and what follows it
 abbrev pub first_by : {V R : Type 0} → WholeWay V R → (Fields → Turn Fields) → ℕ → Input → V → R
 first_by w timers now i v =
-    if is_closed (w.way.kept v).machine.connection then w.way.stays v else w.way.follows (w.way.takes timers v) (input_and_send_by w now i)
+    if is_closed (w.way.kept v).machine.connection then w.way.stays v else w.way.follows (w.way.takes timers v)
+    (input_and_send_by w now i)
 
--- each call: a datagram comes after the timeout check, on any channel; time passes for the machine's timers, then for that of the redundancy layer
+-- each call: a datagram comes after the timeout check, on any channel; time passes for the machine's timers, then for
+-- that of the redundancy layer
 abbrev pub call_by : {V R : Type 0} → WholeWay V R → Call → V → R
 call_by w (Close now) v = w.way.takes (close_turn now) v
 call_by w (Put kind payload now) v = w.way.follows (w.way.takes (queue_turn kind payload) v) (w.sends now)

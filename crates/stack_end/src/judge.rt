@@ -191,7 +191,7 @@ fn judge_message<A: Allocator, T: Taker>(
     ensures few { FewWait session.new waiting.new }
 {
     let before = session.phase();
-    if let Some(telegram) = session.known(message) {
+    if let Some(telegram) = session.decode_known(message) {
         return match session.arrive_known(&telegram, waiting, taker) {
             Ok(()) => Judgement {
                 asked: None,

@@ -49,9 +49,9 @@ impl<C: Channels, A: Allocator> Layers<C, A> {
         match self.upper.machine.state() {
             ConnectionState::Closed => None,
             _ => {
-                let seen = self.upper.seen();
+                let seen = self.upper.moment();
                 self.upper.guard(now);
-                let after = self.upper.seen();
+                let after = self.upper.moment();
                 tell_change(&mut self.upper.channels, seen, after);
                 self.deliver(octets, now, taker)
             }
@@ -113,9 +113,9 @@ impl<C: Channels, A: Allocator> Layers<C, A> {
         match self.upper.machine.state() {
             ConnectionState::Closed => false,
             _ => {
-                let seen = self.upper.seen();
+                let seen = self.upper.moment();
                 self.upper.tick(now);
-                let after = self.upper.seen();
+                let after = self.upper.moment();
                 tell_change(&mut self.upper.channels, seen, after);
                 self.wait(now, taker)
             }
@@ -214,9 +214,9 @@ impl<C: Channels, A: Allocator> Layers<C, A> {
         // The bounds between the layers hold after a close.
         ensures kept { KeepsLayerBounds self.new }
     {
-        let seen = self.upper.seen();
+        let seen = self.upper.moment();
         self.upper.close(now);
-        let after = self.upper.seen();
+        let after = self.upper.moment();
         tell_change(&mut self.upper.channels, seen, after);
     }
 }

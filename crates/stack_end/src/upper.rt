@@ -182,7 +182,7 @@ impl<C: Channels, A: Allocator> UpperLayers<C, A> {
     }
 
     /// Returns for how long nothing was confirmed, in milliseconds, or 0 without a connection.
-    fn waited(&self, now: Milliseconds) -> Milliseconds
+    fn waiting_time(&self, now: Milliseconds) -> Milliseconds
         // The result is the time since the last confirmed timestamp; it is 0 in Down and Closed.
         ensures { result ≡ waiting_time now (fields_of self.now) }
     {
@@ -200,7 +200,7 @@ impl<C: Channels, A: Allocator> UpperLayers<C, A> {
     {
         match self.machine.state() {
             ConnectionState::Down | ConnectionState::Closed => None,
-            _ => Some(self.t_max.saturating_sub(self.waited(now))),
+            _ => Some(self.t_max.saturating_sub(self.waiting_time(now))),
         }
     }
 
@@ -238,9 +238,9 @@ impl<C: Channels, A: Allocator> UpperLayers<C, A> {
         ensures keeps { KeepsBounds index_step self.old self.new }
     {
         let before = self.machine.state();
-        let waited = self.waited(now);
+        let waited = self.waiting_time(now);
         let (step, asked) = self.hear_and_tell(number, octets, now, taker);
-        let seen = self.seen();
+        let seen = self.moment();
         let after = self.machine.state();
         let shut = closes(before, after);
         self.note_request(before, octets);
@@ -249,7 +249,7 @@ impl<C: Channels, A: Allocator> UpperLayers<C, A> {
         self.settle();
         self.depart(part_departure(step, asked, shut, octets, now));
         self.count(step, waited, now);
-        let after = self.seen();
+        let after = self.moment();
         tell_change(&mut self.channels, seen, after);
     }
 
@@ -274,7 +274,7 @@ impl<C: Channels, A: Allocator> UpperLayers<C, A> {
         // still room for the session's next message.
         ensures keeps { KeepsBounds index_step self.old self.new }
     {
-        let before = self.seen();
+        let before = self.moment();
         let heard = self.hear(octets, now, taker);
         let phase = self.session.phase();
         tell_step(
@@ -290,13 +290,13 @@ impl<C: Channels, A: Allocator> UpperLayers<C, A> {
             state: before.state,
             phase,
         };
-        let after = self.seen();
+        let after = self.moment();
         tell_change(&mut self.channels, seen, after);
         (heard.step, heard.asked)
     }
 
     /// Returns state and phase, for notes.
-    pub(crate) fn seen(&self) -> EndMoment {
+    pub(crate) fn moment(&self) -> EndMoment {
         EndMoment {
             state: self.machine.state(),
             phase: self.session.phase(),
@@ -499,10 +499,10 @@ impl<C: Channels, A: Allocator> UpperLayers<C, A> {
         // for the session's next message.
         ensures keeps { KeepsBounds 0 self.old self.new }
     {
-        let seen = self.seen();
+        let seen = self.moment();
         match self.session.init_done(&mut self.waiting) {
             Ok(()) => {
-                let after = self.seen();
+                let after = self.moment();
                 tell_change(&mut self.channels, seen, after);
                 self.send_waiting(now);
                 Ok(())

@@ -39,7 +39,8 @@ pub record FewMore (x y : EndState) : Type 0 where
 
 -- every call in every state that a list of events leads to keeps these bounds
 abbrev pub FewMoreLaw : Type 0
-FewMoreLaw = (es : List Event) → AreTyped es → (side : Side) (c : Call) → IsTyped (Calls side c) → AtOpened (λ x. FewMore x (call c x)) (present side (run es start))
+FewMoreLaw = (es : List Event) → AreTyped es → (side : Side) (c : Call) → IsTyped (Calls side c)
+    → AtOpened (λ x. FewMore x (call c x)) (present side (run es start))
 
 -- what an end makes when it is opened
 pub record FewFirst (x : EndState) : Type 0 where
@@ -50,8 +51,10 @@ pub record FewFirst (x : EndState) : Type 0 where
 
 -- every opening keeps these bounds
 abbrev pub FewFirstLaw : Type 0
-FewFirstLaw = (side : Side) (s : EndSettings) (first now : ℕ) → are_fit side s ≡ true → FewFirst (new_end side s first now)
+FewFirstLaw = (side : Side) (s : EndSettings) (first now : ℕ) → are_fit side s ≡ true
+    → FewFirst (new_end side s first now)
 
 -- no end ever defers more parts than the q of its settings
 abbrev pub QueueLaw : Type 0
-QueueLaw = (es : List Event) → AreTyped es → (side : Side) → AtOpened (λ x. length x.red.waiting ≤ x.settings.q) (present side (run es start))
+QueueLaw = (es : List Event) → AreTyped es → (side : Side)
+    → AtOpened (λ x. length x.red.waiting ≤ x.settings.q) (present side (run es start))

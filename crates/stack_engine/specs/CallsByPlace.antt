@@ -43,7 +43,9 @@ pub record GoesUp (c : Call) (x : EndState) (k : ℕ) (p : Part) (y : EndState) 
   pub input : Input  -- the input of the redundancy layer
   pub brings : input_of c ≡ Some input  -- the call brings it
   pub part : slice_get (parts_passed input (guard_end c x).red) k ≡ Some p  -- the part is among those that go up
-  pub meanwhile : parts_step (time_of c) (take k (parts_passed input (guard_end c x).red)) (with_input input (guard_end c x)) ≡ y  -- the earlier ones lead to y
+  -- the earlier ones lead to y
+  pub meanwhile : parts_step (time_of c) (take k (parts_passed input (guard_end c x).red))
+      (with_input input (guard_end c x)) ≡ y
 
 -- a part with this number came to an end
 pub record Came (number : ℕ) (inputs : List Input) : Type 0 where

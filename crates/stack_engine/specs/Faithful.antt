@@ -29,7 +29,8 @@ use Rattle.stack_engine.specs.Settled.{items_waiting}
 -- a part with number k is the peer's PDU with index k
 abbrev pub CarriesPdu : Option EndState → Part → Type 0
 CarriesPdu None p = ⊥
-CarriesPdu (Some peer) p = (m : Made) × (later : List Made) × (drop p.0 peer.machine.made ≡ m ∷ later) × (p.1 ≡ upper_of (rule_of peer.settings) m)
+CarriesPdu (Some peer) p = (m : Made) × (later : List Made) × (drop p.0 peer.machine.made ≡ m ∷ later)
+    × (p.1 ≡ upper_of (rule_of peer.settings) m)
 
 -- this of the part that a call brings
 abbrev pub CarriesAll : Option EndState → Call → Type 0
@@ -83,7 +84,8 @@ pub record Faithful (es : List Event) : Type 0 where
   pub events : AllFaithful es start  -- each accepted event is faithful
   pub il_near : AtOpened IsNear (present Il (run es start))  -- what comes to the interlocking is near and in time
   pub fe_near : AtOpened IsNear (present Fe (run es start))  -- what comes to the field element is near and in time
-  pub same_rule : OfBoth SameRule (present Il (run es start)) (present Fe (run es start))  -- both have the same safety code
+  -- both have the same safety code
+  pub same_rule : OfBoth SameRule (present Il (run es start)) (present Fe (run es start))
 
 -- every PDU that the peer made has arrived
 abbrev pub AllArrived : EndState → EndState → Type 0
@@ -113,10 +115,13 @@ WaitsForWindow x = x.session.waiting ≢ [] → x.machine.window ≤ length (unc
 -- both are Initialising, or both are Established once init_done was accepted
 abbrev pub InStep : EndState → EndState → Type 0
 InStep il fe =
-    ((was_established fe.session.history.phases ≡ false) × (phase_in il.session ≡ Initialising) × (phase_in fe.session ≡ Initialising))
-    ⊎ ((was_established fe.session.history.phases ≡ true) × (phase_in il.session ≡ Established) × (phase_in fe.session ≡ Established))
+    ((was_established fe.session.history.phases ≡ false) × (phase_in il.session ≡ Initialising)
+    × (phase_in fe.session ≡ Initialising))
+    ⊎ ((was_established fe.session.history.phases ≡ true) × (phase_in il.session ≡ Established)
+    × (phase_in fe.session ≡ Established))
 
--- an open interlocking lets a message wait only while its window is full; a closed one sends nothing, so what waited stays
+-- an open interlocking lets a message wait only while its window is full; a closed one sends nothing, so what waited
+-- stays
 abbrev pub IlWaits : EndState → EndState → Type 0
 IlWaits il fe = is_shut il ≡ false → WaitsForWindow il
 
@@ -166,8 +171,10 @@ IfAllArrived il fe = (is_shut il ≡ false → AllArrived il fe) → (is_shut fe
 
 -- the promise nothing lost, of a world
 pub record NothingLost (w : World) : Type 0 where
-  pub il_asks_nothing : AtOpened (λ x. AsksNothing x.machine.made) (present Il w)  -- the interlocking requested no retransmission
-  pub fe_asks_nothing : AtOpened (λ x. AsksNothing x.machine.made) (present Fe w)  -- the field element requested no retransmission
+  -- the interlocking requested no retransmission
+  pub il_asks_nothing : AtOpened (λ x. AsksNothing x.machine.made) (present Il w)
+  -- the field element requested no retransmission
+  pub fe_asks_nothing : AtOpened (λ x. AsksNothing x.machine.made) (present Fe w)
   pub all_there : OfBoth IfAllArrived (present Il w) (present Fe w)  -- what holds if every PDU has arrived
 
 -- nothing lost holds after every faithful list of events
@@ -176,15 +183,19 @@ NothingLostLaw = (es : List Event) → AreTyped es → Faithful es → NothingLo
 
 -- the identifiers of two ends are crossed
 pub record Crossed (il fe : EndState) : Type 0 where
-  pub il_identifier : il.settings.connection.own ≡ fe.settings.connection.peer  -- the field element's peer is the interlocking
-  pub fe_identifier : fe.settings.connection.own ≡ il.settings.connection.peer  -- the interlocking's peer is the field element
+  -- the field element's peer is the interlocking
+  pub il_identifier : il.settings.connection.own ≡ fe.settings.connection.peer
+  -- the interlocking's peer is the field element
+  pub fe_identifier : fe.settings.connection.own ≡ il.settings.connection.peer
 
 -- what order alone gives two open ends with crossed identifiers at which every PDU has arrived
 pub record UnitsThere (il fe : EndState) : Type 0 where
   pub il_up : il.machine.connection ≡ IsUp  -- the interlocking is Up
   pub fe_up : fe.machine.connection ≡ IsUp  -- the field element is Up
-  pub il_taken : il.machine.taken ≡ units fe.machine.made  -- the interlocking took every unit that the field element sent
-  pub fe_taken : fe.machine.taken ≡ units il.machine.made  -- the field element took every unit that the interlocking sent
+  -- the interlocking took every unit that the field element sent
+  pub il_taken : il.machine.taken ≡ units fe.machine.made
+  -- the field element took every unit that the interlocking sent
+  pub fe_taken : fe.machine.taken ≡ units il.machine.made
   pub il_waits : WaitsForWindow il  -- the interlocking lets messages wait only for the window
   pub fe_waits : WaitsForWindow fe  -- so does the field element
   pub commands : CommandsThere il fe  -- commands put were taken or wait
@@ -196,15 +207,19 @@ IfOpen il fe = AllArrived il fe → AllArrived fe il → is_shut il ≡ false �
 
 -- what order alone gives, of a world
 pub record Orderly (w : World) : Type 0 where
-  pub il_asks_nothing : AtOpened (λ x. AsksNothing x.machine.made) (present Il w)  -- the interlocking requested no retransmission
-  pub fe_asks_nothing : AtOpened (λ x. AsksNothing x.machine.made) (present Fe w)  -- the field element requested no retransmission
+  -- the interlocking requested no retransmission
+  pub il_asks_nothing : AtOpened (λ x. AsksNothing x.machine.made) (present Il w)
+  -- the field element requested no retransmission
+  pub fe_asks_nothing : AtOpened (λ x. AsksNothing x.machine.made) (present Fe w)
   pub units_there : OfBoth IfOpen (present Il w) (present Fe w)  -- what holds if every PDU has arrived
 
 -- this holds after every faithful list of events, of ends with crossed identifiers
 abbrev pub OrderlyLaw : Type 0
-OrderlyLaw = (es : List Event) → AreTyped es → Faithful es → OfBoth Crossed (present Il (run es start)) (present Fe (run es start)) → Orderly (run es start)
+OrderlyLaw = (es : List Event) → AreTyped es → Faithful es
+    → OfBoth Crossed (present Il (run es start)) (present Fe (run es start)) → Orderly (run es start)
 
 -- nothing lost of ends with crossed identifiers: the greater half of the proof
 abbrev pub NothingLostCrossedLaw : Type 0
 NothingLostCrossedLaw =
-    (es : List Event) → AreTyped es → Faithful es → OfBoth Crossed (present Il (run es start)) (present Fe (run es start)) → NothingLost (run es start)
+    (es : List Event) → AreTyped es → Faithful es
+    → OfBoth Crossed (present Il (run es start)) (present Fe (run es start)) → NothingLost (run es start)

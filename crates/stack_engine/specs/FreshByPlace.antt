@@ -14,8 +14,8 @@ use Rattle.stack_engine.specs.Premise.{AreTyped}
 use Rattle.stack_engine.specs.PremiseByPlace.{GenuineByPlace}
 use Rattle.stack_engine.specs.CallsByPlace.{GoesUp, IsCallAt, other}
 
--- these bytes are the peer's PDU with index i, made upon this end's PDU with index j, whose number and timestamp it confirms, and which is less than
--- T_max old
+-- these bytes are the peer's PDU with index i, made upon this end's PDU with index j, whose number and timestamp it
+-- confirms, and which is less than T_max old
 pub record IsFreshAt (now : ℕ) (peer : List Made) (octets : List ℕ) (y : EndState) : Type 0 where
   pub pdu : Pdu  -- the PDU in these bytes
   pub read : safe_seen (rule_of y.settings) octets ≡ Ok pdu  -- the bytes read as it

@@ -1,4 +1,5 @@
--- Freshness, first form, event by event: what is taken came in a PDU that confirms one this incarnation made less than T_max before.
+-- Freshness, first form, event by event: what is taken came in a PDU that confirms one this incarnation made less than
+-- T_max before.
 use Rattle.std.specs.Prelude.{ℕ, ◌≡◌, ◌≢◌, None, List, [], ◌∷◌, Ok}
 use Rattle.safe_pdu.specs.Pdu.{Pdu}
 use Rattle.safe_pdu.specs.Places.{safe_seen}
@@ -16,7 +17,8 @@ use Rattle.stack_engine.specs.Headline.{taken_at}
 -- if something is taken from a part, the part is a PDU that the peer made, and it is fresh
 abbrev pub TakesFresh : ℕ → List Made → EndState → List ℕ → Type 0
 TakesFresh now peer x octets =
-    taken_at (part_step now octets x) ≢ taken_at x → (p : Pdu) × (safe_seen (rule_of x.settings) octets ≡ Ok p) × Fresh x.machine p now peer
+    taken_at (part_step now octets x) ≢ taken_at x → (p : Pdu) × (safe_seen (rule_of x.settings) octets ≡ Ok p)
+    × Fresh x.machine p now peer
 
 -- this of each part that goes up in a call
 abbrev pub FreshCall : List Made → Call → EndState → Type 0

@@ -1,4 +1,5 @@
--- The headline, first form, by prefixes: the telegrams that an application takes are a prefix of those put at the joined end.
+-- The headline, first form, by prefixes: the telegrams that an application takes are a prefix of those put at the
+-- joined end.
 use Rattle.std.specs.Prelude.{ℕ, ◌+◌, ◌≡◌, ◌<◌, ◌⊎◌, ◌==◌, Option, Some, None, MatchOption, List, [], ◌∷◌, length, if◌then◌else◌}
 use Rattle.octets.specs.Lists.{IsBeginning}
 use Rattle.pdi_session.specs.SessionStep.{Item}
@@ -19,11 +20,13 @@ abbrev pub incarnation : List EndState → ℕ → Option EndState
 incarnation [] number = None
 incarnation (x ∷ before) number = if number == length before + 1 then Some x else incarnation before number
 
--- a field element joined to none has taken nothing; of two that are joined, each has taken a prefix of what the other put
+-- a field element joined to none has taken nothing; of two that are joined, each has taken a prefix of what the other
+-- put
 abbrev pub TakesBeginnings : List EndState → EndState → Option ℕ → Type 0
 TakesBeginnings ils f None = taken_at f ≡ []
 TakesBeginnings ils f (Some number) =
-    MatchOption (incarnation ils number) ⊥ (λ g. IsBeginning (taken_at f) (put_at g) × IsBeginning (taken_at g) (put_at f))
+    MatchOption (incarnation ils number) ⊥ (λ g. IsBeginning (taken_at f) (put_at g)
+    × IsBeginning (taken_at g) (put_at f))
 
 -- this of every incarnation of the field element
 abbrev pub AllTakeBeginnings : List EndState → List JoinedEnd → Type 0

@@ -22,7 +22,8 @@ pub record HeadlineByPlace (w : World) : Type 0 where
   -- a joined field element has its partner, and each took what the other put
   pub partners : (i n : ℕ) (f : JoinedEnd) → IsOpened w.fes i f → f.joined ≡ Some n → HasPartner w.ils n f.end
   -- a later field element is joined to a later interlocking
-  pub later_with_later : (i j m n : ℕ) (e f : JoinedEnd) → IsOpened w.fes i e → IsOpened w.fes j f → e.joined ≡ Some m → f.joined ≡ Some n → i < j → m < n
+  pub later_with_later : (i j m n : ℕ) (e f : JoinedEnd) → IsOpened w.fes i e → IsOpened w.fes j f → e.joined ≡ Some m
+      → f.joined ≡ Some n → i < j → m < n
   -- a field element joined to none took nothing
   pub lone_fe : (i : ℕ) (f : JoinedEnd) → IsOpened w.fes i f → f.joined ≡ None → f.end.session.history.taken ≡ []
   -- an interlocking to which none is joined took nothing

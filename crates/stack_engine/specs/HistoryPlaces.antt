@@ -1,4 +1,5 @@
--- Events as they are kept: small entries, with their bytes next to them and the settings of openings in a list of their own.
+-- Events as they are kept: small entries, with their bytes next to them and the settings of openings in a list of their
+-- own.
 use Rattle.std.specs.Prelude.{ℕ, ◌<◌, Option, Some, None, List, map, slice_get}
 use Rattle.std.specs.List.{AllByRecursion}
 use Rattle.safe_machine.specs.World.{Side}

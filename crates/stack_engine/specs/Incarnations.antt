@@ -33,19 +33,22 @@ sure_items s = min s.places (s.octets / PAYLOAD_MAX)
 
 -- a telegram is added after the others if there is room for it
 abbrev pub TakesItem : Shelf ℕ → Item → Shelf ℕ → Type 0
-TakesItem s item t = length item.1 ≤ PAYLOAD_MAX → 1 ≤ sure_items s → (t.texts ≡ s.texts ++ item ∷ []) × (sure_items s ≤ sure_items t + 1)
+TakesItem s item t = length item.1 ≤ PAYLOAD_MAX → 1 ≤ sure_items s → (t.texts ≡ s.texts ++ item ∷ [])
+    × (sure_items s ≤ sure_items t + 1)
 
 -- the incarnation represents the state: its end does, and all that was made, put and taken is kept
 pub record IncarnationRepresents {A : Type 0} (i : Incarnation A) (x : EndState) : Type 0 where
   pub end : EndRepresents told_of i.end x  -- the end represents the state
   pub config : settings_of i.config ≡ x.settings  -- it was opened with the settings of the state
-  pub kept : (channels_of i.end).datagrams ≡ datagrams_of x.settings 0 x.machine.made  -- the kept datagrams are those of all PDUs made
+  -- the kept datagrams are those of all PDUs made
+  pub kept : (channels_of i.end).datagrams ≡ datagrams_of x.settings 0 x.machine.made
   pub put : i.put.texts ≡ x.session.history.put  -- the telegrams put
   pub taken : i.taken.texts ≡ x.session.history.taken  -- the telegrams taken
 
 -- what is kept of an earlier incarnation represents the state: all that was made, put and taken is kept
 pub record PastRepresents {A : Type 0} (p : Past A) (x : EndState) : Type 0 where
-  pub kept : p.keeper.datagrams ≡ datagrams_of x.settings 0 x.machine.made  -- the kept datagrams are those of all PDUs made
+  -- the kept datagrams are those of all PDUs made
+  pub kept : p.keeper.datagrams ≡ datagrams_of x.settings 0 x.machine.made
   pub put : p.put.texts ≡ x.session.history.put  -- the telegrams put
   pub taken : p.taken.texts ≡ x.session.history.taken  -- the telegrams taken
 
@@ -70,7 +73,8 @@ inc_refusal _ i = None
 
 -- the end took the turn of the call, and its telegrams are kept
 pub record IncarnationTakesTurn {A : Type 0} (c : Call) (i j : Incarnation A) : Type 0 where
-  pub end : EndTakesTurn told_of TakesItem (turn c) i.end i.taken j.end j.taken  -- the turn, with the telegrams that it delivers
+  -- the turn, with the telegrams that it delivers
+  pub end : EndTakesTurn told_of TakesItem (turn c) i.end i.taken j.end j.taken
   pub time : j.end.time ≡ time_of c  -- the end has the time of the call
   pub put : j.put.texts ≡ i.put.texts ++ puts_in c  -- a telegram that was put is added
   pub config : j.config ≡ i.config  -- the settings are unchanged
@@ -82,6 +86,8 @@ pub record IncarnationStays {A : Type 0} (i j : Incarnation A) : Type 0 where
   pub taken : j.taken ≡ i.taken  -- the telegrams taken
   pub config : j.config ≡ i.config  -- the settings
 
--- of each state that it represented it now represents the one after the call, if that makes no more than the bounds allow
+-- of each state that it represented it now represents the one after the call, if that makes no more than the bounds
+-- allow
 abbrev pub IncarnationTakesCall : {A : Type 0} → Call → Incarnation A → Incarnation A → Type 0
-IncarnationTakesCall c i j = (x : EndState) → IncarnationRepresents i x → FewMore x (call c x) → IncarnationRepresents j (call c x)
+IncarnationTakesCall c i j = (x : EndState) → IncarnationRepresents i x → FewMore x (call c x)
+    → IncarnationRepresents j (call c x)

@@ -1,4 +1,5 @@
--- Worlds at which one clause of a promise is false while its other clauses hold, so that no clause can be dropped or weakened unnoticed.
+-- Worlds at which one clause of a promise is false while its other clauses hold, so that no clause can be dropped or
+-- weakened unnoticed.
 --
 -- An end is any end, with the lists given here.
 use Rattle.std.specs.Prelude.{ℕ, ◌+◌, Option, Some, None, List, [], ◌∷◌, length}
@@ -25,7 +26,8 @@ two = (256, 2 ∷ [])
 
 -- an end at which these were put and taken
 abbrev pub with_items : (put taken : List Item) → EndState → EndState
-with_items put taken x = record x { session = record x.session { history = record x.session.history { put = put; taken = taken } } }
+with_items put taken x =
+    record x { session = record x.session { history = record x.session.history { put = put; taken = taken } } }
 
 -- an end at which nothing was put or taken
 abbrev pub idle : EndState → EndState
@@ -64,13 +66,16 @@ pub record HeadlineInstances (x : EndState) : Type 0 where
   -- a field element is joined to a number that no interlocking has
   pub joined_to_nobody : ByBeginnings (world_of (idle x ∷ []) (joined_to (Some 0) (idle x) ∷ []))
   -- a command was skipped
-  pub commands : ByBeginnings (world_of (with_items (one ∷ two ∷ []) [] x ∷ []) (joined_to (Some 1) (with_items [] (two ∷ []) x) ∷ []))
+  pub commands : ByBeginnings (world_of (with_items (one ∷ two ∷ []) [] x ∷ [])
+      (joined_to (Some 1) (with_items [] (two ∷ []) x) ∷ []))
   -- a status was taken twice
-  pub status : ByBeginnings (world_of (with_items [] (one ∷ one ∷ []) x ∷ []) (joined_to (Some 1) (with_items (one ∷ []) [] x) ∷ []))
+  pub status : ByBeginnings (world_of (with_items [] (one ∷ one ∷ []) x ∷ [])
+      (joined_to (Some 1) (with_items (one ∷ []) [] x) ∷ []))
   -- two field elements are joined to one interlocking
   pub joined_twice : ByJoins (world_of (idle x ∷ []) (joined_to (Some 1) (idle x) ∷ joined_to (Some 1) (idle x) ∷ []))
   -- a later field element is joined to an earlier interlocking
-  pub joined_back : ByJoins (world_of (idle x ∷ idle x ∷ []) (joined_to (Some 1) (idle x) ∷ joined_to (Some 2) (idle x) ∷ []))
+  pub joined_back : ByJoins (world_of (idle x ∷ idle x ∷ [])
+      (joined_to (Some 1) (idle x) ∷ joined_to (Some 2) (idle x) ∷ []))
   -- an interlocking took something, and there is no field element
   pub il_unjoined : ByUnjoined (world_of (with_items [] (one ∷ []) x ∷ []) [])
   -- an interlocking took something, and the field element is joined to another
@@ -104,10 +109,12 @@ SettledIl w = AtOpened (λ g. SettledAt g (taken_from_il (length w.ils) w.fes)) 
 abbrev pub CertainIl : World → Type 0
 CertainIl w = AtOpened (λ g. CertainAt g (taken_from_il (length w.ils) w.fes)) (latest w.ils)
 
--- worlds at which confirmed is taken, settled or certain is false: for one side while it holds for the other, or of an end joined to none
+-- worlds at which confirmed is taken, settled or certain is false: for one side while it holds for the other, or of an
+-- end joined to none
 pub record SettledInstances (x : EndState) : Type 0 where
   -- confirmed is taken, of the interlocking
-  pub il_confirmed : (ConfirmedTaken (untaken_commands x) → ⊥) × FeTaken (untaken_commands x).ils (untaken_commands x).fes
+  pub il_confirmed : (ConfirmedTaken (untaken_commands x) → ⊥)
+      × FeTaken (untaken_commands x).ils (untaken_commands x).fes
   -- of the field element
   pub fe_confirmed : (ConfirmedTaken (untaken_status x) → ⊥) × IlTaken (untaken_status x)
   -- of a field element joined to none
@@ -128,7 +135,10 @@ pub record SettledInstances (x : EndState) : Type 0 where
 -- a machine that made one PDU at 100 ms, with this number and timestamp, and has a T_max of 10 ms
 abbrev pub made_one : (sn ts : ℕ) → State → Made → State
 made_one sn ts s m =
-    record s { settings = record s.settings { t_max = 10 }; made = record { pdu = record m.pdu { sn = sn; ts = ts }; time = 100; behind = 0 } ∷ [] }
+    record s {
+      settings = record s.settings { t_max = 10 };
+      made = record { pdu = record m.pdu { sn = sn; ts = ts }; time = 100; behind = 0 } ∷ [];
+    }
 
 -- a PDU that confirms number 7 and timestamp 8
 abbrev pub confirming_pdu : Pdu → Pdu
@@ -145,7 +155,8 @@ pub record FreshInstances (s : State) (m : Made) (p : Pdu) : Type 0 where
   -- the peer made no PDU
   pub made_by_nobody : Fresh (made_one 7 8 s m) (confirming_pdu p) 109 [] → ⊥
   -- the peer made another PDU
-  pub another_pdu : Fresh (made_one 7 8 s m) (confirming_pdu p) 109 (made_after 1 (record p { cs = 7; cts = 9 }) ∷ []) → ⊥
+  pub another_pdu : Fresh (made_one 7 8 s m) (confirming_pdu p) 109 (made_after 1 (record p { cs = 7; cts = 9 }) ∷ [])
+      → ⊥
   -- it was made upon no PDU
   pub upon_none : Fresh (made_one 7 8 s m) (confirming_pdu p) 109 (made_after 0 (confirming_pdu p) ∷ []) → ⊥
   -- it was made upon a PDU that this end did not make

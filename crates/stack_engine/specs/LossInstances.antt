@@ -84,11 +84,13 @@ world_of_two il fe = world_of (il ∷ []) (joined_to (Some 1) fe ∷ [])
 
 -- an end that requested a retransmission
 abbrev pub requesting_end : Made → EndState → EndState
-requesting_end m x = record x { machine = record x.machine { made = record m { pdu = record m.pdu { kind = RetrReq } } ∷ [] } }
+requesting_end m x =
+    record x { machine = record x.machine { made = record m { pdu = record m.pdu { kind = RetrReq } } ∷ [] } }
 
 -- two ends at which nothing lost is false, while these six clauses of it hold
 abbrev pub FailsOnlyBy : (A B C D E F : EndState → EndState → Type 0) → (il fe : EndState) → Type 0
-FailsOnlyBy A B C D E F il fe = (NothingLost (world_of_two il fe) → ⊥) × A il fe × B il fe × C il fe × D il fe × E il fe × F il fe
+FailsOnlyBy A B C D E F il fe = (NothingLost (world_of_two il fe) → ⊥) × A il fe × B il fe × C il fe × D il fe × E il fe
+    × F il fe
 
 -- one world for each clause
 pub record LossInstances (x : EndState) (m : Made) : Type 0 where
@@ -101,17 +103,21 @@ pub record LossInstances (x : EndState) (m : Made) : Type 0 where
   -- the field element requested a retransmission
   pub fe_asks : NothingLost (world_of [] (joined_to (Some 1) (requesting_end m x) ∷ [])) → ⊥
   -- a message waits at the interlocking while its window is open
-  pub il_waits : FailsOnlyBy FeWaits CommandsThere StatusThere IlUp FeUp StayInStep (il_with waiting_course x) (fe_with plain x)
+  pub il_waits : FailsOnlyBy FeWaits CommandsThere StatusThere IlUp FeUp StayInStep (il_with waiting_course x)
+      (fe_with plain x)
   -- a message waits at the field element while its window is open
-  pub fe_waits : FailsOnlyBy IlWaits CommandsThere StatusThere IlUp FeUp StayInStep (il_with plain x) (fe_with waiting_course x)
+  pub fe_waits : FailsOnlyBy IlWaits CommandsThere StatusThere IlUp FeUp StayInStep (il_with plain x)
+      (fe_with waiting_course x)
   -- a command is lost
   pub commands : FailsOnlyBy IlWaits FeWaits StatusThere IlUp FeUp StayInStep (il_with lost_course x) (fe_with plain x)
   -- a status is lost
   pub status : FailsOnlyBy IlWaits FeWaits CommandsThere IlUp FeUp StayInStep (il_with plain x) (fe_with lost_course x)
   -- the interlocking is not Up
-  pub il_starts : FailsOnlyBy IlWaits FeWaits CommandsThere StatusThere FeUp StayInStep (il_with not_up x) (fe_with plain x)
+  pub il_starts : FailsOnlyBy IlWaits FeWaits CommandsThere StatusThere FeUp StayInStep (il_with not_up x)
+      (fe_with plain x)
   -- the field element is not Up
-  pub fe_starts : FailsOnlyBy IlWaits FeWaits CommandsThere StatusThere IlUp StayInStep (il_with plain x) (fe_with not_up x)
+  pub fe_starts : FailsOnlyBy IlWaits FeWaits CommandsThere StatusThere IlUp StayInStep (il_with plain x)
+      (fe_with not_up x)
   -- the interlocking is Initialising, the field element Established
   pub il_early : FailsOnlyBy IlWaits FeWaits CommandsThere StatusThere IlUp FeUp (il_with early x) (fe_with plain x)
   -- the field element is Initialising, the interlocking Established

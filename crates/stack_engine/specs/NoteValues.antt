@@ -37,11 +37,13 @@ notes_in n = length n.remarks.now.items - n.earlier
 
 -- the note at a place after the earlier ones, with its bytes
 abbrev pub note_at : {A : Type 0} → Notes A → ℕ → Option NoteValue
-note_at n place = option_and_then (note_of n.datagrams.now.texts n.taken.now.texts) (slice_get n.remarks.now.items (n.earlier + place))
+note_at n place = option_and_then (note_of n.datagrams.now.texts n.taken.now.texts)
+    (slice_get n.remarks.now.items (n.earlier + place))
 
 -- the datagrams that notes are about are those of all PDUs that the end made, and the telegrams are those that it took
 pub record AreOf {A : Type 0} (n : Notes A) (x : EndState) : Type 0 where
-  pub datagrams : map (λ t. t.1) n.datagrams.now.texts ≡ datagrams_of x.settings 0 x.machine.made  -- each PDU under its index
+  -- each PDU under its index
+  pub datagrams : map (λ t. t.1) n.datagrams.now.texts ≡ datagrams_of x.settings 0 x.machine.made
   pub taken : n.taken.now.texts ≡ x.session.history.taken  -- in the order in which they were taken
 
 -- the notes are of this end; there are none if and only if there is no end

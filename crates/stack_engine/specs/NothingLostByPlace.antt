@@ -19,17 +19,20 @@ use Rattle.stack_engine.specs.OpenUnits.{items_among, open_units}
 
 -- each PDU that the other made has come to an open end
 abbrev pub HasHeardAll : EndState → EndState → Type 0
-HasHeardAll x other = x.machine.connection ≢ Closed → (k : ℕ) (m : Made) → slice_get other.machine.made k ≡ Some m → Came k x.inputs
+HasHeardAll x other = x.machine.connection ≢ Closed → (k : ℕ) (m : Made) → slice_get other.machine.made k ≡ Some m
+    → Came k x.inputs
 
 -- what was put at x was taken by the other, each at its place, and the rest waits at x
 pub record WasTakenOrWaits (x other : EndState) : Type 0 where
   -- those taken and those that wait are all that were put
-  pub counted : length other.session.history.taken + length (items_among x.session.waiting) ≡ length x.session.history.put
+  pub counted : length other.session.history.taken + length (items_among x.session.waiting)
+      ≡ length x.session.history.put
   -- the first were taken
   pub was_taken : AgreeUpTo (length other.session.history.taken) x.session.history.put other.session.history.taken
   -- the others wait, in order
   pub waits : (n : ℕ) → n < length (items_among x.session.waiting)
-      → slice_get (items_among x.session.waiting) n ≡ slice_get x.session.history.put (length other.session.history.taken + n)
+      → slice_get (items_among x.session.waiting) n
+      ≡ slice_get x.session.history.put (length other.session.history.taken + n)
 
 -- a message waits at an open end only while as many units are open there as its window has
 abbrev pub WaitsForRoom : EndState → Type 0
@@ -57,9 +60,11 @@ phase_at x = x.session.history.state.phase
 -- both are Initialising until the field element first was Established, and Established from then on
 pub record AreInOnePhase (il fe : EndState) : Type 0 where
   -- both are Initialising
-  pub before : ((n : ℕ) → slice_get fe.session.history.phases n ≢ Some Established) → (phase_at il ≡ Initialising) × (phase_at fe ≡ Initialising)
+  pub before : ((n : ℕ) → slice_get fe.session.history.phases n ≢ Some Established) → (phase_at il ≡ Initialising)
+      × (phase_at fe ≡ Initialising)
   -- both are Established
-  pub since : (n : ℕ) → slice_get fe.session.history.phases n ≡ Some Established → (phase_at il ≡ Established) × (phase_at fe ≡ Established)
+  pub since : (n : ℕ) → slice_get fe.session.history.phases n ≡ Some Established → (phase_at il ≡ Established)
+      × (phase_at fe ≡ Established)
 
 -- what holds if every PDU has arrived
 pub record IsAllThere (il fe : EndState) : Type 0 where
@@ -83,9 +88,11 @@ pub record IsAllThere (il fe : EndState) : Type 0 where
 -- the promise nothing lost, second form, of a world
 pub record NothingLostByPlace (w : World) : Type 0 where
   -- no PDU made is a RetrReq
-  pub asks_nothing : (side : Side) (x : EndState) (n : ℕ) (m : Made) → present side w ≡ Some x → slice_get x.machine.made n ≡ Some m → m.pdu.kind ≢ RetrReq
+  pub asks_nothing : (side : Side) (x : EndState) (n : ℕ) (m : Made) → present side w ≡ Some x
+      → slice_get x.machine.made n ≡ Some m → m.pdu.kind ≢ RetrReq
   -- what holds if every PDU has arrived at each open end
-  pub all_there : (il fe : EndState) → present Il w ≡ Some il → present Fe w ≡ Some fe → HasHeardAll il fe → HasHeardAll fe il → IsAllThere il fe
+  pub all_there : (il fe : EndState) → present Il w ≡ Some il → present Fe w ≡ Some fe → HasHeardAll il fe
+      → HasHeardAll fe il → IsAllThere il fe
 
 -- the second form holds after every list of events that is faithful by place
 abbrev pub NothingLostByPlaceLaw : Type 0

@@ -13,9 +13,11 @@ number_in part = if nat_lt (length part) SAFE_HEADER then None else Some (field 
 -- the part of the datagram at each place has the sequence number that is this place after the first, modulo 2^32
 pub record AreNumbered (first : ℕ) (datagrams : List (List ℕ)) : Type 0 where
   pub few : length datagrams ≤ wrap  -- no number occurs twice
-  pub number : (place : ℕ) (d : List ℕ) → slice_get datagrams place ≡ Some d → number_in (drop RED_HEADER d) ≡ Some (sn_of first place)
+  pub number : (place : ℕ) (d : List ℕ) → slice_get datagrams place ≡ Some d
+      → number_in (drop RED_HEADER d) ≡ Some (sn_of first place)
 
 -- no datagram at another place has this part
 abbrev pub IsOnlyPlace : List ℕ → List (List ℕ) → ℕ → Type 0
 IsOnlyPlace part datagrams only =
-    (place : ℕ) (d : List ℕ) → slice_get datagrams place ≡ Some d → bytes_eq part (drop RED_HEADER d) ≡ true → place ≡ only
+    (place : ℕ) (d : List ℕ) → slice_get datagrams place ≡ Some d → bytes_eq part (drop RED_HEADER d) ≡ true
+    → place ≡ only

@@ -1,4 +1,5 @@
--- What an end still holds of what was put there, second form, by the PDUs that it made. The first form of "unconfirmed" and "waits" is in Settled.
+-- What an end still holds of what was put there, second form, by the PDUs that it made. The first form of "unconfirmed"
+-- and "waits" is in Settled.
 use Rattle.std.specs.Prelude.{ℕ, ◌+◌, nat_lt, not, ◌&&◌, Bool, true, false, List, [], ◌∷◌, ◌++◌, if◌then◌else◌, Result, Ok, Err}
 use Rattle.std.specs.List.{flat_map, list_any}
 use Rattle.safe_pdu.specs.declared.Kind.{Kind}

@@ -42,9 +42,11 @@ pub record SideRepresents {A : Type 0} (o : Openings A) (xs : List EndState) : T
   pub present : PresentRepresents o.present xs  -- the present one
   pub before : EarlierRepresent (reverse o.before.items) (rest_of xs)  -- the earlier ones
 
--- of all states that they represented they now represent those after the call, if that makes no more than the bounds allow
+-- of all states that they represented they now represent those after the call, if that makes no more than the bounds
+-- allow
 abbrev pub SideTakesCall : {A : Type 0} → Call → Openings A → Openings A → Type 0
-SideTakesCall c o p = (xs : List EndState) → SideRepresents o xs → AtOpened (λ x. FewMore x (call c x)) (latest xs) → SideRepresents p (call_il c xs)
+SideTakesCall c o p = (xs : List EndState) → SideRepresents o xs → AtOpened (λ x. FewMore x (call c x)) (latest xs)
+    → SideRepresents p (call_il c xs)
 
 -- a refusal by the session, or no refusal: memory is allocated before the session decides
 abbrev pub IsOfSession : Option Refusal → Type 0
@@ -74,12 +76,14 @@ IsOpenAt now o = MatchOption o.present ⊥ (λ i. (i.time ≤ now) × (now ≤ T
 -- the peer made a PDU of these bytes under a code of `code` bytes, not counting its first `dead` ones
 abbrev pub live_in : (code : ℕ) → Option EndState → (dead : ℕ) → List ℕ → Bool
 live_in code None dead part = false
-live_in code (Some peer) dead part = (code == code_octets (rule_of peer.settings).length) && has_made (rule_of peer.settings) part (drop dead peer.machine.made)
+live_in code (Some peer) dead part = (code == code_octets (rule_of peer.settings).length)
+    && has_made (rule_of peer.settings) part (drop dead peer.machine.made)
 
 -- this part would break the premise at this end: it is asked about, and it is not live
 abbrev pub breaks_with : Option EndState → Option EndState → ℕ → List ℕ → Bool
 breaks_with None peer dead part = false
-breaks_with (Some x) peer dead part = (not (is_shut x) && is_asked_of x part) && not (live_in (code_octets (rule_of x.settings).length) peer dead part)
+breaks_with (Some x) peer dead part =
+    (not (is_shut x) && is_asked_of x part) && not (live_in (code_octets (rule_of x.settings).length) peer dead part)
 
 -- an end that represents the state, if there is one
 abbrev pub IsEnd : {A : Type 0} → Option (Bor (EndValue KeeperValue A)) → Option EndState → Type 0

@@ -42,10 +42,12 @@ pub record IsPair {A : Type 0} (p : Inside A) : Type 0 where
 abbrev pub RunsTo : List Event → List Event → List Event → Type 0
 RunsTo before es after = after ≡ before ++ accepted_events es (run before start)
 
--- an event was refused for memory, and for nothing that is tested before; the history has grown by the accepted events before it
+-- an event was refused for memory, and for nothing that is tested before; the history has grown by the accepted events
+-- before it
 abbrev pub RunsToFault : List Event → List Event → List Event → Type 0
 RunsToFault before es after =
-    (first : List Event) × (e : Event) × (rest : List Event) × (es ≡ first ++ e ∷ rest) × RunsTo before first after × IsOfSession (refusal e (run after start))
+    (first : List Event) × (e : Event) × (rest : List Event) × (es ≡ first ++ e ∷ rest) × RunsTo before first after
+    × IsOfSession (refusal e (run after start))
 
 -- the notes are of the present incarnation of the side of the last event; before any event there are none
 abbrev pub NotesOfLast : {A : Type 0} → Option Side → World → Option (Notes A) → Type 0

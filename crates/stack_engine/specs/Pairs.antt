@@ -77,8 +77,10 @@ last_time (Some x) = x.time
 
 -- the refusals by the session: of a put or of the end of the initialisation
 abbrev pub session_refusal : Call → EndState → Option Refusal
-session_refusal (Put kind payload now) x = option_map PutRefused (put_refusal (session_in x.session) kind payload (length x.session.waiting))
-session_refusal (InitDone now) x = option_map InitRefused (init_refusal (session_in x.session) (length x.session.waiting))
+session_refusal (Put kind payload now) x =
+    option_map PutRefused (put_refusal (session_in x.session) kind payload (length x.session.waiting))
+session_refusal (InitDone now) x =
+    option_map InitRefused (init_refusal (session_in x.session) (length x.session.waiting))
 session_refusal _ x = None
 
 -- the first refusal of a call that applies: not open, time, session
@@ -107,7 +109,8 @@ latest_maker octets [] = None
 latest_maker octets (x ∷ before) =
     if has_made (rule_of x.settings) octets x.machine.made then Some (length before + 1) else latest_maker octets before
 
--- the join of a field element: set once, in the call in which it accepts its first ConnReq, to the latest interlocking incarnation that made it
+-- the join of a field element: set once, in the call in which it accepts its first ConnReq, to the latest interlocking
+-- incarnation that made it
 abbrev pub joined_by : List EndState → Option ℕ → (before after : Option (List ℕ)) → Option ℕ
 joined_by ils old None (Some octets) = latest_maker octets ils
 joined_by ils old None None = old
@@ -158,4 +161,5 @@ run (e ∷ es) w = run es (apply_event w e)
 -- the events of a list that are accepted
 abbrev pub accepted_events : List Event → World → List Event
 accepted_events [] w = []
-accepted_events (e ∷ es) w = if is_none (refusal e w) then e ∷ accepted_events es (apply_event w e) else accepted_events es (apply_event w e)
+accepted_events (e ∷ es) w =
+    if is_none (refusal e w) then e ∷ accepted_events es (apply_event w e) else accepted_events es (apply_event w e)

@@ -17,7 +17,8 @@ use Rattle.stack_end.specs.Steps.{guard_step, tick_step, part_step, with_input}
 use Rattle.stack_engine.specs.Pairs.{World, Event, present, has_made, refusal, apply_event}
 use Rattle.stack_engine.specs.Pairs.Event.{Calls}
 
--- the premise speaks of these bytes at an end: long enough, both identifiers at their places, and a valid code at the end
+-- the premise speaks of these bytes at an end: long enough, both identifiers at their places, and a valid code at the
+-- end
 abbrev pub is_asked_of : EndState → List ℕ → Bool
 is_asked_of x octets = is_asked (rule_of x.settings) x.settings.connection.own x.settings.connection.peer octets
 
@@ -104,4 +105,5 @@ ArrivesGenuine Fe c w = AtOpened (AtArrivals (IsGenuine (present Il w) w.dead_il
 
 -- `breaks_premise` is false if and only if the delivery keeps that condition
 abbrev pub BreaksLaw : Type 0
-BreaksLaw = (side : Side) (channel : ℕ) (octets : List ℕ) (now : ℕ) (w : World) → (breaks_premise side octets w ≡ false) ↔ ArrivesGenuine side (Deliver channel octets now) w
+BreaksLaw = (side : Side) (channel : ℕ) (octets : List ℕ) (now : ℕ) (w : World)
+    → (breaks_premise side octets w ≡ false) ↔ ArrivesGenuine side (Deliver channel octets now) w

@@ -1,4 +1,5 @@
--- The premises genuine and faithful, second form, by index of call and part. `promises_law` proves it equal to the first (Premise, Faithful).
+-- The premises genuine and faithful, second form, by index of call and part. `promises_law` proves it equal to the
+-- first (Premise, Faithful).
 use Rattle.std.specs.Prelude.{ℕ, ◌+◌, ◌≤◌, ◌≡◌, ◌≢◌, None, Some, true, List, take}
 use Rattle.std.specs.List.{slice_get}
 use Rattle.red_layer.specs.Parts.{Part}
@@ -38,7 +39,8 @@ pub record IsMadeBy (side : Side) (w : World) (octets : List ℕ) : Type 0 where
 pub record IsAlive (side : Side) (w : World) (y : EndState) (octets : List ℕ) : Type 0 where
   pub by : IsMadeBy (other side) w octets  -- who made them
   pub living : dead_of (other side) w ≤ by.index  -- the PDU is not dead
-  pub code : code_octets (rule_of y.settings).length ≡ code_octets (rule_of by.maker.settings).length  -- both have the same code length
+  -- both have the same code length
+  pub code : code_octets (rule_of y.settings).length ≡ code_octets (rule_of by.maker.settings).length
 
 -- if an open end is asked about these bytes, they are alive
 abbrev pub IsAnswered : Side → World → EndState → List ℕ → Type 0
@@ -58,7 +60,8 @@ pub record GenuineByPlace (es : List Event) (w : World) : Type 0 where
   pub comes : (n k : ℕ) (side : Side) (c : Call) (p : Part) (x : EndState) → IsCallAt es w n side c x → ComesIn c k p
       → IsAnswered side (run (take n es) w) x p.1
   -- when it goes up
-  pub goes_up : (n k : ℕ) (side : Side) (c : Call) (p : Part) (x y : EndState) → IsCallAt es w n side c x → GoesUp c x k p y
+  pub goes_up : (n k : ℕ) (side : Side) (c : Call) (p : Part) (x y : EndState) → IsCallAt es w n side c x
+      → GoesUp c x k p y
       → IsAnswered side (run (take n es) w) y p.1
 
 -- the number of a part is the index of the PDU that it is
@@ -69,7 +72,8 @@ pub record BearsIndex (side : Side) (w : World) (p : Part) : Type 0 where
 -- a part that comes is at most q beyond each number that has not come before
 abbrev pub ComesNear : ℕ → List Input → Type 0
 ComesNear q inputs =
-    (n k m : ℕ) (i : Input) (p : Part) → slice_get inputs n ≡ Some i → slice_get (arrivals_of i) k ≡ Some p → (Came m (take n inputs) → ⊥) → p.0 ≤ m + q
+    (n k m : ℕ) (i : Input) (p : Part) → slice_get inputs n ≡ Some i → slice_get (arrivals_of i) k ≡ Some p
+    → (Came m (take n inputs) → ⊥) → p.0 ≤ m + q
 
 -- the timeout check of an end changes nothing
 abbrev pub GuardKeeps : ℕ → EndState → Type 0
@@ -80,21 +84,27 @@ pub record FaithfulByPlace (es : List Event) : Type 0 where
   -- the list is genuine
   pub genuine : GenuineByPlace es start
   -- each side is opened at most once
-  pub opened_once : (n : ℕ) (side : Side) (s : EndSettings) (first now : ℕ) → slice_get es n ≡ Some (Open side s first now)
+  pub opened_once : (n : ℕ) (side : Side) (s : EndSettings) (first now : ℕ)
+      → slice_get es n ≡ Some (Open side s first now)
       → refusal (Open side s first now) (run (take n es) start) ≡ None → present side (run (take n es) start) ≡ None
   -- no caller closes an end
-  pub not_closed : (n : ℕ) (side : Side) (c : Call) (x : EndState) (now : ℕ) → IsCallAt es start n side c x → c ≢ Close now
+  pub not_closed : (n : ℕ) (side : Side) (c : Call) (x : EndState) (now : ℕ) → IsCallAt es start n side c x
+      → c ≢ Close now
   -- each part that comes has the index of its PDU as number
-  pub indexed : (n k : ℕ) (side : Side) (c : Call) (p : Part) (x : EndState) → IsCallAt es start n side c x → ComesIn c k p
+  pub indexed : (n k : ℕ) (side : Side) (c : Call) (p : Part) (x : EndState) → IsCallAt es start n side c x
+      → ComesIn c k p
       → BearsIndex side (run (take n es) start) p
   -- the timeout check of each arrival and tick changes nothing
-  pub holds : (n : ℕ) (side : Side) (c : Call) (x : EndState) (i : Input) → IsCallAt es start n side c x → input_of c ≡ Some i → GuardKeeps (time_of c) x
+  pub holds : (n : ℕ) (side : Side) (c : Call) (x : EndState) (i : Input) → IsCallAt es start n side c x
+      → input_of c ≡ Some i → GuardKeeps (time_of c) x
   -- nor does that of each part that goes up
-  pub holds_up : (n k : ℕ) (side : Side) (c : Call) (p : Part) (x y : EndState) → IsCallAt es start n side c x → GoesUp c x k p y → GuardKeeps (time_of c) y
+  pub holds_up : (n k : ℕ) (side : Side) (c : Call) (p : Part) (x y : EndState) → IsCallAt es start n side c x
+      → GoesUp c x k p y → GuardKeeps (time_of c) y
   -- no part comes more than q ahead of a missing one
   pub near : (side : Side) (x : EndState) → present side (run es start) ≡ Some x → ComesNear x.settings.q x.inputs
   -- no T_seq deadline passes
-  pub in_time : (side : Side) (x : EndState) → present side (run es start) ≡ Some x → NoDeadlineFalls x.settings.t_seq no_wait x.inputs
+  pub in_time : (side : Side) (x : EndState) → present side (run es start) ≡ Some x
+      → NoDeadlineFalls x.settings.t_seq no_wait x.inputs
   -- both have the same code length
   pub one_length : (il fe : EndState) → present Il (run es start) ≡ Some il → present Fe (run es start) ≡ Some fe
       → il.settings.connection.rule.length ≡ fe.settings.connection.rule.length

@@ -25,7 +25,8 @@ pub record GenuineInstance (es : List Event) : Type 0 where
   -- the status that each interlocking took
   pub status : map taken_at (run es start).ils ≡ ((512, 5 ∷ []) ∷ []) ∷ ((512, 3 ∷ []) ∷ []) ∷ []
   -- the commands that each field element took
-  pub commands : map taken_at (ends_of (run es start).fes) ≡ ((256, 4 ∷ []) ∷ []) ∷ ((256, 1 ∷ []) ∷ (256, 2 ∷ []) ∷ []) ∷ []
+  pub commands : map taken_at (ends_of (run es start).fes) ≡ ((256, 4 ∷ []) ∷ []) ∷
+      ((256, 1 ∷ []) ∷ (256, 2 ∷ []) ∷ []) ∷ []
   -- the headline law applies
   pub headline : HeadlineLaw → Headline (run es start)
   -- the freshness law applies
@@ -35,7 +36,8 @@ pub record GenuineInstance (es : List Event) : Type 0 where
   -- the law on settled applies
   pub settled : SettledLaw → Settled (run es start)
   -- the promises of a history apply
-  pub promised : Promises es → Headline (run es start) × AllFresh es start × ConfirmedTaken (run es start) × Settled (run es start)
+  pub promised : Promises es → Headline (run es start) × AllFresh es start × ConfirmedTaken (run es start)
+      × Settled (run es start)
 
 -- a genuine list over a bad network, at whose end both ends are settled; the promises of genuine lists apply to it
 pub record RoughInstance (es : List Event) : Type 0 where
@@ -49,11 +51,14 @@ pub record RoughInstance (es : List Event) : Type 0 where
   pub status : map taken_at (run es start).ils ≡ ((513, 7 ∷ 255 ∷ []) ∷ []) ∷ [] ∷ [] ∷ [] ∷ []
   -- the first field element took two commands, the last one five
   pub commands : map taken_at (ends_of (run es start).fes)
-      ≡ ((258, 0 ∷ []) ∷ (258, 1 ∷ []) ∷ (258, 2 ∷ []) ∷ (258, 3 ∷ []) ∷ (258, 4 ∷ []) ∷ []) ∷ [] ∷ ((257, 0 ∷ []) ∷ (257, 1 ∷ []) ∷ []) ∷ []
+      ≡ ((258, 0 ∷ []) ∷ (258, 1 ∷ []) ∷ (258, 2 ∷ []) ∷ (258, 3 ∷ []) ∷ (258, 4 ∷ []) ∷ []) ∷ [] ∷
+      ((257, 0 ∷ []) ∷ (257, 1 ∷ []) ∷ []) ∷ []
   -- both present ends are settled
-  pub settled : (option_map is_settled (present Il (run es start)) ≡ Some true) × (option_map is_settled (present Fe (run es start)) ≡ Some true)
+  pub settled : (option_map is_settled (present Il (run es start)) ≡ Some true)
+      × (option_map is_settled (present Fe (run es start)) ≡ Some true)
   -- the promises of a history apply
-  pub promised : Promises es → Headline (run es start) × AllFresh es start × ConfirmedTaken (run es start) × Settled (run es start) × Certain (run es start)
+  pub promised : Promises es → Headline (run es start) × AllFresh es start × ConfirmedTaken (run es start)
+      × Settled (run es start) × Certain (run es start)
 
 -- P holds of both present ends, and both were opened
 abbrev pub OfBothOpened : (EndState → EndState → Type 0) → Option EndState → Option EndState → Type 0
@@ -72,7 +77,8 @@ pub record Arrived (il fe : EndState) : Type 0 where
 pub record FaithfulInstance (es : List Event) : Type 0 where
   pub typed : AreTyped es  -- its values are of their types
   pub faithful : Faithful es  -- it is faithful
-  pub arrived : OfBothOpened Arrived (present Il (run es start)) (present Fe (run es start))  -- every PDU has arrived, and something was taken
+  -- every PDU has arrived, and something was taken
+  pub arrived : OfBothOpened Arrived (present Il (run es start)) (present Fe (run es start))
   pub nothing_lost : NothingLostLaw → NothingLost (run es start)  -- the law applies
   pub promised : Promises es → NothingLost (run es start)  -- the promises of a history apply
 
@@ -87,14 +93,19 @@ t_max_of x = x.settings.connection.t_max
 -- a faithful list between ends with different T_max, in which each took a telegram of the greatest size
 pub record FarInstance (es : List Event) : Type 0 where
   pub faithful : FaithfulInstance es  -- it is faithful, and the promise nothing lost applies to it
-  pub status : option_map sizes_taken (present Il (run es start)) ≡ Some ((514, 357) ∷ (513, 1) ∷ [])  -- the interlocking took two
+  -- the interlocking took two
+  pub status : option_map sizes_taken (present Il (run es start)) ≡ Some ((514, 357) ∷ (513, 1) ∷ [])
   pub commands : option_map sizes_taken (present Fe (run es start))
-      ≡ Some ((257, 1) ∷ (258, 357) ∷ (257, 1) ∷ (259, 0) ∷ (257, 1) ∷ (257, 1) ∷ (257, 1) ∷ [])  -- the field element took seven
-  pub t_max : (option_map t_max_of (present Il (run es start)) ≡ Some 1800) × (option_map t_max_of (present Fe (run es start)) ≡ Some 1200)  -- each has its own
+      -- the field element took seven
+      ≡ Some ((257, 1) ∷ (258, 357) ∷ (257, 1) ∷ (259, 0) ∷ (257, 1) ∷ (257, 1) ∷ (257, 1) ∷ [])
+  -- each has its own
+  pub t_max : (option_map t_max_of (present Il (run es start)) ≡ Some 1800)
+      × (option_map t_max_of (present Fe (run es start)) ≡ Some 1200)
 
 -- for each premise there are such lists
 pub record Premises : Type 0 where
   pub genuine : (es : List Event) × GenuineInstance es  -- a genuine one
-  pub rough : (es : List Event) × RoughInstance es  -- a genuine one with damage, foreign and early datagrams, and deadlines
+  -- a genuine one with damage, foreign and early datagrams, and deadlines
+  pub rough : (es : List Event) × RoughInstance es
   pub faithful : (es : List Event) × FaithfulInstance es  -- a faithful one
   pub far : (es : List Event) × FarInstance es  -- a faithful one with parts that come up to q numbers too early

@@ -13,5 +13,6 @@ pub record Promises (es : List Event) : Type 0 where
   pub fresh : Genuine es start → AllFresh es start  -- what is taken is fresh
   pub confirmed : Genuine es start → ConfirmedTaken (run es start)  -- what neither waits nor is unconfirmed was taken
   pub settled : Genuine es start → Settled (run es start)  -- at a settled end, everything put was taken
-  pub certain : Genuine es start → Certain (run es start)  -- the first telegrams put, as many as are counted as confirmed, were taken
+  -- the first telegrams put, as many as are counted as confirmed, were taken
+  pub certain : Genuine es start → Certain (run es start)
   pub nothing_lost : Faithful es → NothingLost (run es start)  -- no retransmission is requested, and nothing is lost

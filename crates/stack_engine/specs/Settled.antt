@@ -1,20 +1,30 @@
--- Confirmed is taken, first form, by prefixes: each telegram that neither waits nor is in an unconfirmed unit was taken, also at a closed end.
+-- Confirmed is taken, first form, by prefixes: each telegram that neither waits nor is in an unconfirmed unit was
+-- taken, also at a closed end.
 --
 -- Also what follows from it: settled (everything was taken) and certain (the first telegrams put were taken).
 use Rattle.std.specs.Prelude.{ℕ, ◌≡◌, ◌==◌, Bool, true, false, Option, Some, None, List, [], ◌∷◌, ◌++◌, length, take, if◌then◌else◌}
 use Rattle.octets.specs.Lists.{IsBeginning}
 use Rattle.pdi_session.specs.SessionStep.{Item}
-pub use Rattle.stack_end.specs.Certain.{found_messages, found_telegram, items_unconfirmed, items_waiting, messages_in, telegrams_in}
+pub use Rattle.stack_end.specs.Certain.{
+  found_messages,
+  found_telegram,
+  items_unconfirmed,
+  items_waiting,
+  messages_in,
+  telegrams_in,
+}
 use Rattle.stack_end.specs.Certain.{confirmed_of}
 use Rattle.stack_end.specs.Ends.{EndState, is_settled}
 use Rattle.stack_engine.specs.Pairs.{World, JoinedEnd, Event, start, run, latest}
 use Rattle.stack_engine.specs.Premise.{AtOpened, Genuine, AreTyped}
 use Rattle.stack_engine.specs.Headline.{put_at, taken_at, incarnation}
 
--- the telegrams put are, in order: a prefix of those that the joined end took, the unconfirmed ones, and those that wait
+-- the telegrams put are, in order: a prefix of those that the joined end took, the unconfirmed ones, and those that
+-- wait
 abbrev pub WasTaken : EndState → List Item → Type 0
 WasTaken x taken =
-    (confirmed : List Item) × IsBeginning confirmed taken × (put_at x ≡ confirmed ++ items_unconfirmed x ++ items_waiting x)
+    (confirmed : List Item) × IsBeginning confirmed taken
+    × (put_at x ≡ confirmed ++ items_unconfirmed x ++ items_waiting x)
 
 -- what an end took, if there is one
 abbrev pub taken_by : Option EndState → List Item

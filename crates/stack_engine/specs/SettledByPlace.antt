@@ -1,4 +1,5 @@
--- Confirmed is taken, settled and certain, second form, by counts and places. `promises_law` proves it equal to the first form, Settled.
+-- Confirmed is taken, settled and certain, second form, by counts and places. `promises_law` proves it equal to the
+-- first form, Settled.
 use Rattle.std.specs.Prelude.{ℕ, ◌+◌, ◌<◌, ◌≡◌, ◌≢◌, ◌⊎◌, Some, List, [], length}
 use Rattle.std.specs.List.{slice_get}
 use Rattle.safe_machine.specs.declared.ConnectionState.TheVariants.{Closed}
@@ -29,19 +30,25 @@ IsPartner w Fe y = (n : ℕ) × (fe : EndState) × AreJoined w (length w.fes) n 
 -- what the partner took: nothing if there is none
 abbrev pub PartnerTook : World → Side → List Item → Type 0
 PartnerTook w side taken =
-    ((y : EndState) × IsPartner w side y × (taken ≡ y.session.history.taken)) ⊎ (((y : EndState) → IsPartner w side y → ⊥) × (taken ≡ []))
+    ((y : EndState) × IsPartner w side y × (taken ≡ y.session.history.taken)) ⊎
+    (((y : EndState) → IsPartner w side y → ⊥) × (taken ≡ []))
 
--- everything put at an end is accounted for: the first telegrams were taken, each at its place, and the end holds the others
+-- everything put at an end is accounted for: the first telegrams were taken, each at its place, and the end holds the
+-- others
 pub record IsAccountedFor (x : EndState) (taken : List Item) : Type 0 where
   pub sure : ℕ  -- how many were taken
-  pub counted : sure + length (held_items x) ≡ length x.session.history.put  -- with those held they are all that were put
+  -- with those held they are all that were put
+  pub counted : sure + length (held_items x) ≡ length x.session.history.put
   pub was_taken : AgreeUpTo sure x.session.history.put taken  -- each of the first was taken, at its place
-  pub is_held : (n : ℕ) → n < length (held_items x) → slice_get (held_items x) n ≡ slice_get x.session.history.put (sure + n)  -- the others are held, in order
+  -- the others are held, in order
+  pub is_held : (n : ℕ) → n < length (held_items x)
+      → slice_get (held_items x) n ≡ slice_get x.session.history.put (sure + n)
 
 -- everything put at a present end is accounted for, whether the end is open or closed
 abbrev pub ConfirmedByPlace : World → Type 0
 ConfirmedByPlace w =
-    (side : Side) (x : EndState) (taken : List Item) → present side w ≡ Some x → PartnerTook w side taken → IsAccountedFor x taken
+    (side : Side) (x : EndState) (taken : List Item) → present side w ≡ Some x → PartnerTook w side taken
+    → IsAccountedFor x taken
 
 -- the end is not closed, no message waits, and no unit is open
 pub record IsDone (x : EndState) : Type 0 where
@@ -64,7 +71,8 @@ pub record WasTakenAt (n : ℕ) (put taken : List Item) : Type 0 where
 abbrev pub CertainByPlace : World → Type 0
 CertainByPlace w =
     (side : Side) (x : EndState) (taken : List Item) → present side w ≡ Some x → PartnerTook w side taken →
-    (n : ℕ) → n + length (held_items x) < cap_count (length x.session.history.put) → WasTakenAt n x.session.history.put taken
+    (n : ℕ) → n + length (held_items x) < cap_count (length x.session.history.put)
+    → WasTakenAt n x.session.history.put taken
 
 -- confirmed is taken, second form, holds after every list of events that is genuine by place
 abbrev pub ConfirmedByPlaceLaw : Type 0

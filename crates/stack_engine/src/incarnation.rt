@@ -334,7 +334,7 @@ impl<A: Allocator + Copy> Incarnation<A> {
     }
 
     /// Returns the number of PDUs that it made.
-    pub(crate) fn made(&self) -> usize
+    pub(crate) fn made_count(&self) -> usize
         // The result is the number of PDUs in the represented state.
         ensures { (x : EndState) → IncarnationRepresents self.now x → result ≡ length x.machine.made }
     {

@@ -316,12 +316,12 @@ impl<A: Allocator + Copy> Openings<A> {
     }
 
     /// Returns the number of PDUs that the present incarnation made.
-    pub(crate) fn made(&self) -> usize
+    pub(crate) fn made_count(&self) -> usize
         // The result is the number of PDUs of the present state, and 0 if the end was never opened.
         ensures { (xs : List EndState) → SideRepresents self.now xs → result ≡ length (made_of (latest xs)) }
     {
         match &self.present {
-            Some(present) => present.made(),
+            Some(present) => present.made_count(),
             None => 0,
         }
     }

@@ -193,11 +193,11 @@ impl<A: Allocator + Copy> Sides<A> {
             Side::Interlocking => {
                 self.il.open(alloc, side, config, first_sn, now)?;
                 self.dead_il = 0;
-                self.dead_fe = self.fe.made();
+                self.dead_fe = self.fe.made_count();
             }
             Side::FieldElement => {
                 self.fe.open(alloc, side, config, first_sn, now)?;
-                self.dead_il = self.il.made();
+                self.dead_il = self.il.made_count();
                 self.dead_fe = 0;
             }
         }

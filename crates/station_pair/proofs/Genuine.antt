@@ -60,7 +60,8 @@ near-goes s K now =
       sends = λ y may some h. h;
     }
 
-near-input : OriginLaw → (s : EndSettings) (K : Part → Type 0) (i : Input) (y : EndState) → AllByRecursion K (arrivals_of i) → Near s K y
+near-input : OriginLaw → (s : EndSettings) (K : Part → Type 0) (i : Input) (y : EndState)
+    → AllByRecursion K (arrivals_of i) → Near s K y
     → Near s K (with_input i y) × AllByRecursion K (parts_passed i y.red)
 near-input origin s K i y came h =
     let all = all-append K y.red.waiting (arrivals_of i) h.1 came in
@@ -69,11 +70,13 @@ near-input origin s K i y came h =
       all-among K (parts_passed i y.red) (y.red.waiting ++ arrivals_of i) from.0 all,
     )
 
-live : (peer : EndState) (s : EndSettings) (y : EndState) (p : Part) → AlikeCode s peer.settings → y.settings ≡ s → Known peer p
+live : (peer : EndState) (s : EndSettings) (y : EndState) (p : Part) → AlikeCode s peer.settings → y.settings ≡ s
+    → Known peer p
     → is_live y (Some peer) 0 p.1 ≡ true
 live peer s y p code set known = grind (arith, nat_tests)
 
-parts-genuine : (peer : EndState) (s : EndSettings) (now : ℕ) (ps : List Part) (y : EndState) → AlikeCode s peer.settings → Near s (Known peer) y
+parts-genuine : (peer : EndState) (s : EndSettings) (now : ℕ) (ps : List Part) (y : EndState)
+    → AlikeCode s peer.settings → Near s (Known peer) y
     → AllByRecursion (Known peer) ps → AtParts (IsGenuine (Some peer) 0) now ps y
 parts-genuine peer s now [] y code h all = tt
 parts-genuine peer s now (p ∷ ps) y code h all =
@@ -85,12 +88,15 @@ abbrev pub Comes : (Part → Type 0) → Call → Type 0
 Comes K (Deliver channel octets now) = AllByRecursion K (arrivals_of (Datagram octets now))
 Comes K _ = Unit {0}
 
-arrivals-genuine : (peer : EndState) (x : EndState) (ps : List Part) → AlikeCode x.settings peer.settings → AllByRecursion (Known peer) ps
+arrivals-genuine : (peer : EndState) (x : EndState) (ps : List Part) → AlikeCode x.settings peer.settings
+    → AllByRecursion (Known peer) ps
     → AllByRecursion (λ (p : Part). IsGenuine (Some peer) 0 x p.1) ps
 arrivals-genuine peer x [] code all = tt
-arrivals-genuine peer x (p ∷ ps) code all = (λ _ _. live peer x.settings x p code refl all.0, arrivals-genuine peer x ps code all.1)
+arrivals-genuine peer x (p ∷ ps) code all =
+    (λ _ _. live peer x.settings x p code refl all.0, arrivals-genuine peer x ps code all.1)
 
-pub genuine-call : OriginLaw → (peer : EndState) (c : Call) (x : EndState) → AlikeCode x.settings peer.settings → AllByRecursion (Known peer) x.red.waiting
+pub genuine-call : OriginLaw → (peer : EndState) (c : Call) (x : EndState) → AlikeCode x.settings peer.settings
+    → AllByRecursion (Known peer) x.red.waiting
     → Comes (Known peer) c → GenuineCall (Some peer) 0 c x
 genuine-call origin peer (Close now) x code all comes = (tt, tt)
 genuine-call origin peer (Put kind payload now) x code all comes = (tt, tt)
@@ -99,8 +105,11 @@ genuine-call origin peer (Tick now) x code all comes =
     let K = Known peer in
     let y = tick_step now x in
     let near = keep-ticked now AnyPart (Near x.settings K) (near-goes x.settings K now) x (refl, all) in
-    let came = near-input origin x.settings K (RedTick now) y tt near in
-    (tt, λ _ _. parts-genuine peer x.settings now (parts_passed (RedTick now) y.red) (with_input (RedTick now) y) code came.0 came.1)
+    let came = near-input origin x.settings K (RedTick now) y tt near in (
+      tt,
+      λ _ _. parts-genuine peer x.settings now (parts_passed (RedTick now) y.red) (with_input (RedTick now) y) code
+          came.0 came.1,
+    )
 genuine-call origin peer (Deliver channel octets now) x code all comes =
     let K = Known peer in
     let i = Datagram octets now in
@@ -116,7 +125,8 @@ by-shut P true x y h k = h
 by-shut P false x y h k = k
 
 -- and so is what waits after it
-pub near-call : OriginLaw → (s : EndSettings) (K : Part → Type 0) (c : Call) (x : EndState) → Comes K c → Near s K x → Near s K (call c x)
+pub near-call : OriginLaw → (s : EndSettings) (K : Part → Type 0) (c : Call) (x : EndState) → Comes K c → Near s K x
+    → Near s K (call c x)
 near-call origin s K (Close now) x comes h =
     keep-closed now AnyPart (Near s K) (near-goes s K now) x h
 near-call origin s K (Put kind payload now) x comes h =
@@ -130,18 +140,21 @@ near-call origin s K (Tick now) x comes h =
     let y = tick_step now x in
     let near = keep-ticked now AnyPart (Near s K) (near-goes s K now) x h in
     by-shut (Near s K) (is_shut x) x (goes_on now i y) h
-    (keep-goes_on now AnyPart (Near s K) (near-goes s K now) i y (λ _. any-parts now (parts_passed i y.red) (with_input i y))
+    (keep-goes_on now AnyPart (Near s K) (near-goes s K now) i y
+    (λ _. any-parts now (parts_passed i y.red) (with_input i y))
     (near-input origin s K i y tt near).0 near)
 near-call origin s K (Deliver channel octets now) x comes h =
     let i = Datagram octets now in
     let y = guard_step now x in
     let near = keep-guarded now AnyPart (Near s K) (near-goes s K now) x h in
     by-shut (Near s K) (is_shut x) x (goes_on now i y) h
-    (keep-goes_on now AnyPart (Near s K) (near-goes s K now) i y (λ _. any-parts now (parts_passed i y.red) (with_input i y))
+    (keep-goes_on now AnyPart (Near s K) (near-goes s K now) i y
+    (λ _. any-parts now (parts_passed i y.red) (with_input i y))
     (near-input origin s K i y comes near).0 near)
 
 -- A PDU that was made stays made.
-pub made-more : (rule : CodeRule) (octets : List ℕ) (ms ns : List Made) → has_made rule octets ms ≡ true → has_made rule octets (ms ++ ns) ≡ true
+pub made-more : (rule : CodeRule) (octets : List ℕ) (ms ns : List Made) → has_made rule octets ms ≡ true
+    → has_made rule octets (ms ++ ns) ≡ true
 made-more rule octets [] ns h = absurd (false-true h)
   where
     false-true : false ≡ true → ⊥
@@ -152,24 +165,29 @@ made-more rule octets (m ∷ ms) ns h = grind (arith, nat_tests, made-more rule 
 abbrev pub Brings : (Part → Type 0) → List ℕ → Type 0
 Brings K octets = AllByRecursion K (accepted_parts (decoded octets))
 
-text-brings : (K : Part → Type 0) (index : ℕ) (upper : List ℕ) → ((n : ℕ) → K (n, upper)) → Brings K (red_text index upper)
+text-brings : (K : Part → Type 0) (index : ℕ) (upper : List ℕ) → ((n : ℕ) → K (n, upper))
+    → Brings K (red_text index upper)
 unfolding decoded
 text-brings K index upper h =
     let octets = red_text index upper in
-    by-tests (nat_lt (length octets) RED_HEADER) (nat_lt RED_PDU_MAX (length octets)) (length_field octets == length octets) (reserve_field octets == 0)
+    by-tests (nat_lt (length octets) RED_HEADER) (nat_lt RED_PDU_MAX (length octets))
+    (length_field octets == length octets) (reserve_field octets == 0)
     (seq_field octets)
   where
     by-tests : (a b c d : Bool) (n : ℕ) → AllByRecursion K (accepted_parts
-        (if a then Err Short else if b then Err Length else if c then (if d then Ok (n, upper) else Err Reserve) else Err Length))
+        (if a then Err Short else if b then Err Length else if c then (if d then Ok (n, upper) else Err Reserve)
+        else Err Length))
     by-tests true b c d n = tt
     by-tests false true c d n = tt
     by-tests false false false d n = tt
     by-tests false false true false n = tt
     by-tests false false true true n = (h n, tt)
 
-on-brings : (K : Part → Type 0) (n : ℕ) (octets : List ℕ) → Brings K octets → AllByRecursion (λ (x : SentDatagram). Brings K x.1) (on_channels n octets)
+on-brings : (K : Part → Type 0) (n : ℕ) (octets : List ℕ) → Brings K octets
+    → AllByRecursion (λ (x : SentDatagram). Brings K x.1) (on_channels n octets)
 on-brings K zero octets h = tt
-on-brings K (suc n) octets h = all-append (λ (x : SentDatagram). Brings K x.1) (on_channels n octets) ((suc n, octets) ∷ []) (on-brings K n octets h) (h, tt)
+on-brings K (suc n) octets h = all-append (λ (x : SentDatagram). Brings K x.1) (on_channels n octets)
+    ((suc n, octets) ∷ []) (on-brings K n octets h) (h, tt)
 
 -- PDUs of which all are among those that were made
 pub sendings-bring : (s : EndSettings) (K : Part → Type 0) (index : ℕ) (ms : List Made)
@@ -178,19 +196,24 @@ pub sendings-bring : (s : EndSettings) (K : Part → Type 0) (index : ℕ) (ms :
 sendings-bring s K index [] h = tt
 sendings-bring s K index (m ∷ ms) h =
     let upper = upper_of (rule_of s) m in
-    let here : has_made (rule_of s) upper (m ∷ ms) ≡ true = ap (λ b. if b then true else has_made (rule_of s) upper ms) ((bytes_eq-Decides upper upper).1 refl) in
-    all-append (λ (x : SentDatagram). Brings K x.1) (on_channels s.channels (red_text index upper)) (sendings s (index + 1) ms)
+    let here : has_made (rule_of s) upper (m ∷ ms) ≡ true = ap (λ b. if b then true else has_made (rule_of s) upper ms)
+    ((bytes_eq-Decides upper upper).1 refl) in
+    all-append (λ (x : SentDatagram). Brings K x.1) (on_channels s.channels (red_text index upper))
+    (sendings s (index + 1) ms)
     (on-brings K s.channels (red_text index upper) (text-brings K index upper (λ n. h n upper here)))
-    (sendings-bring s K (index + 1) ms (λ n octets among. h n octets (or-later (bytes_eq octets upper) (has_made (rule_of s) octets ms) among)))
+    (sendings-bring s K (index + 1) ms (λ n octets among.
+    h n octets (or-later (bytes_eq octets upper) (has_made (rule_of s) octets ms) among)))
   where
     or-later : (b c : Bool) → c ≡ true → (if b then true else c) ≡ true
     or-later true c e = refl
     or-later false c e = e
 
 -- what was returned was sent
-pub folds-all : (Q : SentDatagram → Type 0) (a b : ChannelHistory) (front back : List SentDatagram) (xs : List SentDatagram) → FoldsTo SendsOne a xs b → a.sent ≡ Some front → b.sent ≡ Some back
+pub folds-all : (Q : SentDatagram → Type 0) (a b : ChannelHistory) (front back : List SentDatagram)
+    (xs : List SentDatagram) → FoldsTo SendsOne a xs b → a.sent ≡ Some front → b.sent ≡ Some back
     → AllByRecursion Q front → AllByRecursion Q xs → AllByRecursion Q back
-folds-all Q a b front back [] h before later all new = subst (AllByRecursion Q) (some-is front back (sym before ∙ (ap (λ (t : ChannelHistory). t.sent) h ∙ later))) all
+folds-all Q a b front back [] h before later all new =
+    subst (AllByRecursion Q) (some-is front back (sym before ∙ (ap (λ (t : ChannelHistory). t.sent) h ∙ later))) all
   where
     some-is : (x y : List SentDatagram) → Some x ≡ Some y → x ≡ y
     some-is x y e = cc

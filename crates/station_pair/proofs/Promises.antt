@@ -23,8 +23,10 @@ stand-length (k ∷ hs) [] h = absurd h
 stand-length (k ∷ hs) (x ∷ xs) h = ap suc (stand-length hs xs h.1)
 
 -- the station with a number represents the incarnation with that number
-found : (P : EndState → Type 0) (Q : Held → Type 0) → ((h : Held) (x : EndState) → HeldStands h x → P x → Q h) → (number : ℕ) (hs : List Held)
-    (xs : List EndState) → AllStand hs xs → MatchOption (incarnation xs number) ⊥ P → MatchOption (station hs number) ⊥ Q
+found : (P : EndState → Type 0) (Q : Held → Type 0) → ((h : Held) (x : EndState) → HeldStands h x → P x → Q h)
+    → (number : ℕ) (hs : List Held)
+    (xs : List EndState) → AllStand hs xs → MatchOption (incarnation xs number) ⊥ P
+    → MatchOption (station hs number) ⊥ Q
 found P Q turn number [] [] stand h = h
 found P Q turn number [] (x ∷ xs) stand h = absurd stand
 found P Q turn number (k ∷ hs) [] stand h = absurd stand
@@ -32,7 +34,8 @@ found P Q turn number (k ∷ hs) (x ∷ xs) stand h =
     rw (stand-length hs xs stand.1) (at (number == length xs + 1) (found P Q turn number hs xs stand.1) h)
   where
     at : (b : Bool) → (MatchOption (incarnation xs number) ⊥ P → MatchOption (station hs number) ⊥ Q)
-        → MatchOption (if b then Some x else incarnation xs number) ⊥ P → MatchOption (if b then Some k else station hs number) ⊥ Q
+        → MatchOption (if b then Some x else incarnation xs number) ⊥ P
+        → MatchOption (if b then Some k else station hs number) ⊥ Q
     at true rest h = turn k x stand.0 h
     at false rest h = rest h
 
@@ -48,23 +51,28 @@ gave-none : (h : Held) (x : EndState) → HeldStands h x → taken_at x ≡ [] �
 gave-none h x stands none = nil-front (seen_by h) stands.seen.0 (stands.seen.1 ∙ none)
 
 -- a prefix of what was put at an end is one of what was put at its station
-gave-begin : (h g : Held) (x y : EndState) → HeldStands h x → HeldStands g y → IsBeginning (taken_at x) (put_at y) → IsBeginning (seen_by h) g.put
+gave-begin : (h g : Held) (x y : EndState) → HeldStands h x → HeldStands g y → IsBeginning (taken_at x) (put_at y)
+    → IsBeginning (seen_by h) g.put
 gave-begin h g x y stands other begin =
     subst (IsBeginning (seen_by h)) (sym other.put) (begin-then (seen_by h) (taken_at x) (put_at y) stands.seen begin)
 
-gives : (ils : List Held) (xs : List EndState) (f : Held) (y : EndState) (j : Option ℕ) → AllStand ils xs → HeldStands f y → TakesBeginnings xs y j
+gives : (ils : List Held) (xs : List EndState) (f : Held) (y : EndState) (j : Option ℕ) → AllStand ils xs
+    → HeldStands f y → TakesBeginnings xs y j
     → GivesBeginnings ils f j
 gives ils xs f y None stand one h = gave-none f y one h
 gives ils xs f y (Some number) stand one h =
-    found (λ g. IsBeginning (taken_at y) (put_at g) × IsBeginning (taken_at g) (put_at y)) (λ g. IsBeginning (seen_by f) g.put × IsBeginning (seen_by g) f.put)
+    found (λ g. IsBeginning (taken_at y) (put_at g) × IsBeginning (taken_at g) (put_at y))
+    (λ g. IsBeginning (seen_by f) g.put × IsBeginning (seen_by g) f.put)
     (λ g x other both. (gave-begin f g y x one other both.0, gave-begin g f x y other one both.1)) number ils xs stand h
 
-all-give : (ils : List Held) (xs : List EndState) (fs : List Held) (fes : List JoinedEnd) → AllStand ils xs → AllStand fs (ends_of fes)
+all-give : (ils : List Held) (xs : List EndState) (fs : List Held) (fes : List JoinedEnd) → AllStand ils xs
+    → AllStand fs (ends_of fes)
     → AllTakeBeginnings xs fes → AllGiveBeginnings ils fs (joins_in fes)
 all-give ils xs [] [] stand each h = tt
 all-give ils xs [] (y ∷ fes) stand each h = absurd each
 all-give ils xs (f ∷ fs) [] stand each h = absurd each
-all-give ils xs (f ∷ fs) (y ∷ fes) stand each h = (gives ils xs f y.end y.joined stand each.0 h.0, all-give ils xs fs fes stand each.1 h.1)
+all-give ils xs (f ∷ fs) (y ∷ fes) stand each h =
+    (gives ils xs f y.end y.joined stand each.0 h.0, all-give ils xs fs fes stand each.1 h.1)
 
 falls : (bound : ℕ) (fes : List JoinedEnd) → JoinsFall bound fes → Fall bound (joins_in fes)
 falls bound [] h = tt
@@ -75,13 +83,15 @@ names number [] h = h
 names number (f ∷ fes) (inl h) = inl h
 names number (f ∷ fes) (inr h) = inr (names number fes h)
 
-only : (hs : List Held) (xs : List EndState) (fes : List JoinedEnd) → AllStand hs xs → OnlyJoinedTake fes xs → OnlyJoinedGive (joins_in fes) hs
+only : (hs : List Held) (xs : List EndState) (fes : List JoinedEnd) → AllStand hs xs → OnlyJoinedTake fes xs
+    → OnlyJoinedGive (joins_in fes) hs
 only [] [] fes stand h = tt
 only [] (x ∷ xs) fes stand h = absurd stand
 only (k ∷ hs) [] fes stand h = absurd stand
 only (k ∷ hs) (x ∷ xs) fes stand h = (rw (stand-length hs xs stand.1) (one h.0), only hs xs fes stand.1 h.1)
   where
-    one : (taken_at x ≡ []) ⊎ IsJoined (length xs + 1) fes → (seen_by k ≡ []) ⊎ NamesInterlocking (length xs + 1) (joins_in fes)
+    one : (taken_at x ≡ []) ⊎ IsJoined (length xs + 1) fes
+        → (seen_by k ≡ []) ⊎ NamesInterlocking (length xs + 1) (joins_in fes)
     one (inl none) = inl (gave-none k x stand.0 none)
     one (inr joined) = inr (names (length xs + 1) fes joined)
 
@@ -98,7 +108,8 @@ abbrev PeerIs : List Item → Option Held → Type 0
 PeerIs taken None = taken ≡ []
 PeerIs taken (Some k) = (y : EndState) × HeldStands k y × (taken ≡ taken_at y)
 
-there : DeterminesLaw → (h : Held) (x : EndState) (taken : List Item) (peer : Option Held) → HeldStands h x → PeerIs taken peer → SettledAt x taken
+there : DeterminesLaw → (h : Held) (x : EndState) (taken : List Item) (peer : Option Held) → HeldStands h x
+    → PeerIs taken peer → SettledAt x taken
     → IsThere h peer
 there tells h x taken None stands none settled = λ yes.
     let begin = settled (sym (tells (inside h.station.end) x stands.end.both).settled ∙ yes) in
@@ -115,25 +126,31 @@ peer-il number (f ∷ fs) [] stand = absurd stand
 peer-il number (f ∷ fs) (y ∷ fes) stand = at (is_number number y.joined) (peer-il number fs fes stand.1)
   where
     at : (b : Bool) → PeerIs (taken_from_il number fes) (joined_to number fs (joins_in fes))
-        → PeerIs (if b then taken_at y.end else taken_from_il number fes) (if b then Some f else joined_to number fs (joins_in fes))
+        → PeerIs (if b then taken_at y.end else taken_from_il number fes)
+        (if b then Some f else joined_to number fs (joins_in fes))
     at true rest = (y.end, stand.0, refl)
     at false rest = rest
 
-peer-fe : (number : ℕ) (hs : List Held) (xs : List EndState) → AllStand hs xs → PeerIs (taken_by (incarnation xs number)) (station hs number)
+peer-fe : (number : ℕ) (hs : List Held) (xs : List EndState) → AllStand hs xs
+    → PeerIs (taken_by (incarnation xs number)) (station hs number)
 peer-fe number [] [] stand = refl
 peer-fe number [] (x ∷ xs) stand = absurd stand
 peer-fe number (k ∷ hs) [] stand = absurd stand
-peer-fe number (k ∷ hs) (x ∷ xs) stand = rw (stand-length hs xs stand.1) (at (number == length xs + 1) (peer-fe number hs xs stand.1))
+peer-fe number (k ∷ hs) (x ∷ xs) stand =
+    rw (stand-length hs xs stand.1) (at (number == length xs + 1) (peer-fe number hs xs stand.1))
   where
-    at : (b : Bool) → PeerIs (taken_by (incarnation xs number)) (station hs number) → PeerIs (taken_by (if b then Some x else incarnation xs number)) (if b then Some k else station hs number)
+    at : (b : Bool) → PeerIs (taken_by (incarnation xs number)) (station hs number)
+        → PeerIs (taken_by (if b then Some x else incarnation xs number)) (if b then Some k else station hs number)
     at true rest = (x, stand.0, refl)
     at false rest = rest
 
-peer-join : (hs : List Held) (xs : List EndState) (j : Option ℕ) → AllStand hs xs → PeerIs (taken_from_fe xs j) (joined_by hs j)
+peer-join : (hs : List Held) (xs : List EndState) (j : Option ℕ) → AllStand hs xs
+    → PeerIs (taken_from_fe xs j) (joined_by hs j)
 peer-join hs xs None stand = refl
 peer-join hs xs (Some number) stand = peer-fe number hs xs stand
 
-il-there : DeterminesLaw → (hs : List Held) (xs : List EndState) (fs : List Held) (fes : List JoinedEnd) → AllStand hs xs → AllStand fs (ends_of fes)
+il-there : DeterminesLaw → (hs : List Held) (xs : List EndState) (fs : List Held) (fes : List JoinedEnd)
+    → AllStand hs xs → AllStand fs (ends_of fes)
     → AtOpened (λ g. SettledAt g (taken_from_il (length xs) fes)) (latest xs) → IlThere hs fs (joins_in fes)
 il-there tells [] xs fs fes stand each settled = tt
 il-there tells (k ∷ hs) [] fs fes stand each settled = absurd stand
@@ -141,14 +158,17 @@ il-there tells (k ∷ hs) (x ∷ xs) fs fes stand each settled =
     let same : length xs + 1 ≡ suc (length xs) = omega arith in
     rw (stand-length hs xs stand.1)
     (subst (λ n. IsThere k (joined_to n fs (joins_in fes))) (sym same)
-    (there tells k x (taken_from_il (suc (length xs)) fes) (joined_to (suc (length xs)) fs (joins_in fes)) stand.0 (peer-il (suc (length xs)) fs fes each) settled))
+    (there tells k x (taken_from_il (suc (length xs)) fes) (joined_to (suc (length xs)) fs (joins_in fes)) stand.0
+    (peer-il (suc (length xs)) fs fes each) settled))
 
-fe-there : DeterminesLaw → (hs : List Held) (xs : List EndState) (fs : List Held) (fes : List JoinedEnd) → AllStand hs xs → AllStand fs (ends_of fes)
+fe-there : DeterminesLaw → (hs : List Held) (xs : List EndState) (fs : List Held) (fes : List JoinedEnd)
+    → AllStand hs xs → AllStand fs (ends_of fes)
     → SettledFe xs fes → FeThere hs fs (joins_in fes)
 fe-there tells hs xs [] fes stand each settled = tt
 fe-there tells hs xs (f ∷ fs) [] stand each settled = absurd each
 fe-there tells hs xs (f ∷ fs) (y ∷ fes) stand each settled =
-    there tells f y.end (taken_from_fe xs y.joined) (joined_by hs y.joined) each.0 (peer-join hs xs y.joined stand) settled
+    there tells f y.end (taken_from_fe xs y.joined) (joined_by hs y.joined) each.0 (peer-join hs xs y.joined stand)
+    settled
 
 pub promises : FollowsLaw → DeterminesLaw → HeadlineLaw → SettledLaw → Freshness → PromisesLaw
 promises follows tells headline settled fresh steps are later typed genuine =

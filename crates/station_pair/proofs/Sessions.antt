@@ -1,4 +1,5 @@
--- One session over a network that carries what the programs give it: what arrives at an end was made by the other, call by call.
+-- One session over a network that carries what the programs give it: what arrives at an end was made by the other, call
+-- by call.
 use Rattle.std.proofs.Common.{◌≡◌, ℕ, true, None, Ok, Err, List, [], ◌∷◌, ◌++◌, refl, sym, ap, ◌∙◌, subst, inl, inr}
 use Rattle.std.specs.List.{AllByRecursion}
 use Rattle.channels.specs.ChannelHistory.{SentDatagram}
@@ -32,15 +33,18 @@ use Rattle.end_for_callers.specs.CallResults.{IsAccepted}
 use Rattle.station_pair.specs.Steps.{AreSteps, Called, Held, Opens, Programs, Pulls, Step, Takes, after_call, events_of, popped_items, new_held}
 
 -- what was given at a station brings parts that its end made
-given-brings : (h : Held) (y : EndState) (octets : List ℕ) → HeldStands h y → IsGiven octets h.pulled → Brings (Known y) octets
+given-brings : (h : Held) (y : EndState) (octets : List ℕ) → HeldStands h y → IsGiven octets h.pulled
+    → Brings (Known y) octets
 given-brings h y octets stands given =
     let Q = λ (x : SentDatagram). Brings (Known y) x.1 in
     let waiting = (outbox_of h.station).queue.waiting in
-    let all = folds-all Q (told_of nothing_sent) (told_of (all_sent h)) [] (h.pulled ++ waiting) (sendings y.settings 0 y.machine.made) stands.sent.each refl refl
+    let all = folds-all Q (told_of nothing_sent) (told_of (all_sent h)) [] (h.pulled ++ waiting)
+    (sendings y.settings 0 y.machine.made) stands.sent.each refl refl
     tt (sendings-bring y.settings (Known y) 0 y.machine.made (λ n texts made. made)) in
     pick h.pulled given (all-parts Q h.pulled waiting all).0
   where
-    pick : (xs : List SentDatagram) → IsGiven octets xs → AllByRecursion (λ (x : SentDatagram). Brings (Known y) x.1) xs → Brings (Known y) octets
+    pick : (xs : List SentDatagram) → IsGiven octets xs → AllByRecursion (λ (x : SentDatagram). Brings (Known y) x.1) xs
+        → Brings (Known y) octets
     pick [] among all = absurd among
     pick (x ∷ xs) (inl e) all = subst (Brings (Known y)) (sym e) all.0
     pick (x ∷ xs) (inr among) all = pick xs among all.1
@@ -52,11 +56,13 @@ comes (Put kind payload now) k y stands given = tt
 comes (InitDone now) k y stands given = tt
 comes (Tick now) k y stands given = tt
 
-known-more : (t : Turn Inside) (y z : EndState) (ps : List Part) → LeadsByTurn t y z → AllByRecursion (Known y) ps → AllByRecursion (Known z) ps
+known-more : (t : Turn Inside) (y z : EndState) (ps : List Part) → LeadsByTurn t y z → AllByRecursion (Known y) ps
+    → AllByRecursion (Known z) ps
 known-more t y z ps turned all =
     all-map (Known y) (Known z) (λ p known.
     subst (λ s. has_made (rule_of s) p.1 z.machine.made ≡ true) (sym turned.grew.settings)
-    (subst (λ ms. has_made (rule_of y.settings) p.1 ms ≡ true) (sym turned.grew.made) (made-more (rule_of y.settings) p.1 y.machine.made turned.grew.more known)))
+    (subst (λ ms. has_made (rule_of y.settings) p.1 ms ≡ true) (sym turned.grew.made)
+    (made-more (rule_of y.settings) p.1 y.machine.made turned.grew.more known)))
     ps all
 
 -- Two stations represent two ends, and what waits in the redundancy layer of each was made by the other.
@@ -68,9 +74,11 @@ record Both (h k : Held) (x y : EndState) : Type 0 where
   two_waits : AllByRecursion (Known x) y.red.waiting
 
 swap : (h k : Held) (x y : EndState) → Both h k x y → Both k h y x
-swap h k x y b = record { one = b.two; two = b.one; code = sym b.code; one_waits = b.two_waits; two_waits = b.one_waits }
+swap h k x y b =
+    record { one = b.two; two = b.one; code = sym b.code; one_waits = b.two_waits; two_waits = b.one_waits }
 
-both-called : TurnsLaw → OriginLaw → (c : Call) (o : Outcome) (h k : Held) (t : StationValue) (x y : EndState) → Both h k x y
+both-called : TurnsLaw → OriginLaw → (c : Call) (o : Outcome) (h k : Held) (t : StationValue) (x y : EndState)
+    → Both h k x y
     → IsAccepted c o h.station t → ArrivesCarried c (k ∷ []) → Both (after_call t (puts_in c) [] [] h) k (call c x) y
 both-called turns origin c o h k t x y b step given =
     let turned = turns c (inside h.station.end) x b.one.end.both in
@@ -84,7 +92,8 @@ both-called turns origin c o h k t x y b step given =
 
 -- what changes nothing of an end
 both-kept : (h l k : Held) (x y : EndState) → (HeldStands h x → HeldStands l x) → Both h k x y → Both l k x y
-both-kept h l k x y keep b = record { one = keep b.one; two = b.two; code = b.code; one_waits = b.one_waits; two_waits = b.two_waits }
+both-kept h l k x y keep b =
+    record { one = keep b.one; two = b.two; code = b.code; one_waits = b.one_waits; two_waits = b.two_waits }
 
 abbrev pair : Held → Held → Programs
 pair h k = record { ils = h ∷ []; fes = k ∷ [] }
@@ -92,7 +101,8 @@ pair h k = record { ils = h ∷ []; fes = k ∷ [] }
 abbrev world : EndState → JoinedEnd → World
 world x f = record { ils = x ∷ []; fes = f ∷ []; dead_il = 0; dead_fe = 0 }
 
-all-genuine : TurnsLaw → OriginLaw → (steps : List Step) (h k : Held) (x : EndState) (f : JoinedEnd) → Both h k x f.end → AreSteps steps (pair h k)
+all-genuine : TurnsLaw → OriginLaw → (steps : List Step) (h k : Held) (x : EndState) (f : JoinedEnd) → Both h k x f.end
+    → AreSteps steps (pair h k)
     → AllCarried steps (pair h k) → Genuine (events_of steps) (world x f)
 all-genuine turns origin [] h k x f b are carried = tt
 all-genuine turns origin (Opens side config first_sn rooms now (Ok s) ∷ steps) h k x f b are carried = absurd carried.0
@@ -105,17 +115,20 @@ all-genuine turns origin (Called Interlocking c (Ok o) t ∷ steps) h k x f b ar
     let none = call-accepted c h x b.one are.0.accepted in
     let more = all-genuine turns origin steps (after_call t (puts_in c) [] [] h) k (call c x) f next are.1 carried.1 in (
       λ _. genuine-call origin f.end c x b.code b.one_waits (comes c k f.end b.two carried.0),
-      subst (Genuine (events_of steps)) (sym (ap (λ r. unless_refused r (world x f) (change_world (Calls Il c) (world x f))) none)) more,
+      subst (Genuine (events_of steps)) (sym (ap
+          (λ r. unless_refused r (world x f) (change_world (Calls Il c) (world x f))) none)) more,
     )
 all-genuine turns origin (Called FieldElement c (Ok o) t ∷ steps) h k x f b are carried =
     let a = swap h k x f.end b in
     let next = both-called turns origin c o k h t f.end x a are.0 carried.0 in
     let none = call-accepted c k f.end b.two are.0.accepted in
     let g = with_joined (x ∷ []) f (call c f.end) in
-    let more = all-genuine turns origin steps h (after_call t (puts_in c) [] [] k) x g (swap (after_call t (puts_in c) [] [] k) h (call c f.end) x next) are.1
+    let more = all-genuine turns origin steps h (after_call t (puts_in c) [] [] k) x g
+    (swap (after_call t (puts_in c) [] [] k) h (call c f.end) x next) are.1
     carried.1 in (
       λ _. genuine-call origin x c f.end a.code a.one_waits (comes c h x b.one carried.0),
-      subst (Genuine (events_of steps)) (sym (ap (λ r. unless_refused r (world x f) (change_world (Calls Fe c) (world x f))) none)) more,
+      subst (Genuine (events_of steps)) (sym (ap
+          (λ r. unless_refused r (world x f) (change_world (Calls Fe c) (world x f))) none)) more,
     )
 all-genuine turns origin (Called Interlocking c (Err why) t ∷ steps) h k x f b are carried =
     let l = after_call t [] [] [] h in
@@ -126,14 +139,16 @@ all-genuine turns origin (Called FieldElement c (Err why) t ∷ steps) h k x f b
     all-genuine turns origin steps h l x f (swap l h f.end x a) are.1 carried.1
 all-genuine turns origin (Takes Interlocking buffer answer left t ∷ steps) h k x f b are carried =
     let l = after_call t [] (popped_items answer left) [] h in
-    all-genuine turns origin steps l k x f (both-kept h l k x f.end (taken-stands buffer answer left h t x are.0) b) are.1 carried.1
+    all-genuine turns origin steps l k x f (both-kept h l k x f.end (taken-stands buffer answer left h t x are.0) b)
+    are.1 carried.1
 all-genuine turns origin (Takes FieldElement buffer answer left t ∷ steps) h k x f b are carried =
     let l = after_call t [] (popped_items answer left) [] k in
     let a = both-kept k l h f.end x (taken-stands buffer answer left k t f.end are.0) (swap h k x f.end b) in
     all-genuine turns origin steps h l x f (swap l h f.end x a) are.1 carried.1
 all-genuine turns origin (Pulls Interlocking buffer answer left t ∷ steps) h k x f b are carried =
     let l = after_call t [] [] (popped_items answer left) h in
-    all-genuine turns origin steps l k x f (both-kept h l k x f.end (pulled-stands buffer answer left h t x are.0) b) are.1 carried.1
+    all-genuine turns origin steps l k x f (both-kept h l k x f.end (pulled-stands buffer answer left h t x are.0) b)
+    are.1 carried.1
 all-genuine turns origin (Pulls FieldElement buffer answer left t ∷ steps) h k x f b are carried =
     let l = after_call t [] [] (popped_items answer left) k in
     let a = both-kept k l h f.end x (pulled-stands buffer answer left k t f.end are.0) (swap h k x f.end b) in
@@ -158,7 +173,8 @@ carried turns origin fe il steps are code all =
     let second = list-opened Interlocking il.config il.first_sn il.rooms il.now il.station [] [] tt are.1.0 tt in
     let rest = all-genuine turns origin steps h k x (record { end = f; joined = None }) b are.1.1 all in
     let e2 = Open Il (settings_of il.config) il.first_sn il.now in
-    let after_two = subst (Genuine (events_of steps)) (sym (ap (λ r. unless_refused r w1 (change_world e2 w1)) second.0)) rest in (
+    let after_two = subst (Genuine (events_of steps))
+    (sym (ap (λ r. unless_refused r w1 (change_world e2 w1)) second.0)) rest in (
       λ _. tt,
       subst (Genuine (e2 ∷ events_of steps)) (sym (ap (λ r. unless_refused r start w1) first.0)) (λ _. tt, after_two),
     )

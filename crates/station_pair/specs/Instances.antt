@@ -21,7 +21,8 @@ second = (2, [])
 
 -- the promise is false of two programs with this station and these lists, those of the interlocking first
 abbrev pub IsRefused : StationValue → (put given other_put other_given : List Item) → Type 0
-IsRefused s put given other_put other_given = BothAgree (with_lists s put given ∷ []) (with_lists s other_put other_given ∷ []) → ⊥
+IsRefused s put given other_put other_given =
+    BothAgree (with_lists s put given ∷ []) (with_lists s other_put other_given ∷ []) → ⊥
 
 -- lists of which the promise is false
 pub record Instances (s : StationValue) : Type 0 where
@@ -36,6 +37,8 @@ pub record Instances (s : StationValue) : Type 0 where
   -- a status is skipped
   pub status_passed_over : IsRefused s [] (second ∷ []) (first ∷ second ∷ []) []
   -- settled, and a command that was put was neither given nor waits
-  pub not_there : is_settled (inside s.end) ≡ true → s.inbox.lost ≡ false → s.inbox.queue.waiting ≡ [] → IsRefused s (first ∷ []) [] [] []
+  pub not_there : is_settled (inside s.end) ≡ true → s.inbox.lost ≡ false → s.inbox.queue.waiting ≡ []
+      → IsRefused s (first ∷ []) [] [] []
   -- settled, and a status that was put was neither given nor waits
-  pub status_not_there : is_settled (inside s.end) ≡ true → s.inbox.lost ≡ false → s.inbox.queue.waiting ≡ [] → IsRefused s [] [] (first ∷ []) []
+  pub status_not_there : is_settled (inside s.end) ≡ true → s.inbox.lost ≡ false → s.inbox.queue.waiting ≡ []
+      → IsRefused s [] [] (first ∷ []) []

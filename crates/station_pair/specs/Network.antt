@@ -1,4 +1,5 @@
--- One session over a network that may lose, repeat, delay and reorder datagrams: conditions that both programs can observe.
+-- One session over a network that may lose, repeat, delay and reorder datagrams: conditions that both programs can
+-- observe.
 use Rattle.std.specs.Prelude.{◌≡◌, ℕ, ◌⊎◌, Ok, List, [], ◌∷◌}
 use Rattle.channels.specs.ChannelHistory.{SentDatagram}
 use Rattle.end_settings.specs.ConfigValue.{settings_of}
@@ -30,7 +31,8 @@ abbrev pub GivenBy : List ℕ → List Held → Type 0
 GivenBy octets [] = ⊥
 GivenBy octets (h ∷ before) = IsGiven octets h.pulled
 
--- a datagram that arrives was returned by `next_datagram` of the other side before, whole; on any channel, any number of times
+-- a datagram that arrives was returned by `next_datagram` of the other side before, whole; on any channel, any number
+-- of times
 abbrev pub ArrivesCarried : Call → List Held → Type 0
 ArrivesCarried (Deliver channel octets now) hs = GivenBy octets hs
 ArrivesCarried _ hs = Unit {0}
@@ -68,10 +70,12 @@ both_open fe il = record { ils = new_held il.station ∷ []; fes = new_held fe.s
 
 -- both have the same code length
 abbrev pub SameCode : StationOpening → StationOpening → Type 0
-SameCode fe il = code_octets (rule_of (settings_of fe.config)).length ≡ code_octets (rule_of (settings_of il.config)).length
+SameCode fe il =
+    code_octets (rule_of (settings_of fe.config)).length ≡ code_octets (rule_of (settings_of il.config)).length
 
 -- over such a network the premise genuine holds
 abbrev pub NetworkLaw : Type 0
 NetworkLaw =
-    (fe il : StationOpening) (steps : List Step) → AreSteps (session fe il steps) no_programs → SameCode fe il → AllCarried steps (both_open fe il)
+    (fe il : StationOpening) (steps : List Step) → AreSteps (session fe il steps) no_programs → SameCode fe il
+    → AllCarried steps (both_open fe il)
     → Genuine (events_of (session fe il steps)) start

@@ -37,7 +37,8 @@ pub record HeldStands (h : Held) (x : EndState) : Type 0 where
   pub seen : IsBeginning (seen_by h) (taken_at x)
   -- all of it, if no telegram was lost
   pub whole : h.station.inbox.lost ≡ false → seen_by h ≡ taken_at x
-  -- `next_datagram` returned, or still has, the datagrams that the end sent, in order, except those that are counted as not sent
+  -- `next_datagram` returned, or still has, the datagrams that the end sent, in order, except those that are counted as
+  -- not sent
   pub sent : Posted nothing_sent (sendings x.settings 0 x.machine.made) (all_sent h)
 
 -- each station represents its end

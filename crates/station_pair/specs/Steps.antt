@@ -84,7 +84,8 @@ add_opened (Err f) hs = hs
 
 -- a station after a call, with what was put, given and pulled
 abbrev pub after_call : StationValue → (put given : List Item) → (pulled : List SentDatagram) → Held → Held
-after_call t put given pulled h = record { station = t; put = h.put ++ put; given = h.given ++ given; pulled = h.pulled ++ pulled }
+after_call t put given pulled h =
+    record { station = t; put = h.put ++ put; given = h.given ++ given; pulled = h.pulled ++ pulled }
 
 -- the latest station after a call
 abbrev pub goes_on : StationValue → (put given : List Item) → (pulled : List SentDatagram) → List Held → List Held
@@ -95,8 +96,10 @@ goes_on t put given pulled (h ∷ before) = after_call t put given pulled h ∷ 
 abbrev pub held_after : Step → Programs → Programs
 held_after (Opens side config first_sn rooms now answer) p = with_held side (add_opened answer (stations_of side p)) p
 held_after (Called side c answer t) p = with_held side (goes_on t (puts_by answer c) [] [] (stations_of side p)) p
-held_after (Takes side buffer answer left t) p = with_held side (goes_on t [] (popped_items answer left) [] (stations_of side p)) p
-held_after (Pulls side buffer answer left t) p = with_held side (goes_on t [] [] (popped_items answer left) (stations_of side p)) p
+held_after (Takes side buffer answer left t) p =
+    with_held side (goes_on t [] (popped_items answer left) [] (stations_of side p)) p
+held_after (Pulls side buffer answer left t) p =
+    with_held side (goes_on t [] [] (popped_items answer left) (stations_of side p)) p
 
 -- the contracts allow every step of a list
 abbrev pub AreSteps : List Step → Programs → Type 0

@@ -14,7 +14,8 @@ SpellsAddresses own peer a = IsSocketText own a.own × IsSocketText peer a.peer
 -- the texts of each channel spell its addresses, in order
 abbrev pub AreSpelled : (own peer : List (List ℕ)) → List Addresses → Type 0
 AreSpelled [] [] all = all ≡ []
-AreSpelled (x ∷ own) (y ∷ peer) all = (a : Addresses) × (rest : List Addresses) × (all ≡ a ∷ rest) × SpellsAddresses x y a × AreSpelled own peer rest
+AreSpelled (x ∷ own) (y ∷ peer) all =
+    (a : Addresses) × (rest : List Addresses) × (all ≡ a ∷ rest) × SpellsAddresses x y a × AreSpelled own peer rest
 AreSpelled [] (y ∷ peer) all = ⊥
 AreSpelled (x ∷ own) [] all = ⊥
 
@@ -24,11 +25,12 @@ IsUnreadAt channel own peer why =
     (is_own : Bool) × (why ≡ Address (record { channel = channel; is_own = is_own }))
     × ((a : SocketAddr) → ¬ IsSocketText (if is_own then own else peer) a)
 
--- why a list of addresses, whose first is that of this channel, is not read: no memory, or a text of the first channel that has one that is not an
--- address
+-- why a list of addresses, whose first is that of this channel, is not read: no memory, or a text of the first channel
+-- that has one that is not an address
 abbrev pub IsUnread : ℕ → (own peer : List (List ℕ)) → UdpFault → Type 0
 IsUnread channel (x ∷ own) (y ∷ peer) why =
-    (why ≡ Memory) ⊎ (IsUnreadAt channel x y why ⊎ (((a : Addresses) × SpellsAddresses x y a) × IsUnread (channel + 1) own peer why))
+    (why ≡ Memory) ⊎ (IsUnreadAt channel x y why ⊎ (((a : Addresses) × SpellsAddresses x y a)
+    × IsUnread (channel + 1) own peer why))
 IsUnread channel [] peer why = ⊥
 IsUnread channel (x ∷ own) [] why = ⊥
 
@@ -36,12 +38,16 @@ IsUnread channel (x ∷ own) [] why = ⊥
 abbrev pub IsRefusedAt : ℕ → UdpFault → Type 0
 IsRefusedAt channel why = (refusal : Refusal) × (why ≡ Bind refusal) × (refusal.channel ≡ channel)
 
--- why sockets at these addresses, the first of the channel of this number, are not bound: no memory, or the system refuses the socket of one
+-- why sockets at these addresses, the first of the channel of this number, are not bound: no memory, or the system
+-- refuses the socket of one
 abbrev pub IsUnbound : ℕ → List Addresses → UdpFault → Type 0
 IsUnbound channel [] why = ⊥
-IsUnbound channel (a ∷ addresses) why = (why ≡ Memory) ⊎ (IsRefusedAt channel why ⊎ IsUnbound (channel + 1) addresses why)
+IsUnbound channel (a ∷ addresses) why =
+    (why ≡ Memory) ⊎ (IsRefusedAt channel why ⊎ IsUnbound (channel + 1) addresses why)
 
--- why channels are not opened between paired lists: no memory, a text that is not an address, or, if all are addresses, a refused socket
+-- why channels are not opened between paired lists: no memory, a text that is not an address, or, if all are addresses,
+-- a refused socket
 abbrev pub IsRefusal : (own peer : List (List ℕ)) → UdpFault → Type 0
 IsRefusal own peer why =
-    (why ≡ Memory) ⊎ (IsUnread 1 own peer why ⊎ ((all : List Addresses) × AreSpelled own peer all × IsUnbound 1 all why))
+    (why ≡ Memory) ⊎ (IsUnread 1 own peer why ⊎ ((all : List Addresses) × AreSpelled own peer all
+    × IsUnbound 1 all why))

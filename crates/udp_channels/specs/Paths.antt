@@ -25,7 +25,8 @@ whole_send_result (Ok size) whole = if size == whole then Ok tt else Err (record
 whole_send_result (Err why) whole = Err (fault_of why)
 
 -- a send on a path
-pub record SendsToPeer {T : Type 0} (sends_to : T → List ℕ → SocketAddr → Result ℕ Error → T → Type 0) (path : Path T) (datagram : List ℕ) (sent : Result (Unit {0}) CallFault) (left : Path T) : Type 0 where
+pub record SendsToPeer {T : Type 0} (sends_to : T → List ℕ → SocketAddr → Result ℕ Error → T
+    → Type 0) (path : Path T) (datagram : List ℕ) (sent : Result (Unit {0}) CallFault) (left : Path T) : Type 0 where
   -- what the system gave for it
   pub given : Result ℕ Error
   -- its socket makes one call, with the datagram and the peer's address
@@ -40,13 +41,16 @@ abbrev pub given_octets : Result (ℕ × SocketAddr) Error → List ℕ → List
 given_octets (Ok (size, sender)) buffer = take size buffer
 given_octets (Err why) buffer = []
 
--- a datagram of any sender came; nothing came if the call would have waited; any other error is a refusal, with that error
+-- a datagram of any sender came; nothing came if the call would have waited; any other error is a refusal, with that
+-- error
 abbrev pub IsReception : Result (ℕ × SocketAddr) Error → Reception → Type 0
 IsReception (Ok (size, sender)) reception = reception ≡ Came size
-IsReception (Err why) reception = (error_kind why ≡ WouldBlock → reception ≡ Nothing) × (error_kind why ≢ WouldBlock → reception ≡ Refused (fault_of why))
+IsReception (Err why) reception = (error_kind why ≡ WouldBlock → reception ≡ Nothing)
+    × (error_kind why ≢ WouldBlock → reception ≡ Refused (fault_of why))
 
 -- a reception on a path
-pub record ReceivesFromAny {T : Type 0} (gives : T → ℕ → Result (ℕ × SocketAddr) Error → List ℕ → T → Type 0) (path : Path T) (room : ℕ) (reception : Reception) (octets : List ℕ) (left : Path T) : Type 0 where
+pub record ReceivesFromAny {T : Type 0} (gives : T → ℕ → Result (ℕ × SocketAddr) Error → List ℕ → T
+    → Type 0) (path : Path T) (room : ℕ) (reception : Reception) (octets : List ℕ) (left : Path T) : Type 0 where
   -- what the system gave
   pub given : Result (ℕ × SocketAddr) Error
   -- its socket makes one call, with the whole buffer
@@ -56,7 +60,8 @@ pub record ReceivesFromAny {T : Type 0} (gives : T → ℕ → Result (ℕ × So
   -- the addresses stay
   pub addresses : left.addresses ≡ path.addresses
 
--- the channels of these addresses, in order: each has a socket that was bound at the own address, and nothing has failed
+-- the channels of these addresses, in order: each has a socket that was bound at the own address, and nothing has
+-- failed
 abbrev pub AreBound : {T : Type 0} → (T → SocketAddr → Type 0) → List Addresses → List (ChannelState (Path T)) → Type 0
 AreBound is_bound [] channels = channels ≡ []
 AreBound {T} is_bound (a ∷ addresses) channels =

@@ -214,7 +214,7 @@ impl<S, A: Allocator> SocketChannels<S, A> {
     }
 
     /// Returns how many datagrams were received, modulo 2^64. If none came in a turn, it is time to wait.
-    pub fn received(&self) -> u64
+    pub fn received_count(&self) -> u64
         // The result is the count of datagrams received.
         ensures { result ≡ self.now.received }
     {

@@ -8,24 +8,29 @@ pub blocks-2-preserved : goal.blocks-2-preserved
 blocks-2-preserved c =
     let at : 64 * c.blocks-2.i ≡ c.blocks-2.i * 64 = omega arith in
     let width : 64 * c.blocks-2.i + 64 - 64 * c.blocks-2.i ≡ 64 = omega arith in
-    c.take_in.ensures ∙ rw (width, at, c.blocks-2.invariant) (sym (words_after-next c.args.iv c.blocks-2.i c.args.octets.now))
+    c.take_in.ensures ∙ rw (width, at, c.blocks-2.invariant)
+    (sym (words_after-next c.args.iv c.blocks-2.i c.args.octets.now))
 
 pub returns-then-behind : goal.returns-then-behind
 returns-then-behind c =
     let whole : c.blocks-2.i ≡ length c.args.octets.now / 64 = omega arith in
     let at : 64 * (length c.args.octets.now / 64) ≡ length c.args.octets.now / 64 * 64 = omega arith in
-    let taken : c.blocks-2.words ≡ words_after c.args.iv (length c.args.octets.now / 64) c.args.octets.now = rw (← whole) c.blocks-2.invariant in
+    let taken : c.blocks-2.words ≡ words_after c.args.iv (length c.args.octets.now / 64) c.args.octets.now = rw
+    (← whole) c.blocks-2.invariant in
     rw c.take_in-then-behind.ensures
     (digest_by_one c.args.iv c.args.octets.now c.blocks-2.words _ _ taken
-    (take_rest c.args.octets.now (64 * (length c.args.octets.now / 64)) ∙ ap (λ (n : ℕ). drop n c.args.octets.now) at) c.if-behind.true
-    (rw (← c.begun.ensures) c.closed.ensures))
+    (take_rest c.args.octets.now (64 * (length c.args.octets.now / 64)) ∙ ap (λ (n : ℕ). drop n c.args.octets.now) at)
+    c.if-behind.true
+    (rw (← c.begun.ensures) c.with_bit_count.ensures))
 
 pub returns-else-behind : goal.returns-else-behind
 returns-else-behind c =
     let whole : c.blocks-2.i ≡ length c.args.octets.now / 64 = omega arith in
     let at : 64 * (length c.args.octets.now / 64) ≡ length c.args.octets.now / 64 * 64 = omega arith in
-    let taken : c.blocks-2.words ≡ words_after c.args.iv (length c.args.octets.now / 64) c.args.octets.now = rw (← whole) c.blocks-2.invariant in
+    let taken : c.blocks-2.words ≡ words_after c.args.iv (length c.args.octets.now / 64) c.args.octets.now = rw
+    (← whole) c.blocks-2.invariant in
     rw (c.take_in-else-behind-2.ensures, c.take_in-else-behind.ensures)
     (digest_by_two c.args.iv c.args.octets.now c.blocks-2.words _ _ _ taken
-    (take_rest c.args.octets.now (64 * (length c.args.octets.now / 64)) ∙ ap (λ (n : ℕ). drop n c.args.octets.now) at) c.if-behind.false
-    c.begun-else-behind.ensures c.closed-else-behind.ensures)
+    (take_rest c.args.octets.now (64 * (length c.args.octets.now / 64)) ∙ ap (λ (n : ℕ). drop n c.args.octets.now) at)
+    c.if-behind.false
+    c.begun-else-behind.ensures c.with_bit_count-else-behind.ensures)

@@ -36,24 +36,32 @@ one_completion t other = rw other refl
 pub kind_said : (t : Tele) (n : Notice) → form_of t.kind t.payload ≡ Notifies n → t.kind ≡ kind_of n
 kind_said t n says = subst (FormKind t.kind) says (form_kind t.kind t.payload)
 
-pub uncounted : (t : Tele) (n : Notice) → form_of t.kind t.payload ≡ Notifies n → (kind_of n == INITIALISATION_COMPLETED) ≡ false → completions (t ∷ []) ≡ 0
+pub uncounted : (t : Tele) (n : Notice) → form_of t.kind t.payload ≡ Notifies n
+    → (kind_of n == INITIALISATION_COMPLETED) ≡ false → completions (t ∷ []) ≡ 0
 uncounted t n says other = one_completion t (ap (λ k. k == INITIALISATION_COMPLETED) (kind_said t n says) ∙ other)
 
 pub counted : (t : Tele) → form_of t.kind t.payload ≡ Notifies notice.InitialisationCompleted → completions (t ∷ []) ≡ 1
-counted t says = let is : (t.kind == INITIALISATION_COMPLETED) ≡ true = ap (λ k. k == INITIALISATION_COMPLETED) (kind_said t notice.InitialisationCompleted says) in rw is refl
+counted t says = let is : (t.kind == INITIALISATION_COMPLETED) ≡ true =
+    ap (λ k. k == INITIALISATION_COMPLETED) (kind_said t notice.InitialisationCompleted says) in rw is refl
 
 -- a message type that is not reserved is not that of the end of the initialisation
 pub unreserved : (kind : ℕ) → is_reserved kind ≡ false → (kind == INITIALISATION_COMPLETED) ≡ false
-unreserved kind free = by_bool (λ b. (kind == INITIALISATION_COMPLETED) ≡ b → b ≡ false) (kind == INITIALISATION_COMPLETED) (λ e same. absurd (true≢false (sym (ap is_reserved (eqb-true kind INITIALISATION_COMPLETED e)) ∙ free))) (λ e same. refl) refl
+unreserved kind free = by_bool (λ b. (kind == INITIALISATION_COMPLETED) ≡ b
+    → b ≡ false) (kind == INITIALISATION_COMPLETED)
+    (λ e same. absurd (true≢false (sym (ap is_reserved (eqb-true kind INITIALISATION_COMPLETED e)) ∙ free)))
+    (λ e same. refl) refl
 
 pub item_uncounted : (t : Tele) → is_reserved t.kind ≡ false → completions (t ∷ []) ≡ 0
 item_uncounted t free = one_completion t (unreserved t.kind free)
 
-told_more : (version : ℕ) (judge_telegram more : List Tele) → Told version judge_telegram → Told version (judge_telegram ++ more)
-told_more version judge_telegram more told = record { first = told.first; others = told.others ++ more; is = ap (λ xs. xs ++ more) told.is; says = told.says }
+told_more : (version : ℕ) (judge_telegram more : List Tele) → Told version judge_telegram
+    → Told version (judge_telegram ++ more)
+told_more version judge_telegram more told =
+    record { first = told.first; others = told.others ++ more; is = ap (λ xs. xs ++ more) told.is; says = told.says }
 
 -- more was judged, and nothing was added
-asked_more : (version : ℕ) (s : SessionState) (queue js more : List Tele) → Asked version s queue js → Asked version s (queue ++ []) (js ++ more)
+asked_more : (version : ℕ) (s : SessionState) (queue js more : List Tele) → Asked version s queue js
+    → Asked version s (queue ++ []) (js ++ more)
 asked_more version s queue js more asked =
     record {
       commands = asked.commands;
@@ -64,19 +72,25 @@ asked_more version s queue js more asked =
           (omega (arith, before.0, length-append js more), omega (arith, before.1, completions-append js more));
     }
 
-il_past_more : (version : ℕ) (s : SessionState) (queue js more : List Tele) → IlPast version s queue js → IlPast version s (queue ++ []) (js ++ more)
+il_past_more : (version : ℕ) (s : SessionState) (queue js more : List Tele) → IlPast version s queue js
+    → IlPast version s (queue ++ []) (js ++ more)
 il_past_more version s queue js more past =
-    ⊎_elim (λ none. inl (append-nil queue ∙ none)) (λ some. inr (⊎_elim (λ one. inl (append-nil queue ∙ one)) (λ asked. inr (asked_more version s queue js more asked)) some)) past
+    ⊎_elim (λ none. inl (append-nil queue ∙ none))
+    (λ some. inr (⊎_elim (λ one. inl (append-nil queue ∙ one))
+    (λ asked. inr (asked_more version s queue js more asked)) some)) past
 
 -- the state after a verdict
 abbrev pub IlThen : ℕ → SessionState → List Tele → List Tele → Phase → Verdict → Type 0
 IlThen version s queue js phase verdict = IlAt version (base s) (phase_by phase verdict) (queue ++ sent_by s verdict) js
 
-il_still : (version : ℕ) (s : SessionState) (phase : Phase) (queue js : List Tele) → IlAt version s phase queue js → IlAt version s phase (queue ++ []) (js ++ [])
+il_still : (version : ℕ) (s : SessionState) (phase : Phase) (queue js : List Tele) → IlAt version s phase queue js
+    → IlAt version s phase (queue ++ []) (js ++ [])
 il_still version s phase queue js at =
-    subst (λ x. IlAt version s phase x (js ++ [])) (sym (append-nil queue)) (subst (λ x. IlAt version s phase queue x) (sym (append-nil js)) at)
+    subst (λ x. IlAt version s phase x (js ++ [])) (sym (append-nil queue))
+    (subst (λ x. IlAt version s phase queue x) (sym (append-nil js)) at)
 
-il_up : (version : ℕ) (s : SessionState) (queue js : List Tele) (phase : Phase) → IlAt version (base s) phase queue js → IlThen version s queue (js ++ []) phase (interlocking_up version phase)
+il_up : (version : ℕ) (s : SessionState) (queue js : List Tele) (phase : Phase) → IlAt version (base s) phase queue js
+    → IlThen version s queue (js ++ []) phase (interlocking_up version phase)
 il_up version s queue js Idle at = (ap (λ xs. xs ++ check_from version s ∷ []) at.0, append-nil js ∙ at.1)
 il_up version s queue js Checking at = il_still version (base s) Checking queue js at
 il_up version s queue js Requesting at = il_still version (base s) Requesting queue js at
@@ -87,7 +101,8 @@ il_up version s queue js Initialising at = il_still version (base s) Initialisin
 il_up version s queue js Established at = il_still version (base s) Established queue js at
 il_up version s queue js Ended at = il_still version (base s) Ended queue js at
 
-il_equal : (version : ℕ) (s : SessionState) (queue js : List Tele) (t : Tele) → form_of t.kind t.payload ≡ Notifies (notice.VersionEqual version) → IlAt version s Checking queue js
+il_equal : (version : ℕ) (s : SessionState) (queue js : List Tele) (t : Tele)
+    → form_of t.kind t.payload ≡ Notifies (notice.VersionEqual version) → IlAt version s Checking queue js
     → IlRequesting version s (queue ++ request_from s ∷ []) (js ++ t ∷ [])
 il_equal version s queue js t says at =
     record {
@@ -108,9 +123,11 @@ told_open version js told one = by told.others told.is
   where
     by : (others : List Tele) → js ≡ told.first ∷ others → completions js ≡ 0
     by [] is = ap completions is ∙ uncounted told.first (notice.VersionEqual version) told.says refl
-    by (other ∷ others) is = let long : length js ≡ suc (suc (length others)) = ap length is in absurd (omega (arith, long, one))
+    by (other ∷ others) is = let long : length js ≡ suc (suc (length others)) =
+        ap length is in absurd (omega (arith, long, one))
 
-il_begins : (version : ℕ) (s : SessionState) (queue js : List Tele) (t : Tele) → form_of t.kind t.payload ≡ Notifies notice.StartInitialisation → IlAt version s Requesting queue js
+il_begins : (version : ℕ) (s : SessionState) (queue js : List Tele) (t : Tele)
+    → form_of t.kind t.payload ≡ Notifies notice.StartInitialisation → IlAt version s Requesting queue js
     → IlInitialising version s (queue ++ []) (js ++ t ∷ [])
 unfolding asked_more
 il_begins version s queue js t says at =
@@ -118,10 +135,12 @@ il_begins version s queue js t says at =
       asked = asked_more version s queue js (t ∷ []) at.asked;
       none = at.none;
       some = omega (arith, at.one, length-append js (t ∷ []));
-      unfinished = completions-append js (t ∷ []) ∙ omega (arith, told_open version js at.asked.told at.one, uncounted t notice.StartInitialisation says refl);
+      unfinished = completions-append js (t ∷ [])
+          ∙ omega (arith, told_open version js at.asked.told at.one, uncounted t notice.StartInitialisation says refl);
     }
 
-il_initial : (version : ℕ) (s : SessionState) (queue js : List Tele) (t : Tele) → form_of t.kind t.payload ≡ Item → IlAt version s Initialising queue js
+il_initial : (version : ℕ) (s : SessionState) (queue js : List Tele) (t : Tele) → form_of t.kind t.payload ≡ Item
+    → IlAt version s Initialising queue js
     → IlInitialising version s (queue ++ []) (js ++ t ∷ [])
 unfolding asked_more
 il_initial version s queue js t says at =
@@ -129,10 +148,12 @@ il_initial version s queue js t says at =
       asked = asked_more version s queue js (t ∷ []) at.asked;
       none = at.none;
       some = omega (arith, at.some, length-append js (t ∷ []));
-      unfinished = completions-append js (t ∷ []) ∙ omega (arith, at.unfinished, item_uncounted t (item_of_form t.kind t.payload says));
+      unfinished = completions-append js (t ∷ [])
+          ∙ omega (arith, at.unfinished, item_uncounted t (item_of_form t.kind t.payload says));
     }
 
-il_done : (version : ℕ) (s : SessionState) (queue js : List Tele) (t : Tele) → form_of t.kind t.payload ≡ Notifies notice.InitialisationCompleted → IlAt version s Initialising queue js
+il_done : (version : ℕ) (s : SessionState) (queue js : List Tele) (t : Tele)
+    → form_of t.kind t.payload ≡ Notifies notice.InitialisationCompleted → IlAt version s Initialising queue js
     → IlEstablished version s (queue ++ []) (js ++ t ∷ [])
 il_done version s queue js t says at =
     record {
@@ -141,48 +162,69 @@ il_done version s queue js t says at =
       done = completions-append js (t ∷ []) ∙ omega (arith, at.unfinished, counted t says);
     }
 
-il_status : (version : ℕ) (s : SessionState) (queue js : List Tele) (t : Tele) → form_of t.kind t.payload ≡ Item → IlAt version s Established queue js
+il_status : (version : ℕ) (s : SessionState) (queue js : List Tele) (t : Tele) → form_of t.kind t.payload ≡ Item
+    → IlAt version s Established queue js
     → IlEstablished version s (queue ++ []) (js ++ t ∷ [])
 il_status version s queue js t says at =
     record {
       asked = asked_more version s queue js (t ∷ []) at.asked;
       some = omega (arith, at.some, length-append js (t ∷ []));
-      done = completions-append js (t ∷ []) ∙ omega (arith, at.done, item_uncounted t (item_of_form t.kind t.payload says));
+      done =
+          completions-append js (t ∷ []) ∙ omega (
+            arith,
+            at.done,
+            item_uncounted t (item_of_form t.kind t.payload says),
+          );
     }
 
-il_by_row : (version : ℕ) (s : SessionState) (queue js : List Tele) (t : Tele) (verdict : Verdict) → InterlockingRow version s.phase (form_of t.kind t.payload) verdict
+il_by_row : (version : ℕ) (s : SessionState) (queue js : List Tele) (t : Tele) (verdict : Verdict)
+    → InterlockingRow version s.phase (form_of t.kind t.payload) verdict
     → IlAt version (base s) s.phase queue js → IlThen version s queue (js ++ t ∷ []) s.phase verdict
 il_by_row version s queue js t verdict (IlOver why e) at =
-    subst (IlThen version s queue (js ++ t ∷ []) s.phase) (sym e) (il_past_more version (base s) queue js (t ∷ []) (il_past version (base s) s.phase queue js at))
+    subst (IlThen version s queue (js ++ t ∷ []) s.phase) (sym e)
+    (il_past_more version (base s) queue js (t ∷ []) (il_past version (base s) s.phase queue js at))
 il_by_row version s queue js t verdict (IlEqual p f e) at =
-    subst (IlThen version s queue (js ++ t ∷ []) s.phase) (sym e) (il_equal version (base s) queue js t f (subst (λ x. IlAt version (base s) x queue js) p at))
+    subst (IlThen version s queue (js ++ t ∷ []) s.phase) (sym e)
+    (il_equal version (base s) queue js t f (subst (λ x. IlAt version (base s) x queue js) p at))
 il_by_row version s queue js t verdict (IlBegins p f e) at =
-    subst (IlThen version s queue (js ++ t ∷ []) s.phase) (sym e) (il_begins version (base s) queue js t f (subst (λ x. IlAt version (base s) x queue js) p at))
+    subst (IlThen version s queue (js ++ t ∷ []) s.phase) (sym e)
+    (il_begins version (base s) queue js t f (subst (λ x. IlAt version (base s) x queue js) p at))
 il_by_row version s queue js t verdict (IlInitial p f e) at =
     subst (IlThen version s queue (js ++ t ∷ []) s.phase) (sym e)
-    (subst (λ x. IlAt version (base s) x (queue ++ []) (js ++ t ∷ [])) (sym p) (il_initial version (base s) queue js t f (subst (λ x. IlAt version (base s) x queue js) p at)))
+    (subst (λ x. IlAt version (base s) x (queue ++ []) (js ++ t ∷ [])) (sym p)
+    (il_initial version (base s) queue js t f (subst (λ x. IlAt version (base s) x queue js) p at)))
 il_by_row version s queue js t verdict (IlDone p f e) at =
-    subst (IlThen version s queue (js ++ t ∷ []) s.phase) (sym e) (il_done version (base s) queue js t f (subst (λ x. IlAt version (base s) x queue js) p at))
+    subst (IlThen version s queue (js ++ t ∷ []) s.phase) (sym e)
+    (il_done version (base s) queue js t f (subst (λ x. IlAt version (base s) x queue js) p at))
 il_by_row version s queue js t verdict (IlStatus p f e) at =
     subst (IlThen version s queue (js ++ t ∷ []) s.phase) (sym e)
-    (subst (λ x. IlAt version (base s) x (queue ++ []) (js ++ t ∷ [])) (sym p) (il_status version (base s) queue js t f (subst (λ x. IlAt version (base s) x queue js) p at)))
+    (subst (λ x. IlAt version (base s) x (queue ++ []) (js ++ t ∷ [])) (sym p)
+    (il_status version (base s) queue js t f (subst (λ x. IlAt version (base s) x queue js) p at)))
 
 -- the row of an interlocking's decision
-pub il_row : (version : ℕ) (s : SessionState) (t : Tele) → s.role ≡ Interlocking version → InterlockingRow version s.phase (form_of t.kind t.payload) (judge_telegram s t)
+pub il_row : (version : ℕ) (s : SessionState) (t : Tele) → s.role ≡ Interlocking version
+    → InterlockingRow version s.phase (form_of t.kind t.payload) (judge_telegram s t)
 il_row version s t role =
     by_cond (InterlockingRow version s.phase (form_of t.kind t.payload)) (is_addressed s.addressing t) _ _
-    (λ _. subst (λ r. InterlockingRow version s.phase (form_of t.kind t.payload) (table r s.phase (form_of t.kind t.payload))) (sym role) (interlocking_row version s.phase (form_of t.kind t.payload)))
+    (λ _. subst (λ r. InterlockingRow version s.phase (form_of t.kind t.payload)
+    (table r s.phase (form_of t.kind t.payload))) (sym role)
+    (interlocking_row version s.phase (form_of t.kind t.payload)))
     (λ _. IlOver detail.NotOfThisPair refl)
 
 -- the phases with puts
-pub open_by_tests : (a b c d : Bool) → is_none (cond (not a) (Some fault.NotEstablished) (cond b (Some fault.Full) (cond c (Some fault.ReservedType) (cond d (Some fault.TooLong) None)))) ≡ true → (a ≡ true) × (c ≡ false)
+pub open_by_tests : (a b c d : Bool) → is_none
+    (cond (not a) (Some fault.NotEstablished)
+    (cond b (Some fault.Full) (cond c (Some fault.ReservedType) (cond d (Some fault.TooLong) None)))) ≡ true
+    → (a ≡ true) × (c ≡ false)
 open_by_tests true false false d none = (refl, refl)
 open_by_tests true false true d none = absurd (true≢false (sym none))
 open_by_tests true true c d none = absurd (true≢false (sym none))
 open_by_tests false b c d none = absurd (true≢false (sym none))
 
-pub put_open : (s : SessionState) (kind : ℕ) (payload : List ℕ) (waits : ℕ) → is_none (put_refusal s kind payload waits) ≡ true → (may_put s.role s.phase ≡ true) × (is_reserved kind ≡ false)
-put_open s kind payload waits none = open_by_tests (may_put s.role s.phase) (nat_le WAITING_MAX waits) (is_reserved kind) (nat_lt PAYLOAD_MAX (length payload)) none
+pub put_open : (s : SessionState) (kind : ℕ) (payload : List ℕ) (waits : ℕ)
+    → is_none (put_refusal s kind payload waits) ≡ true → (may_put s.role s.phase ≡ true) × (is_reserved kind ≡ false)
+put_open s kind payload waits none = open_by_tests (may_put s.role s.phase) (nat_le WAITING_MAX waits)
+    (is_reserved kind) (nat_lt PAYLOAD_MAX (length payload)) none
 
 pub il_may_put : (version : ℕ) (phase : Phase) → may_put (Interlocking version) phase ≡ true → phase ≡ Established
 il_may_put version Idle may = absurd (false≢true may)
@@ -206,14 +248,17 @@ il_no_init version Initialising = refl
 il_no_init version Established = refl
 il_no_init version Ended = refl
 
-il_puts : (version : ℕ) (s : SessionState) (queue js : List Tele) (kind : ℕ) (payload : List ℕ) → is_reserved kind ≡ false → IlAt version s Established queue js
+il_puts : (version : ℕ) (s : SessionState) (queue js : List Tele) (kind : ℕ) (payload : List ℕ)
+    → is_reserved kind ≡ false → IlAt version s Established queue js
     → IlEstablished version s (queue ++ telegram s.addressing kind payload ∷ []) (js ++ [])
 il_puts version s queue js kind payload free at =
     record {
       asked = record {
         commands = at.asked.commands ++ telegram s.addressing kind payload ∷ [];
         is = ap (λ xs. xs ++ telegram s.addressing kind payload ∷ []) at.asked.is;
-        each = All-append (IsItem s) at.asked.commands (telegram s.addressing kind payload ∷ []) at.asked.each ((free, refl), tt);
+        each =
+            All-append (IsItem s) at.asked.commands (telegram s.addressing kind payload ∷ []) at.asked.each
+            ((free, refl), tt);
         told = told_more version js [] at.asked.told;
         late = λ _. (omega (arith, at.some, length-append js []), omega (arith, at.done, completions-append js []));
       };
@@ -221,12 +266,16 @@ il_puts version s queue js kind payload free at =
       done = omega (arith, at.done, completions-append js []);
     }
 
-pub il_step : (version : ℕ) (e : Event) (s : SessionState) (queue js : List Tele) → s.role ≡ Interlocking version → IlAt version (base s) s.phase queue js
+pub il_step : (version : ℕ) (e : Event) (s : SessionState) (queue js : List Tele) → s.role ≡ Interlocking version
+    → IlAt version (base s) s.phase queue js
     → IlAt version (base s) (phase_after e s) (queue ++ added_by e s) (js ++ handed_by e)
-il_step version Up s queue js role at = subst (λ r. IlThen version s queue (js ++ []) s.phase (at_up r s.phase)) (sym role) (il_up version s queue js s.phase at)
-il_step version (Arrives t) s queue js role at = il_by_row version s queue js t (judge_telegram s t) (il_row version s t role) at
+il_step version Up s queue js role at = subst (λ r. IlThen version s queue (js ++ []) s.phase (at_up r s.phase))
+    (sym role) (il_up version s queue js s.phase at)
+il_step version (Arrives t) s queue js role at =
+    il_by_row version s queue js t (judge_telegram s t) (il_row version s t role) at
 il_step version (Puts kind payload waits) s queue js role at =
-    by_cond (λ x. IlAt version (base s) s.phase (queue ++ x) (js ++ [])) (is_none (put_refusal s kind payload waits)) _ _
+    by_cond (λ x. IlAt version (base s) s.phase (queue ++ x) (js ++ [])) (is_none (put_refusal s kind payload waits)) _
+    _
     (λ none.
     let may = put_open s kind payload waits none in
     let now : s.phase ≡ Established = il_may_put version s.phase (ap (λ r. may_put r s.phase) (sym role) ∙ may.0) in
@@ -234,6 +283,8 @@ il_step version (Puts kind payload waits) s queue js role at =
     (il_puts version (base s) queue js kind payload may.1 (subst (λ p. IlAt version (base s) p queue js) now at)))
     (λ _. il_still version (base s) s.phase queue js at)
 il_step version (InitDone waits) s queue js role at =
-    let no : is_initialising s.role s.phase ≡ false = ap (λ r. is_initialising r s.phase) role ∙ il_no_init version s.phase in
+    let no : is_initialising s.role s.phase ≡ false = ap (λ r. is_initialising r s.phase) role
+    ∙ il_no_init version s.phase in
     rw no (il_still version (base s) s.phase queue js at)
-il_step version Closes s queue js role at = il_past_more version (base s) queue js [] (il_past version (base s) s.phase queue js at)
+il_step version Closes s queue js role at =
+    il_past_more version (base s) queue js [] (il_past version (base s) s.phase queue js at)

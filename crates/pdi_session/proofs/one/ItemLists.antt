@@ -27,7 +27,8 @@ pub items-append : (xs ys : List Tele) → items_of (xs ++ ys) ≡ items_of xs +
 items-append [] ys = refl
 items-append (x ∷ xs) ys =
     let rest : items_of (xs ++ ys) ≡ items_of xs ++ items_of ys = items-append xs ys in
-    by_cond (λ out. cond (is_reserved x.kind) (items_of (xs ++ ys)) (item_of x ∷ items_of (xs ++ ys)) ≡ out ++ items_of ys) (is_reserved x.kind) _ _
+    by_cond (λ out. cond (is_reserved x.kind) (items_of (xs ++ ys)) (item_of x ∷ items_of (xs ++ ys))
+    ≡ out ++ items_of ys) (is_reserved x.kind) _ _
     (λ is. rw is rest) (λ is. rw is (ap (λ zs. item_of x ∷ zs) rest))
 
 reserved-none : (xs : List Tele) → AreReserved xs → items_of xs ≡ []
@@ -40,7 +41,9 @@ items-added Up s = reserved-none (added_by Up s) (own_law s).0
 items-added (Arrives t) s = reserved-none (added_by (Arrives t) s) ((own_law s).2 t)
 items-added (Puts kind payload waits) s = one (put_refusal s kind payload waits) refl
   where
-    one : (r : Option PutFault) → put_refusal s kind payload waits ≡ r → items_of (cond (is_none r) (telegram s.addressing kind payload ∷ []) []) ≡ cond (is_none r) ((kind, payload) ∷ []) []
+    one : (r : Option PutFault) → put_refusal s kind payload waits ≡ r
+        → items_of (cond (is_none r) (telegram s.addressing kind payload ∷ []) [])
+        ≡ cond (is_none r) ((kind, payload) ∷ []) []
     one None e = rw (put_law s kind payload waits e).0 refl
     one (Some fault) e = refl
 items-added (InitDone waits) s = reserved-none (added_by (InitDone waits) s) ((own_law s).1 waits)
@@ -50,10 +53,12 @@ abbrev pub PutIsQueue : History → Type 0
 PutIsQueue h = items_of h.queue ≡ h.put
 
 pub put_grows : (e : Event) (h : History) → PutIsQueue h → PutIsQueue (add_event e h)
-put_grows e h is = items-append h.queue (added_by e h.state) ∙ ap (λ xs. xs ++ items_of (added_by e h.state)) is ∙ ap (λ xs. h.put ++ xs) (items-added e h.state)
+put_grows e h is = items-append h.queue (added_by e h.state) ∙ ap (λ xs. xs ++ items_of (added_by e h.state)) is
+    ∙ ap (λ xs. h.put ++ xs) (items-added e h.state)
 
 -- a fact that each event keeps holds after a list of events
-pub along : (P : History → Type 0) → ((e : Event) (h : History) → P h → P (add_event e h)) → (es : List Event) (h : History) → P h → P (add_events es h)
+pub along : (P : History → Type 0) → ((e : Event) (h : History) → P h → P (add_event e h))
+    → (es : List Event) (h : History) → P h → P (add_events es h)
 along P step [] h p = p
 along P step (e ∷ es) h p = along P step es (add_event e h) (step e h p)
 
@@ -66,10 +71,12 @@ pub record Taken (h : History) : Type 0 where
   pub whole : is_ended h.state.phase ≡ false → h.taken ≡ items_of h.judged
 
 -- what a telegram adds to both lists, by the decision on it
-taken_whole : (t : Tele) (verdict : Verdict) → Outcome t verdict → (phase : Phase) → is_ended (phase_by phase verdict) ≡ false → taken_as t verdict ≡ items_of (t ∷ [])
+taken_whole : (t : Tele) (verdict : Verdict) → Outcome t verdict → (phase : Phase)
+    → is_ended (phase_by phase verdict) ≡ false → taken_as t verdict ≡ items_of (t ∷ [])
 taken_whole t verdict (Closed why e) phase on = absurd (true≢false (sym (ap (λ v. is_ended (phase_by phase v)) e) ∙ on))
 taken_whole t verdict (Went n f next e) phase on = ap (taken_as t) e ∙ sym (rw (reserved_of t.kind t.payload n f) refl)
-taken_whole t verdict (Answered n f next answer e) phase on = ap (taken_as t) e ∙ sym (rw (reserved_of t.kind t.payload n f) refl)
+taken_whole t verdict (Answered n f next answer e) phase on =
+    ap (taken_as t) e ∙ sym (rw (reserved_of t.kind t.payload n f) refl)
 taken_whole t verdict (Took f e) phase on = ap (taken_as t) e ∙ sym (rw (item_of_form t.kind t.payload f) refl)
 
 begins_by : (t : Tele) (verdict : Verdict) → Outcome t verdict → IsBeginning (taken_as t verdict) (items_of (t ∷ []))
@@ -94,10 +101,15 @@ table_over : (role : Role) (form : Form) → table role Ended form ≡ Ends deta
 table_over (Interlocking version) form = refl
 table_over (Field versions checksum) form = refl
 
-pub judged_over : (s : SessionState) (t : Tele) → s.phase ≡ Ended → (why : SessionDetail) × (judge_telegram s t ≡ Ends why)
+pub judged_over : (s : SessionState) (t : Tele) → s.phase ≡ Ended → (why : SessionDetail)
+    × (judge_telegram s t ≡ Ends why)
 judged_over s t over =
     by_cond (λ v. (why : SessionDetail) × (v ≡ Ends why)) (is_addressed s.addressing t) _ _
-    (λ _. (detail.OutOfOrder, ap (λ p. table s.role p (form_of t.kind t.payload)) over ∙ table_over s.role (form_of t.kind t.payload)))
+    (λ _. (
+      detail.OutOfOrder,
+      ap (λ p. table s.role p (form_of t.kind t.payload)) over
+          ∙ table_over s.role (form_of t.kind t.payload),
+    ))
     (λ _. (detail.NotOfThisPair, refl))
 
 up_over : (role : Role) → phase_by Ended (at_up role Ended) ≡ Ended
@@ -127,13 +139,20 @@ on_before e s on = by (is_ended s.phase) refl
     by true is = absurd (true≢false (sym (ap is_ended (phase_over e s (is_over s.phase is))) ∙ on))
 
 begins_more : (a b c : List Item) → IsBeginning a b → IsBeginning (a ++ []) (b ++ c)
-begins_more a b c front = (front.0 ++ c, ap (λ xs. xs ++ (front.0 ++ c)) (append-nil a) ∙ sym (append_assoc a front.0 c) ∙ ap (λ xs. xs ++ c) front.1)
+begins_more a b c front = (
+  front.0 ++ c,
+  ap (λ xs. xs ++ (front.0 ++ c)) (append-nil a) ∙ sym (append_assoc a front.0 c)
+      ∙ ap (λ xs. xs ++ c) front.1,
+)
 
 begins_after : (a b c d : List Item) → a ≡ b → IsBeginning c d → IsBeginning (a ++ c) (b ++ d)
-begins_after a b c d same front = (front.0, append_assoc a c front.0 ∙ ap (λ xs. a ++ xs) front.1 ∙ ap (λ xs. xs ++ d) same)
+begins_after a b c d same front =
+    (front.0, append_assoc a c front.0 ∙ ap (λ xs. a ++ xs) front.1 ∙ ap (λ xs. xs ++ d) same)
 
-taken_front : (t : Tele) (h : History) → Taken h → (b : Bool) → is_ended h.state.phase ≡ b → IsBeginning (h.taken ++ taken_as t (judge_telegram h.state t)) (items_of h.judged ++ items_of (t ∷ []))
-taken_front t h taken false on = begins_after h.taken (items_of h.judged) _ _ (taken.whole on) (begins_by t (judge_telegram h.state t) (outcome h.state t))
+taken_front : (t : Tele) (h : History) → Taken h → (b : Bool) → is_ended h.state.phase ≡ b
+    → IsBeginning (h.taken ++ taken_as t (judge_telegram h.state t)) (items_of h.judged ++ items_of (t ∷ []))
+taken_front t h taken false on = begins_after h.taken (items_of h.judged) _ _ (taken.whole on)
+    (begins_by t (judge_telegram h.state t) (outcome h.state t))
 taken_front t h taken true over =
     let end = judged_over h.state t (is_over h.state.phase over) in
     rw end.1 (begins_more h.taken (items_of h.judged) (items_of (t ∷ [])) taken.front)
@@ -142,18 +161,25 @@ taken_front t h taken true over =
 still : (e : Event) (h : History) → taken_by e h.state ≡ [] → handed_by e ≡ [] → Taken h → Taken (add_event e h)
 still e h none silent taken =
     record {
-      front = (taken.front.0, rw (none, silent) (ap (λ xs. xs ++ taken.front.0) (append-nil h.taken) ∙ taken.front.1 ∙ ap items_of (sym (append-nil h.judged))));
-      whole = λ on. rw (none, silent) (append-nil h.taken ∙ taken.whole (on_before e h.state on) ∙ ap items_of (sym (append-nil h.judged)));
+      front = (
+        taken.front.0,
+        rw (none, silent) (ap (λ xs. xs ++ taken.front.0) (append-nil h.taken) ∙ taken.front.1
+            ∙ ap items_of (sym (append-nil h.judged))),
+      );
+      whole = λ on. rw (none, silent) (append-nil h.taken ∙ taken.whole (on_before e h.state on)
+          ∙ ap items_of (sym (append-nil h.judged)));
     }
 
 pub taken_grows : (e : Event) (h : History) → Taken h → Taken (add_event e h)
 taken_grows Up h taken = still Up h refl refl taken
 taken_grows (Arrives t) h taken =
     record {
-      front = subst (IsBeginning (h.taken ++ taken_as t (judge_telegram h.state t))) (sym (items-append h.judged (t ∷ []))) (taken_front t h taken (is_ended h.state.phase) refl);
+      front = subst (IsBeginning (h.taken ++ taken_as t (judge_telegram h.state t)))
+          (sym (items-append h.judged (t ∷ []))) (taken_front t h taken (is_ended h.state.phase) refl);
       whole = λ on.
           ap (λ xs. xs ++ taken_as t (judge_telegram h.state t)) (taken.whole (on_before (Arrives t) h.state on))
-          ∙ ap (λ xs. items_of h.judged ++ xs) (taken_whole t (judge_telegram h.state t) (outcome h.state t) h.state.phase on) ∙ sym (items-append h.judged (t ∷ []));
+          ∙ ap (λ xs. items_of h.judged ++ xs) (taken_whole t (judge_telegram h.state t) (outcome h.state t)
+          h.state.phase on) ∙ sym (items-append h.judged (t ∷ []));
     }
 taken_grows (Puts kind payload waits) h taken = still (Puts kind payload waits) h refl refl taken
 taken_grows (InitDone waits) h taken = still (InitDone waits) h refl refl taken

@@ -18,24 +18,32 @@ use Rattle.pdi_session.proofs.one.ItemLists.{phase_over}
 use Rattle.pdi_session.proofs.two.JointSteps.{ended_by, phase_by_end}
 
 -- no event leads back before Initialising
-il_back : (own : ℕ) (phase : Phase) (form : Form) (v : Verdict) → InterlockingRow own phase form v → is_early (phase_by phase v) ≡ true → is_early phase ≡ true
-il_back own phase form v (IlOver why e) early = absurd (false≢true (sym (ap (λ w. is_early (phase_by phase w)) e) ∙ early))
+il_back : (own : ℕ) (phase : Phase) (form : Form) (v : Verdict) → InterlockingRow own phase form v
+    → is_early (phase_by phase v) ≡ true → is_early phase ≡ true
+il_back own phase form v (IlOver why e) early =
+    absurd (false≢true (sym (ap (λ w. is_early (phase_by phase w)) e) ∙ early))
 il_back own phase form v (IlEqual p f e) early = ap is_early p
 il_back own phase form v (IlBegins p f e) early = ap is_early p
 il_back own phase form v (IlInitial p f e) early = sym (ap (λ w. is_early (phase_by phase w)) e) ∙ early
-il_back own phase form v (IlDone p f e) early = absurd (false≢true (sym (ap (λ w. is_early (phase_by phase w)) e) ∙ early))
+il_back own phase form v (IlDone p f e) early =
+    absurd (false≢true (sym (ap (λ w. is_early (phase_by phase w)) e) ∙ early))
 il_back own phase form v (IlStatus p f e) early = sym (ap (λ w. is_early (phase_by phase w)) e) ∙ early
 
-fe_back : (versions : List ℕ) (phase : Phase) (form : Form) (v : Verdict) → FieldRow versions phase form v → is_early (phase_by phase v) ≡ true → is_early phase ≡ true
-fe_back versions phase form v (FeOver why e) early = absurd (false≢true (sym (ap (λ w. is_early (phase_by phase w)) e) ∙ early))
+fe_back : (versions : List ℕ) (phase : Phase) (form : Form) (v : Verdict) → FieldRow versions phase form v
+    → is_early (phase_by phase v) ≡ true → is_early phase ≡ true
+fe_back versions phase form v (FeOver why e) early =
+    absurd (false≢true (sym (ap (λ w. is_early (phase_by phase w)) e) ∙ early))
 fe_back versions phase form v (FeEqual version p f e) early = ap is_early p
 fe_back versions phase form v (FeDiffers version p f e) early = ap is_early p
 fe_back versions phase form v (FeAsked p f e) early = ap is_early p
 fe_back versions phase form v (FeCommand p f e) early = sym (ap (λ w. is_early (phase_by phase w)) e) ∙ early
 
-table_back : (role : Role) (phase : Phase) (form : Form) → is_early (phase_by phase (table role phase form)) ≡ true → is_early phase ≡ true
-table_back (Interlocking version) phase form early = il_back version phase form _ (interlocking_row version phase form) early
-table_back (Field versions checksum) phase form early = fe_back versions phase form _ (field_row versions phase form) early
+table_back : (role : Role) (phase : Phase) (form : Form) → is_early (phase_by phase (table role phase form)) ≡ true
+    → is_early phase ≡ true
+table_back (Interlocking version) phase form early =
+    il_back version phase form _ (interlocking_row version phase form) early
+table_back (Field versions checksum) phase form early =
+    fe_back versions phase form _ (field_row versions phase form) early
 
 up_back : (role : Role) (phase : Phase) → is_early (phase_by phase (at_up role phase)) ≡ true → is_early phase ≡ true
 up_back (Interlocking version) Idle early = refl
@@ -64,7 +72,8 @@ early_back (Arrives t) s early =
     (λ _ k. table_back s.role s.phase (form_of t.kind t.payload) k) (λ _ k. absurd (false≢true k)) early
 early_back (Puts kind payload waits) s early = early
 early_back (InitDone waits) s early =
-    by_cond (λ p. is_early p ≡ true → is_early s.phase ≡ true) (is_none (init_refusal s waits)) _ _ (λ _ k. absurd (false≢true k)) (λ _ k. k) early
+    by_cond (λ p. is_early p ≡ true → is_early s.phase ≡ true) (is_none (init_refusal s waits)) _ _
+    (λ _ k. absurd (false≢true k)) (λ _ k. k) early
 early_back Closes s early = absurd (false≢true early)
 
 -- nothing is put in a phase without puts
@@ -113,12 +122,15 @@ own_grows e h o =
     record {
       early = λ early.
           let before = early_back e h.state early in
-          none_more h.put (put_by e h.state) (o.early before) (shut_puts e h.state (early_shut h.state.role h.state.phase before));
+          none_more h.put (put_by e h.state) (o.early before)
+          (shut_puts e h.state (early_shut h.state.role h.state.phase before));
       ended = ended_by (λ phase. is_early phase ≡ true → h.put ++ put_by e h.state ≡ []) e h
           (λ t same fails early. none_more h.put (put_by e h.state) (o.early early) (ap (λ f. put_by f h.state) same))
-          (λ phase is early. none_more h.put (put_by e h.state) (o.ended phase is early) (shut_puts e h.state (ap (may_put h.state.role) (o.over phase is) ∙ over_shut h.state.role)));
+          (λ phase is early. none_more h.put (put_by e h.state) (o.ended phase is early)
+          (shut_puts e h.state (ap (may_put h.state.role) (o.over phase is) ∙ over_shut h.state.role)));
       over = ended_by (λ _. phase_after e h.state ≡ Ended) e h
-          (λ t same fails. ap (λ f. phase_after f h.state) same ∙ phase_by_end h.state.phase (judge_telegram h.state t) fails)
+          (λ t same fails. ap (λ f. phase_after f h.state) same
+          ∙ phase_by_end h.state.phase (judge_telegram h.state t) fails)
           (λ phase is. phase_over e h.state (o.over phase is));
     }
 
@@ -132,4 +144,8 @@ nothing_some phase e = cc
 pub own_early_law : OwnEarlyLaw
 own_early_law addressing role es =
     (own_along es (new_history addressing role)
-    (record { early = λ _. refl; ended = λ phase is early. refl; over = λ phase is. absurd (nothing_some phase is) })).ended
+    (record {
+      early = λ _. refl;
+      ended = λ phase is early. refl;
+      over = λ phase is. absurd (nothing_some phase is);
+    })).ended

@@ -27,32 +27,42 @@ use Rattle.pdi_session.proofs.one.Rows.{InterlockingRow, IlOver, IlEqual, IlBegi
 pub data Outcome (t : Tele) (verdict : Verdict) : Type 0 where
   Closed : (why : SessionDetail) → verdict ≡ Ends why → Outcome t verdict
   Went : (n : Notice) → form_of t.kind t.payload ≡ Notifies n → (next : Phase) → verdict ≡ Goes next → Outcome t verdict
-  Answered : (n : Notice) → form_of t.kind t.payload ≡ Notifies n → (next : Phase) → (answer : Notice) → verdict ≡ Answers next answer → Outcome t verdict
+  Answered : (n : Notice) → form_of t.kind t.payload ≡ Notifies n → (next : Phase) → (answer : Notice)
+      → verdict ≡ Answers next answer → Outcome t verdict
   Took : form_of t.kind t.payload ≡ Item → verdict ≡ Takes → Outcome t verdict
 
-of_interlocking : (t : Tele) (own : ℕ) (phase : Phase) (verdict : Verdict) → InterlockingRow own phase (form_of t.kind t.payload) verdict → Outcome t verdict
+of_interlocking : (t : Tele) (own : ℕ) (phase : Phase) (verdict : Verdict)
+    → InterlockingRow own phase (form_of t.kind t.payload) verdict → Outcome t verdict
 of_interlocking t own phase verdict (IlOver why e) = Closed why e
-of_interlocking t own phase verdict (IlEqual p f e) = Answered (notice.VersionEqual own) f Requesting notice.InitialisationRequest e
+of_interlocking t own phase verdict (IlEqual p f e) =
+    Answered (notice.VersionEqual own) f Requesting notice.InitialisationRequest e
 of_interlocking t own phase verdict (IlBegins p f e) = Went notice.StartInitialisation f Initialising e
 of_interlocking t own phase verdict (IlInitial p f e) = Took f e
 of_interlocking t own phase verdict (IlDone p f e) = Went notice.InitialisationCompleted f Established e
 of_interlocking t own phase verdict (IlStatus p f e) = Took f e
 
-of_field : (t : Tele) (versions : List ℕ) (phase : Phase) (verdict : Verdict) → FieldRow versions phase (form_of t.kind t.payload) verdict → Outcome t verdict
+of_field : (t : Tele) (versions : List ℕ) (phase : Phase) (verdict : Verdict)
+    → FieldRow versions phase (form_of t.kind t.payload) verdict → Outcome t verdict
 of_field t versions phase verdict (FeOver why e) = Closed why e
-of_field t versions phase verdict (FeEqual version p f e) = Answered (notice.VersionCheck version) f AwaitRequest (notice.VersionEqual version) e
+of_field t versions phase verdict (FeEqual version p f e) =
+    Answered (notice.VersionCheck version) f AwaitRequest (notice.VersionEqual version) e
 of_field t versions phase verdict (FeDiffers version p f e) = Answered (notice.VersionCheck version) f Refused _ e
-of_field t versions phase verdict (FeAsked p f e) = Answered notice.InitialisationRequest f Initialising notice.StartInitialisation e
+of_field t versions phase verdict (FeAsked p f e) =
+    Answered notice.InitialisationRequest f Initialising notice.StartInitialisation e
 of_field t versions phase verdict (FeCommand p f e) = Took f e
 
 of_table : (t : Tele) (role : Role) (phase : Phase) → Outcome t (table role phase (form_of t.kind t.payload))
-of_table t (Interlocking version) phase = of_interlocking t version phase _ (interlocking_row version phase (form_of t.kind t.payload))
-of_table t (Field versions checksum) phase = of_field t versions phase _ (field_row versions phase (form_of t.kind t.payload))
+of_table t (Interlocking version) phase =
+    of_interlocking t version phase _ (interlocking_row version phase (form_of t.kind t.payload))
+of_table t (Field versions checksum) phase =
+    of_field t versions phase _ (field_row versions phase (form_of t.kind t.payload))
 
 pub outcome : (s : SessionState) (t : Tele) → Outcome t (judge_telegram s t)
-outcome s t = by_cond (Outcome t) (is_addressed s.addressing t) _ _ (λ _. of_table t s.role s.phase) (λ _. Closed detail.NotOfThisPair refl)
+outcome s t = by_cond (Outcome t) (is_addressed s.addressing t) _ _ (λ _. of_table t s.role s.phase)
+    (λ _. Closed detail.NotOfThisPair refl)
 
-takes_by : (t : Tele) (verdict : Verdict) → Outcome t verdict → taken_as t verdict ≢ [] → (is_reserved t.kind ≡ false) × (taken_as t verdict ≡ item_of t ∷ [])
+takes_by : (t : Tele) (verdict : Verdict) → Outcome t verdict → taken_as t verdict ≢ [] → (is_reserved t.kind ≡ false)
+    × (taken_as t verdict ≡ item_of t ∷ [])
 takes_by t verdict (Closed why e) some = absurd (some (ap (taken_as t) e))
 takes_by t verdict (Went n f next e) some = absurd (some (ap (taken_as t) e))
 takes_by t verdict (Answered n f next answer e) some = absurd (some (ap (taken_as t) e))
@@ -73,7 +83,8 @@ sent_reserved s (Goes next) = none_reserved
 sent_reserved s (Answers next n) = one_reserved s n
 sent_reserved s (Ends why) = none_reserved
 
-goes_by : (t : Tele) (verdict : Verdict) → Outcome t verdict → end_of verdict ≡ None → taken_as t verdict ≡ [] → is_reserved t.kind ≡ true
+goes_by : (t : Tele) (verdict : Verdict) → Outcome t verdict → end_of verdict ≡ None → taken_as t verdict ≡ []
+    → is_reserved t.kind ≡ true
 goes_by t verdict (Closed why e) on none = let over : Some why ≡ None = sym (ap end_of e) ∙ on in cc
 goes_by t verdict (Went n f next e) on none = reserved_of t.kind t.payload n f
 goes_by t verdict (Answered n f next answer e) on none = reserved_of t.kind t.payload n f
@@ -83,20 +94,27 @@ pub goes_law : GoesLaw
 goes_law s t on none = (goes_by t (judge_telegram s t) (outcome s t) on none, sent_reserved s (judge_telegram s t))
 
 own_done : (s : SessionState) (waits : ℕ) → AreReserved (added_by (InitDone waits) s)
-own_done s waits = by_cond AreReserved (is_none (init_refusal s waits)) _ _ (λ _. sent_reserved s at_init_done) (λ _. none_reserved)
+own_done s waits =
+    by_cond AreReserved (is_none (init_refusal s waits)) _ _ (λ _. sent_reserved s at_init_done) (λ _. none_reserved)
 
 pub own_law : OwnLaw
 own_law s = (sent_reserved s _, own_done s, λ t. sent_reserved s (judge_telegram s t))
 
 put_by_tests : (s : SessionState) (kind : ℕ) (payload : List ℕ) (a b c d : Bool) → is_reserved kind ≡ c
-    → cond (not a) (Some fault.NotEstablished) (cond b (Some fault.Full) (cond c (Some fault.ReservedType) (cond d (Some fault.TooLong) None))) ≡ None → is_reserved kind ≡ false
+    → cond (not a) (Some fault.NotEstablished)
+    (cond b (Some fault.Full) (cond c (Some fault.ReservedType) (cond d (Some fault.TooLong) None))) ≡ None
+    → is_reserved kind ≡ false
 put_by_tests s kind payload true false false d is none = is
 put_by_tests s kind payload true false true d is none = cc
 put_by_tests s kind payload true true c d is none = cc
 put_by_tests s kind payload false b c d is none = cc
 
 pub put_law : PutLaw
-put_law s kind payload waits none = (put_by_tests s kind payload (may_put s.role s.phase) (nat_le WAITING_MAX waits) (is_reserved kind) (nat_lt _ (length payload)) refl none, rw none refl)
+put_law s kind payload waits none = (
+  put_by_tests s kind payload (may_put s.role s.phase) (nat_le WAITING_MAX waits) (is_reserved kind)
+      (nat_lt _ (length payload)) refl none,
+  rw none refl,
+)
 
 early_room : (phase : Phase) → is_early phase ≡ true → most_waiting phase < WAITING_MAX
 early_room Idle is = omega arith
@@ -110,4 +128,8 @@ early_room Established is = absurd (false≢true is)
 early_room Ended is = absurd (false≢true is)
 
 pub room_law : RoomLaw
-room_law = (λ addressing role. omega arith, λ s waiting few is. (let early = early_room s.phase is in omega (arith, few)), λ s gone waiting few. omega (arith, few, length-append gone waiting))
+room_law = (
+  λ addressing role. omega arith,
+  λ s waiting few is. (let early = early_room s.phase is in omega (arith, few)),
+  λ s gone waiting few. omega (arith, few, length-append gone waiting),
+)

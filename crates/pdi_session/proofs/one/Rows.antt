@@ -21,24 +21,35 @@ use Rattle.pdi_session.proofs.one.TableLemmas.{by_cond}
 -- the rows of the interlocking: the phase and the form of each verdict
 pub data InterlockingRow (own : ℕ) (phase : Phase) (form : Form) (verdict : Verdict) : Type 0 where
   IlOver : (why : SessionDetail) → verdict ≡ Ends why → InterlockingRow own phase form verdict
-  IlEqual : phase ≡ Checking → form ≡ Notifies (notice.VersionEqual own) → verdict ≡ Answers Requesting notice.InitialisationRequest → InterlockingRow own phase form verdict
-  IlBegins : phase ≡ Requesting → form ≡ Notifies notice.StartInitialisation → verdict ≡ Goes Initialising → InterlockingRow own phase form verdict
+  IlEqual : phase ≡ Checking → form ≡ Notifies (notice.VersionEqual own)
+      → verdict ≡ Answers Requesting notice.InitialisationRequest → InterlockingRow own phase form verdict
+  IlBegins : phase ≡ Requesting → form ≡ Notifies notice.StartInitialisation → verdict ≡ Goes Initialising
+      → InterlockingRow own phase form verdict
   IlInitial : phase ≡ Initialising → form ≡ Item → verdict ≡ Takes → InterlockingRow own phase form verdict
-  IlDone : phase ≡ Initialising → form ≡ Notifies notice.InitialisationCompleted → verdict ≡ Goes Established → InterlockingRow own phase form verdict
+  IlDone : phase ≡ Initialising → form ≡ Notifies notice.InitialisationCompleted → verdict ≡ Goes Established
+      → InterlockingRow own phase form verdict
   IlStatus : phase ≡ Established → form ≡ Item → verdict ≡ Takes → InterlockingRow own phase form verdict
 
 -- the rows of the field element
 pub data FieldRow (versions : List ℕ) (phase : Phase) (form : Form) (verdict : Verdict) : Type 0 where
   FeOver : (why : SessionDetail) → verdict ≡ Ends why → FieldRow versions phase form verdict
-  FeEqual : (version : ℕ) → phase ≡ AwaitCheck → form ≡ Notifies (notice.VersionCheck version) → verdict ≡ Answers AwaitRequest (notice.VersionEqual version) → FieldRow versions phase form verdict
-  FeDiffers : (version : ℕ) → phase ≡ AwaitCheck → form ≡ Notifies (notice.VersionCheck version) → verdict ≡ Answers Refused (notice.VersionDiffers (first_version versions)) → FieldRow versions phase form verdict
-  FeAsked : phase ≡ AwaitRequest → form ≡ Notifies notice.InitialisationRequest → verdict ≡ Answers Initialising notice.StartInitialisation → FieldRow versions phase form verdict
+  FeEqual : (version : ℕ) → phase ≡ AwaitCheck → form ≡ Notifies (notice.VersionCheck version)
+      → verdict ≡ Answers AwaitRequest (notice.VersionEqual version) → FieldRow versions phase form verdict
+  FeDiffers : (version : ℕ) → phase ≡ AwaitCheck → form ≡ Notifies (notice.VersionCheck version)
+      → verdict ≡ Answers Refused (notice.VersionDiffers (first_version versions))
+      → FieldRow versions phase form verdict
+  FeAsked : phase ≡ AwaitRequest → form ≡ Notifies notice.InitialisationRequest
+      → verdict ≡ Answers Initialising notice.StartInitialisation → FieldRow versions phase form verdict
   FeCommand : phase ≡ Established → form ≡ Item → verdict ≡ Takes → FieldRow versions phase form verdict
 
-pub interlocking_row : (own : ℕ) (phase : Phase) (form : Form) → InterlockingRow own phase form (interlocking_table own phase form)
+pub interlocking_row : (own : ℕ) (phase : Phase) (form : Form)
+    → InterlockingRow own phase form (interlocking_table own phase form)
 interlocking_row own Idle form = IlOver detail.OutOfOrder refl
 interlocking_row own Checking (Notifies (notice.VersionCheck version)) = IlOver detail.OutOfOrder refl
-interlocking_row own Checking (Notifies (notice.VersionEqual version)) = by_cond (InterlockingRow own Checking (Notifies (notice.VersionEqual version))) (version == own) _ _ (λ e. IlEqual refl (ap (λ v. Notifies (notice.VersionEqual v)) (eqb-true version own e)) refl) (λ _. IlOver detail.OutOfOrder refl)
+interlocking_row own Checking (Notifies (notice.VersionEqual version)) =
+    by_cond (InterlockingRow own Checking (Notifies (notice.VersionEqual version))) (version == own) _ _
+    (λ e. IlEqual refl (ap (λ v. Notifies (notice.VersionEqual v)) (eqb-true version own e)) refl)
+    (λ _. IlOver detail.OutOfOrder refl)
 interlocking_row own Checking (Notifies (notice.VersionDiffers version)) = IlOver detail.VersionDiffers refl
 interlocking_row own Checking (Notifies notice.InitialisationRequest) = IlOver detail.OutOfOrder refl
 interlocking_row own Checking (Notifies notice.StartInitialisation) = IlOver detail.OutOfOrder refl
@@ -74,11 +85,15 @@ interlocking_row own Established Item = IlStatus refl refl refl
 interlocking_row own Established OtherPayload = IlOver detail.OutOfOrder refl
 interlocking_row own Ended form = IlOver detail.OutOfOrder refl
 
-pub field_row : (versions : List ℕ) (phase : Phase) (form : Form) → FieldRow versions phase form (field_table versions phase form)
+pub field_row : (versions : List ℕ) (phase : Phase) (form : Form)
+    → FieldRow versions phase form (field_table versions phase form)
 field_row versions Idle form = FeOver detail.OutOfOrder refl
 field_row versions Checking form = FeOver detail.OutOfOrder refl
 field_row versions Requesting form = FeOver detail.OutOfOrder refl
-field_row versions AwaitCheck (Notifies (notice.VersionCheck version)) = by_cond (FieldRow versions AwaitCheck (Notifies (notice.VersionCheck version))) (list_any (λ v. v == version) versions) _ _ (λ _. FeEqual version refl refl refl) (λ _. FeDiffers version refl refl refl)
+field_row versions AwaitCheck (Notifies (notice.VersionCheck version)) =
+    by_cond (FieldRow versions AwaitCheck (Notifies (notice.VersionCheck version)))
+    (list_any (λ v. v == version) versions) _ _ (λ _. FeEqual version refl refl refl)
+    (λ _. FeDiffers version refl refl refl)
 field_row versions AwaitCheck (Notifies (notice.VersionEqual version)) = FeOver detail.OutOfOrder refl
 field_row versions AwaitCheck (Notifies (notice.VersionDiffers version)) = FeOver detail.OutOfOrder refl
 field_row versions AwaitCheck (Notifies notice.InitialisationRequest) = FeOver detail.OutOfOrder refl
@@ -123,20 +138,28 @@ answer_kind (result ∷ []) = refl
 answer_kind (result ∷ version ∷ []) = refl
 answer_kind (result ∷ version ∷ size ∷ checksum) =
     by_cond (FormKind VERSION_ANSWER) (nat_le size CHECKSUM_MAX && length checksum == size) _ _
-    (λ _. by_cond (FormKind VERSION_ANSWER) (result == EQUAL) _ _ (λ _. refl) (λ _. by_cond (FormKind VERSION_ANSWER) (result == DIFFERENT) _ _ (λ _. refl) (λ _. refl)))
+    (λ _. by_cond (FormKind VERSION_ANSWER) (result == EQUAL) _ _ (λ _. refl)
+    (λ _. by_cond (FormKind VERSION_ANSWER) (result == DIFFERENT) _ _ (λ _. refl) (λ _. refl)))
     (λ _. refl)
 
-bare_kind : (n : Notice) (payload : List ℕ) → is_reserved (kind_of n) ≡ true → FormKind (kind_of n) (bare_form n payload)
+bare_kind : (n : Notice) (payload : List ℕ) → is_reserved (kind_of n) ≡ true
+    → FormKind (kind_of n) (bare_form n payload)
 bare_kind n [] is = refl
 bare_kind n (octet ∷ payload) is = is
 
 pub form_kind : (kind : ℕ) (payload : List ℕ) → FormKind kind (form_of kind payload)
 form_kind kind payload =
-    by_cond (FormKind kind) (kind == VERSION_CHECK) _ _ (λ e. rw (eqb-true kind VERSION_CHECK e) (check_kind payload)) (λ a.
-    by_cond (FormKind kind) (kind == VERSION_ANSWER) _ _ (λ e. rw (eqb-true kind VERSION_ANSWER e) (answer_kind payload)) (λ b.
-    by_cond (FormKind kind) (kind == INITIALISATION_REQUEST) _ _ (λ e. rw (eqb-true kind INITIALISATION_REQUEST e) (bare_kind notice.InitialisationRequest payload refl)) (λ c.
-    by_cond (FormKind kind) (kind == START_INITIALISATION) _ _ (λ e. rw (eqb-true kind START_INITIALISATION e) (bare_kind notice.StartInitialisation payload refl)) (λ d.
-    by_cond (FormKind kind) (kind == INITIALISATION_COMPLETED) _ _ (λ e. rw (eqb-true kind INITIALISATION_COMPLETED e) (bare_kind notice.InitialisationCompleted payload refl)) (λ e.
+    by_cond (FormKind kind) (kind == VERSION_CHECK) _ _ (λ e. rw (eqb-true kind VERSION_CHECK e) (check_kind payload))
+    (λ a.
+    by_cond (FormKind kind) (kind == VERSION_ANSWER) _ _
+    (λ e. rw (eqb-true kind VERSION_ANSWER e) (answer_kind payload)) (λ b.
+    by_cond (FormKind kind) (kind == INITIALISATION_REQUEST) _ _
+    (λ e. rw (eqb-true kind INITIALISATION_REQUEST e) (bare_kind notice.InitialisationRequest payload refl)) (λ c.
+    by_cond (FormKind kind) (kind == START_INITIALISATION) _ _
+    (λ e. rw (eqb-true kind START_INITIALISATION e) (bare_kind notice.StartInitialisation payload refl)) (λ d.
+    by_cond (FormKind kind) (kind == INITIALISATION_COMPLETED) _ _
+    (λ e. rw (eqb-true kind INITIALISATION_COMPLETED e) (bare_kind notice.InitialisationCompleted payload refl))
+    (λ e.
     rw (a, b, c, d, e) refl)))))
 
 pub reserved_notice : (n : Notice) → is_reserved (kind_of n) ≡ true
@@ -148,7 +171,8 @@ reserved_notice notice.StartInitialisation = refl
 reserved_notice notice.InitialisationCompleted = refl
 
 -- a telegram with a notice has a message type of the establishment
-pub reserved_of : (kind : ℕ) (payload : List ℕ) (n : Notice) → form_of kind payload ≡ Notifies n → is_reserved kind ≡ true
+pub reserved_of : (kind : ℕ) (payload : List ℕ) (n : Notice) → form_of kind payload ≡ Notifies n
+    → is_reserved kind ≡ true
 reserved_of kind payload n e = ap is_reserved (subst (FormKind kind) e (form_kind kind payload)) ∙ reserved_notice n
 
 -- a command or status does not

@@ -128,7 +128,8 @@ FeAt s Ended queue judged = FePast s queue judged
 FeAt s phase queue judged = ⊥
 
 -- the facts of a phase hold after any event
-pub il_past : (version : ℕ) (s : SessionState) (phase : Phase) (queue judged : List Tele) → IlAt version s phase queue judged → IlPast version s queue judged
+pub il_past : (version : ℕ) (s : SessionState) (phase : Phase) (queue judged : List Tele)
+    → IlAt version s phase queue judged → IlPast version s queue judged
 il_past version s Idle queue judged at = inl at.0
 il_past version s Checking queue judged at = inr (inl at.0)
 il_past version s Requesting queue judged at = inr (inr at.asked)
@@ -139,7 +140,8 @@ il_past version s Initialising queue judged at = inr (inr at.asked)
 il_past version s Established queue judged at = inr (inr at.asked)
 il_past version s Ended queue judged at = at
 
-pub fe_past : (s : SessionState) (phase : Phase) (queue judged : List Tele) → FeAt s phase queue judged → FePast s queue judged
+pub fe_past : (s : SessionState) (phase : Phase) (queue judged : List Tele) → FeAt s phase queue judged
+    → FePast s queue judged
 fe_past s Idle queue judged at = inl at.0
 fe_past s Checking queue judged at = absurd at
 fe_past s Requesting queue judged at = absurd at
@@ -154,10 +156,12 @@ pub completions-append : (xs ys : List Tele) → completions (xs ++ ys) ≡ comp
 completions-append [] ys = omega arith
 completions-append (x ∷ xs) ys =
     let rest : completions (xs ++ ys) ≡ completions xs + completions ys = completions-append xs ys in
-    by_cond (λ n. cond (x.kind == INITIALISATION_COMPLETED) (completions (xs ++ ys) + 1) (completions (xs ++ ys)) ≡ n + completions ys) (x.kind == INITIALISATION_COMPLETED) _ _
+    by_cond (λ n. cond (x.kind == INITIALISATION_COMPLETED) (completions (xs ++ ys) + 1) (completions (xs ++ ys))
+    ≡ n + completions ys) (x.kind == INITIALISATION_COMPLETED) _ _
     (λ is. rw is (omega (arith, rest))) (λ is. rw is rest)
 
-pub All-append : {X : Type 0} (P : X → Type 0) (xs ys : List X) → AllByRecursion P xs → AllByRecursion P ys → AllByRecursion P (xs ++ ys)
+pub All-append : {X : Type 0} (P : X → Type 0) (xs ys : List X) → AllByRecursion P xs → AllByRecursion P ys
+    → AllByRecursion P (xs ++ ys)
 All-append P [] ys a b = b
 All-append P (x ∷ xs) ys a b = (a.0, All-append P xs ys a.1 b)
 

@@ -44,7 +44,8 @@ most Ended = omega arith
 pub interlocking_fits : (own : ℕ) (phase : Phase) (form : Form) → Fits phase (interlocking_table own phase form)
 interlocking_fits own Idle form = most Idle
 interlocking_fits own Checking (Notifies (notice.VersionCheck version)) = most Checking
-interlocking_fits own Checking (Notifies (notice.VersionEqual version)) = by_cond (Fits Checking) (version == own) _ _ (λ _. omega arith) (λ _. most Checking)
+interlocking_fits own Checking (Notifies (notice.VersionEqual version)) =
+    by_cond (Fits Checking) (version == own) _ _ (λ _. omega arith) (λ _. most Checking)
 interlocking_fits own Checking (Notifies (notice.VersionDiffers version)) = most Checking
 interlocking_fits own Checking (Notifies notice.InitialisationRequest) = most Checking
 interlocking_fits own Checking (Notifies notice.StartInitialisation) = most Checking
@@ -79,7 +80,8 @@ pub field_fits : (versions : List ℕ) (phase : Phase) (form : Form) → Fits ph
 field_fits versions Idle form = most Idle
 field_fits versions Checking form = most Checking
 field_fits versions Requesting form = most Requesting
-field_fits versions AwaitCheck (Notifies (notice.VersionCheck version)) = by_cond (Fits AwaitCheck) (list_any (λ v. v == version) versions) _ _ (λ _. omega arith) (λ _. omega arith)
+field_fits versions AwaitCheck (Notifies (notice.VersionCheck version)) =
+    by_cond (Fits AwaitCheck) (list_any (λ v. v == version) versions) _ _ (λ _. omega arith) (λ _. omega arith)
 field_fits versions AwaitCheck (Notifies (notice.VersionEqual version)) = most AwaitCheck
 field_fits versions AwaitCheck (Notifies (notice.VersionDiffers version)) = most AwaitCheck
 field_fits versions AwaitCheck (Notifies notice.InitialisationRequest) = most AwaitCheck
@@ -108,7 +110,8 @@ table_fits (Field versions checksum) phase form = field_fits versions phase form
 
 -- so it is for any decision on a telegram
 pub judged_fits : (s : SessionState) (t : Tele) → Fits s.phase (judge_telegram s t)
-judged_fits s t = by_cond (Fits s.phase) (is_addressed s.addressing t) _ _ (λ _. table_fits s.role s.phase (form_of t.kind t.payload)) (λ _. most s.phase)
+judged_fits s t = by_cond (Fits s.phase) (is_addressed s.addressing t) _ _
+    (λ _. table_fits s.role s.phase (form_of t.kind t.payload)) (λ _. most s.phase)
 
 length-sent : (s : SessionState) (verdict : Verdict) → length (texts (sent_by s verdict)) ≡ sends verdict
 length-sent s Takes = refl
@@ -117,6 +120,13 @@ length-sent s (Answers next n) = refl
 length-sent s (Ends why) = refl
 
 -- and the bound on waiting messages still holds
-pub few_judged : (s : SessionState) (t : Tele) (waiting : List (List ℕ)) → FewWait s waiting → FewWait (with_phase (phase_by s.phase (judge_telegram s t)) s) (waiting ++ texts (sent_by s (judge_telegram s t)))
+pub few_judged : (s : SessionState) (t : Tele) (waiting : List (List ℕ)) → FewWait s waiting
+    → FewWait (with_phase (phase_by s.phase (judge_telegram s t)) s) (waiting ++ texts (sent_by s (judge_telegram s t)))
 few_judged s t waiting few =
-    omega (arith, few, judged_fits s t, length-sent s (judge_telegram s t), length-append waiting (texts (sent_by s (judge_telegram s t))))
+    omega (
+      arith,
+      few,
+      judged_fits s t,
+      length-sent s (judge_telegram s t),
+      length-append waiting (texts (sent_by s (judge_telegram s t))),
+    )

@@ -33,7 +33,8 @@ all_three true true false h = absurd (false≢true h)
 all_three true false z h = absurd (false≢true h)
 all_three false y z h = absurd (false≢true h)
 
-pub crossed_of : (a b : Addressing) (kind : ℕ) (payload : List ℕ) → is_addressed b (telegram a kind payload) ≡ true → Crossed a b
+pub crossed_of : (a b : Addressing) (kind : ℕ) (payload : List ℕ) → is_addressed b (telegram a kind payload) ≡ true
+    → Crossed a b
 crossed_of a b kind payload is =
     let parts = all_three (a.protocol == b.protocol) (bytes_eq a.own b.peer) (bytes_eq a.peer b.own) is in
     record {
@@ -43,22 +44,28 @@ crossed_of a b kind payload is =
     }
 
 -- so each accepts the other's telegrams as those of its peer
-pub to_field : (a b : Addressing) (kind : ℕ) (payload : List ℕ) → Crossed a b → is_addressed b (telegram a kind payload) ≡ true
+pub to_field : (a b : Addressing) (kind : ℕ) (payload : List ℕ) → Crossed a b
+    → is_addressed b (telegram a kind payload) ≡ true
 to_field a b kind payload c =
     let p : (a.protocol == b.protocol) ≡ true = eq-eqb a.protocol b.protocol c.protocol in
     let o : bytes_eq a.own b.peer ≡ true = (bytes_eq-Decides a.own b.peer).1 c.own in
     let q : bytes_eq a.peer b.own ≡ true = (bytes_eq-Decides a.peer b.own).1 c.peer in
     rw (p, o, q) refl
 
-pub to_interlocking : (a b : Addressing) (kind : ℕ) (payload : List ℕ) → Crossed a b → is_addressed a (telegram b kind payload) ≡ true
-to_interlocking a b kind payload c = to_field b a kind payload (record { protocol = sym c.protocol; own = sym c.peer; peer = sym c.own })
+pub to_interlocking : (a b : Addressing) (kind : ℕ) (payload : List ℕ) → Crossed a b
+    → is_addressed a (telegram b kind payload) ≡ true
+to_interlocking a b kind payload c =
+    to_field b a kind payload (record { protocol = sym c.protocol; own = sym c.peer; peer = sym c.own })
 
 -- the decision on a telegram for this end with this form
-pub decides : (s : SessionState) (t : Tele) (role : Role) (phase : Phase) (form : Form) → s.role ≡ role → s.phase ≡ phase → is_addressed s.addressing t ≡ true → form_of t.kind t.payload ≡ form
+pub decides : (s : SessionState) (t : Tele) (role : Role) (phase : Phase) (form : Form) → s.role ≡ role
+    → s.phase ≡ phase → is_addressed s.addressing t ≡ true → form_of t.kind t.payload ≡ form
     → judge_telegram s t ≡ table role phase form
-decides s t role phase form r p from says = rw from (ap (λ x. table x s.phase (form_of t.kind t.payload)) r ∙ ap (λ x. table role x (form_of t.kind t.payload)) p ∙ ap (table role phase) says)
+decides s t role phase form r p from says = rw from (ap (λ x. table x s.phase (form_of t.kind t.payload)) r
+    ∙ ap (λ x. table role x (form_of t.kind t.payload)) p ∙ ap (table role phase) says)
 
-pub goes_on : (s : SessionState) (t : Tele) (verdict : Verdict) → judge_telegram s t ≡ verdict → is_none (end_of verdict) ≡ true → is_none (end_of (judge_telegram s t)) ≡ true
+pub goes_on : (s : SessionState) (t : Tele) (verdict : Verdict) → judge_telegram s t ≡ verdict
+    → is_none (end_of verdict) ≡ true → is_none (end_of (judge_telegram s t)) ≡ true
 goes_on s t verdict e is = ap (λ v. is_none (end_of v)) e ∙ is
 
 -- the form of a message type that is not reserved
@@ -82,13 +89,15 @@ pub first_same : (a b : Tele) (xs ys : List Tele) → a ∷ xs ≡ b ∷ ys → 
 first_same a b xs ys e = ap (λ l. get_or l 0 a) e
 
 -- the telegram after one
-pub second_is : (js : List Tele) (t p q : Tele) (rest qs : List Tele) → length js ≡ 1 → (js ++ t ∷ []) ++ rest ≡ p ∷ q ∷ qs → t ≡ q
+pub second_is : (js : List Tele) (t p q : Tele) (rest qs : List Tele) → length js ≡ 1
+    → (js ++ t ∷ []) ++ rest ≡ p ∷ q ∷ qs → t ≡ q
 second_is [] t p q rest qs one e = absurd (omega (arith, one))
 second_is (a ∷ []) t p q rest qs one e = ap (λ l. get_or l 1 t) e
 second_is (a ∷ b ∷ js) t p q rest qs one e = absurd (omega (arith, one))
 
 -- the telegram after two or more has the property of all after two
-pub later_has : (P : Tele → Type 0) (js : List Tele) (t p q : Tele) (rest qs : List Tele) → 2 ≤ length js → (js ++ t ∷ []) ++ rest ≡ p ∷ q ∷ qs → AllByRecursion P qs → P t
+pub later_has : (P : Tele → Type 0) (js : List Tele) (t p q : Tele) (rest qs : List Tele) → 2 ≤ length js
+    → (js ++ t ∷ []) ++ rest ≡ p ∷ q ∷ qs → AllByRecursion P qs → P t
 later_has P [] t p q rest qs two e all = absurd (omega (arith, two))
 later_has P (a ∷ []) t p q rest qs two e all = absurd (omega (arith, two))
 later_has P (a ∷ b ∷ js) t p q rest qs two e all =
@@ -96,10 +105,12 @@ later_has P (a ∷ b ∷ js) t p q rest qs two e all =
     All-next P js t rest (subst (AllByRecursion P) (sym same ∙ append_assoc js (t ∷ []) rest) all)
 
 -- a reply of equal versions is read as one
-pub equal_says : (version : ℕ) (checksum : List ℕ) (s : SessionState) (versions : List ℕ) → s.role ≡ Field versions checksum → length checksum ≤ CHECKSUM_MAX
+pub equal_says : (version : ℕ) (checksum : List ℕ) (s : SessionState) (versions : List ℕ)
+    → s.role ≡ Field versions checksum → length checksum ≤ CHECKSUM_MAX
     → form_of (equal_from version s).kind (equal_from version s).payload ≡ Notifies (notice.VersionEqual version)
 equal_says version checksum s versions role short =
-    subst (λ r. form_of (kind_of (notice.VersionEqual version)) (payload_of (checksum_of r) (notice.VersionEqual version)) ≡ Notifies (notice.VersionEqual version)) (sym role)
+    subst (λ r. form_of (kind_of (notice.VersionEqual version))
+    (payload_of (checksum_of r) (notice.VersionEqual version)) ≡ Notifies (notice.VersionEqual version)) (sym role)
     (let fits : nat_le (length checksum) CHECKSUM_MAX ≡ true = le-leb (length checksum) CHECKSUM_MAX short in
     let same : (length checksum == length checksum) ≡ true = eq-eqb (length checksum) (length checksum) refl in
     rw (fits, same) refl)
@@ -125,11 +136,13 @@ pub record Joint (version : ℕ) (versions checksum : List ℕ) (x y : History) 
   pub fe_hears : IsBeginning y.judged x.queue
 
 -- the first telegram that a field element has judged has the interlocking's version
-pub checked : (version : ℕ) (s : SessionState) (queue js : List Tele) (first : Tele) (others : List Tele) → IlPast version s queue js → IsBeginning (first ∷ others) queue → first ≡ check_from version s
+pub checked : (version : ℕ) (s : SessionState) (queue js : List Tele) (first : Tele) (others : List Tele)
+    → IlPast version s queue js → IsBeginning (first ∷ others) queue → first ≡ check_from version s
 checked version s queue js first others past begins =
     ⊎_elim (λ none. absurd (nothing (subst (IsBeginning (first ∷ others)) none begins)))
     (λ some. ⊎_elim (λ one. first_same first (check_from version s) (others ++ begins.0) [] (begins.1 ∙ one))
-    (λ asked. first_same first (check_from version s) (others ++ begins.0) (request_from s ∷ asked.commands) (begins.1 ∙ asked.is)) some) past
+    (λ asked. first_same first (check_from version s) (others ++ begins.0) (request_from s ∷ asked.commands) (begins.1
+    ∙ asked.is)) some) past
   where
     nothing : IsBeginning (first ∷ others) [] → ⊥
     nothing b = let long : suc (length (others ++ b.0)) ≡ 0 = ap length b.1 in omega (arith, long)
@@ -139,12 +152,17 @@ pub record Met (version asked : ℕ) (a b : Addressing) : Type 0 where
   pub crossed : Crossed a b
   pub same : version ≡ asked
 
-pub met : (version : ℕ) (versions checksum : List ℕ) (x y : History) (asked : ℕ) → Joint version versions checksum x y → Heard asked (base y.state) y.judged → Met version asked x.state.addressing y.state.addressing
+pub met : (version : ℕ) (versions checksum : List ℕ) (x y : History) (asked : ℕ) → Joint version versions checksum x y
+    → Heard asked (base y.state) y.judged → Met version asked x.state.addressing y.state.addressing
 met version versions checksum x y asked j heard =
     let first_is : heard.first ≡ check_from version (base x.state) =
-    checked version (base x.state) x.queue x.judged heard.first heard.others (il_past version (base x.state) x.state.phase x.queue x.judged j.il_at) (subst (λ l. IsBeginning l x.queue) heard.is j.fe_hears)
+    checked version (base x.state) x.queue x.judged heard.first heard.others
+    (il_past version (base x.state) x.state.phase x.queue x.judged j.il_at)
+    (subst (λ l. IsBeginning l x.queue) heard.is j.fe_hears)
     in
     record {
-      crossed = crossed_of x.state.addressing y.state.addressing (check_from version (base x.state)).kind (check_from version (base x.state)).payload (subst (λ t. is_addressed y.state.addressing t ≡ true) first_is heard.from);
+      crossed = crossed_of x.state.addressing y.state.addressing (check_from version (base x.state)).kind
+          (check_from version (base x.state)).payload
+          (subst (λ t. is_addressed y.state.addressing t ≡ true) first_is heard.from);
       same = sym (ap (λ t. said_version (form_of t.kind t.payload)) first_is) ∙ ap said_version heard.says;
     }

@@ -15,7 +15,8 @@ length_field octets = little_number 2 octets
 -- the bytes start with a length of 43 to 400 and as many bytes after it
 abbrev pub is_piece : List ℕ → Bool
 is_piece octets =
-    nat_le MESSAGE_LENGTH (length octets) && nat_le MESSAGE_MIN (length_field octets) && nat_le (length_field octets) MESSAGE_MAX
+    nat_le MESSAGE_LENGTH (length octets) && nat_le MESSAGE_MIN (length_field octets)
+    && nat_le (length_field octets) MESSAGE_MAX
     && nat_le (MESSAGE_LENGTH + length_field octets) (length octets)
 
 -- the message after the first length
@@ -60,8 +61,10 @@ HoldsNoPiece octets = (message behind : List ℕ) → IsMessage message → octe
 abbrev pub FirstFault : List ℕ → PackFault → Type 0
 FirstFault octets Empty = octets ≡ []
 FirstFault octets Length =
-    (messages : List (List ℕ)) × (rest : List ℕ) × (length messages < UNIT_MESSAGES) × Goes messages rest octets × HoldsNoPiece rest
-FirstFault octets TooMany = (messages : List (List ℕ)) × (rest : List ℕ) × (length messages ≡ UNIT_MESSAGES) × Goes messages rest octets
+    (messages : List (List ℕ)) × (rest : List ℕ) × (length messages < UNIT_MESSAGES) × Goes messages rest octets
+    × HoldsNoPiece rest
+FirstFault octets TooMany = (messages : List (List ℕ)) × (rest : List ℕ) × (length messages ≡ UNIT_MESSAGES)
+    × Goes messages rest octets
 
 -- a result of the decoder as a value, without its place in memory
 abbrev pub seen_of : Result (ArrayVec (Bor (List ℕ))) PackFault → Result (List (List ℕ)) PackFault

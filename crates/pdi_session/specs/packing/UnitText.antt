@@ -1,4 +1,5 @@
--- The grammar of a unit: one to three messages, each after its length (the user data of a Data PDU of the safety and retransmission layer).
+-- The grammar of a unit: one to three messages, each after its length (the user data of a Data PDU of the safety and
+-- retransmission layer).
 use Rattle.std.specs.Prelude.{◌≡◌, ◌<◌, ◌≤◌, ℕ, List, [], ◌∷◌, ◌++◌, length, map}
 use Rattle.std.specs.List.{All}
 use Rattle.arrayvec.specs.ArrayVec.{ArrayVec}

@@ -5,12 +5,14 @@ use Rattle.pdi_session.specs.telegram.Names.{IsName, fill_name}
 
 -- the bytes are a valid name of this many characters, and its filling
 abbrev pub IsField : ℕ → List ℕ → Type 0
-IsField size field = IsName (take size field) × (field ≡ fill_name (take size field)) × (length (take size field) ≡ size)
+IsField size field =
+    IsName (take size field) × (field ≡ fill_name (take size field)) × (length (take size field) ≡ size)
 
 -- the bytes are two names with filling; the numbers are those of their characters
 abbrev pub IsPair : List ℕ → ℕ → ℕ → Type 0
 IsPair octets sender receiver =
-    IsField sender (take NAME_LENGTH octets) × IsField receiver (drop NAME_LENGTH octets) × (length octets ≡ NAME_LENGTH + NAME_LENGTH)
+    IsField sender (take NAME_LENGTH octets) × IsField receiver (drop NAME_LENGTH octets)
+    × (length octets ≡ NAME_LENGTH + NAME_LENGTH)
 
 -- the characters of the first name, the sender's
 abbrev pub first_name : List ℕ → ℕ → List ℕ

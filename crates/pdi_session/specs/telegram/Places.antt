@@ -50,7 +50,8 @@ HoldsNoName field = (name : List ℕ) → IsName name → ¬ (field ≡ fill_nam
 abbrev pub FirstFault : List ℕ → TeleFault → Type 0
 FirstFault octets fault.Short = length octets < MESSAGE_MIN
 FirstFault octets fault.Long = MESSAGE_MAX < length octets
-FirstFault octets fault.Name = IsSized octets × (HoldsNoName (sender_field octets) ⊎ HoldsNoName (receiver_field octets))
+FirstFault octets fault.Name =
+    IsSized octets × (HoldsNoName (sender_field octets) ⊎ HoldsNoName (receiver_field octets))
 
 -- the fields by their places if both names are valid, or the fault Name
 abbrev pub read_named : Option (List ℕ) → Option (List ℕ) → List ℕ → Result Tele TeleFault

@@ -60,7 +60,7 @@ impl KnownPair {
         // the message has.
         ensures exact { seen_of result ≡ tele_seen octets.now }
     {
-        match self.known(octets) {
+        match self.decode_known(octets) {
             Some(telegram) => Ok(telegram),
             None => codec::decode(octets),
         }
@@ -69,12 +69,12 @@ impl KnownPair {
     /// Decodes a message with the names of this pair. Returns `None` if it has other names, or is too short or too
     /// long.
     #[inline(always)]
-    pub fn known<'a>(&self, octets: &'a [u8]) -> Option<Telegram<'a>>
-        // A telegram that `known` returns is the one that the message encodes (`tele_seen`).
+    pub fn decode_known<'a>(&self, octets: &'a [u8]) -> Option<Telegram<'a>>
+        // A telegram that `decode_known` returns is the one that the message encodes (`tele_seen`).
         ensures exact { IfSome result (λ t. tele_seen octets.now ≡ Ok (tele_of t)) }
-        // The sender of a telegram that `known` returns is the pair's first name.
+        // The sender of a telegram that `decode_known` returns is the pair's first name.
         ensures sender { IfSome result (λ t. characters_of t.sender ≡ first_name self.now.octets self.now.sender) }
-        // The receiver of a telegram that `known` returns is the pair's second name.
+        // The receiver of a telegram that `decode_known` returns is the pair's second name.
         ensures receiver { IfSome result (λ t. characters_of t.receiver ≡ second_name self.now.octets self.now.receiver) }
     {
         if octets.len() < MESSAGE_MIN
@@ -87,8 +87,8 @@ impl KnownPair {
         Some(Telegram {
             protocol: octets[0],
             kind: u16_at(octets, KIND),
-            sender: Name::known(&octets[SENDER..SENDER + self.sender]),
-            receiver: Name::known(&octets[RECEIVER..RECEIVER + self.receiver]),
+            sender: Name::of_valid(&octets[SENDER..SENDER + self.sender]),
+            receiver: Name::of_valid(&octets[RECEIVER..RECEIVER + self.receiver]),
             payload,
         })
     }

@@ -76,7 +76,7 @@ impl<'a> Name<'a> {
     }
 
     /// Creates a name from bytes that the caller knows to be valid.
-    pub(super) fn known(octets: &'a [u8]) -> Self
+    pub(super) fn of_valid(octets: &'a [u8]) -> Self
         requires { IsName octets.now }
         // The characters of the name are exactly the given bytes.
         ensures { characters_of result ≡ octets.now }

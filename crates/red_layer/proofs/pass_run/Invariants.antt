@@ -13,10 +13,13 @@ invariant-loop-part g l =
       rises : Rises l.next l.waiting.waiting;
       below : IsBelow (2 ^ 32) l.waiting.waiting;
       room : l.waiting.room ≡ l.fn.waiting.room;
-      passed : (end : _) → FoldsTo passes l.up (run_from l.next (map_parts (λ part. part.items) l.waiting.waiting)) end → FoldsTo passes l.fn.up (run_from l.from (map_parts (λ part. part.items) l.fn.waiting.waiting)) end;
+      passed : (end : _) → FoldsTo passes l.up (run_from l.next (map_parts (λ part. part.items) l.waiting.waiting)) end
+          → FoldsTo passes l.fn.up (run_from l.from (map_parts (λ part. part.items) l.fn.waiting.waiting)) end;
       ready : g.U.Upward.ready l.up l.next;
-      rest : after_run l.next (map_parts (λ part. part.items) l.waiting.waiting) ≡ after_run l.from (map_parts (λ part. part.items) l.fn.waiting.waiting);
-      count : l.next + length (run_from l.next (map_parts (λ part. part.items) l.waiting.waiting)) ≡ l.from + length (run_from l.from (map_parts (λ part. part.items) l.fn.waiting.waiting));
+      rest : after_run l.next (map_parts (λ part. part.items) l.waiting.waiting)
+          ≡ after_run l.from (map_parts (λ part. part.items) l.fn.waiting.waiting);
+      count : l.next + length (run_from l.next (map_parts (λ part. part.items) l.waiting.waiting))
+          ≡ l.from + length (run_from l.from (map_parts (λ part. part.items) l.fn.waiting.waiting));
     }
 
 abbrev pub decreases-loop-part : goal.decreases-loop-part

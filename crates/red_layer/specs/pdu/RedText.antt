@@ -1,5 +1,5 @@
--- The redundancy PDU: the grammar of its bytes, its faults, and its fields by their places (redundancy layer of DIN VDE V 0831-200:2015; the layout
--- is the profile's, docs/protocol.md).
+-- The redundancy PDU: the grammar of its bytes, its faults, and its fields by their places (redundancy layer of DIN VDE
+-- V 0831-200:2015; the layout is the profile's, docs/protocol.md).
 use Rattle.std.specs.Prelude.{◌≡◌, ◌≢◌, ◌==◌, ◌⊎◌, ◌<◌, ◌≤◌, ◌^◌, ℕ, ◌+◌, List, ◌++◌, length, drop, nat_lt, if◌then◌else◌, Result, Ok, Err}
 use Rattle.byteorder.specs.Endian.{little_bytes, little_number}
 use Rattle.octets.specs.declared.limits.TheConstants.{RED_HEADER, RED_PDU_MAX}
@@ -36,7 +36,8 @@ IsSized octets = (RED_HEADER ≤ length octets) × (length_field octets ≡ leng
 -- the bytes have this fault, and no earlier one of the order Short, Length, Reserve
 abbrev pub FirstFault : List ℕ → RedFault → Type 0
 FirstFault octets Short = length octets < RED_HEADER
-FirstFault octets Length = (RED_HEADER ≤ length octets) × ((length_field octets ≢ length octets) ⊎ (RED_PDU_MAX < length octets))
+FirstFault octets Length =
+    (RED_HEADER ≤ length octets) × ((length_field octets ≢ length octets) ⊎ (RED_PDU_MAX < length octets))
 FirstFault octets Reserve = IsSized octets × (reserve_field octets ≢ 0)
 
 -- the sequence number and the payload read field by field, or the first fault

@@ -45,26 +45,31 @@ abbrev Waits : State → Type 0
 Waits s = (s.connection ≡ Down → s.made ≡ []) × (s.since < s.settings.mwa)
 
 waits-leave : (reason : Reason) (detail : Detail) (now : ℕ) (s : State) → Waits s → Waits (leave reason detail now s)
-waits-leave reason detail now s h = leave-cases Waits reason detail now s (λ _. (λ e. cc, omega (arith, h.1))) (λ _. (λ e. cc, h.1))
+waits-leave reason detail now s h =
+    leave-cases Waits reason detail now s (λ _. (λ e. cc, omega (arith, h.1))) (λ _. (λ e. cc, h.1))
 
 -- A connected end that has made a PDU.
-waits-made : (kind : Kind) (body : List ℕ) (now : ℕ) (s : State) → is_connected s.connection ≡ true → s.since < s.settings.mwa → Waits (make kind body now s)
+waits-made : (kind : Kind) (body : List ℕ) (now : ℕ) (s : State) → is_connected s.connection ≡ true
+    → s.since < s.settings.mwa → Waits (make kind body now s)
 waits-made kind body now s on h = (λ e. absurd (connected-up s.connection on e), omega (arith, h))
 
 waits-reply : (now : ℕ) (s : State) → is_connected s.connection ≡ true → s.since < s.settings.mwa → Waits (reply now s)
 waits-reply now s on h = grind (arith, resend-connection, resend-settings, connected-up)
 
-waits-unit : (p : Pdu) (now : ℕ) (s : State) → is_connected s.connection ≡ true → s.since < s.settings.mwa → Waits (take_unit p now s)
+waits-unit : (p : Pdu) (now : ℕ) (s : State) → is_connected s.connection ≡ true → s.since < s.settings.mwa
+    → Waits (take_unit p now s)
 waits-unit p now s on h = grind arith
 
-waits-decided : (p : Pdu) (now : ℕ) (d : Decision) (s : State) → Fits (kept_of s) p now d → Waits s → Waits (carry_out p now d s)
+waits-decided : (p : Pdu) (now : ℕ) (d : Decision) (s : State) → Fits (kept_of s) p now d → Waits s
+    → Waits (carry_out p now d s)
 waits-decided p now Nothing s f h = h
 waits-decided p now (Drops cause) s f h = h
 waits-decided p now Shuts s f h = (λ e. cc, h.1)
 waits-decided p now (Leaves reason detail) s f h = waits-leave reason detail now s h
 waits-decided p now (Takes to) s f h = waits-unit p now (move_to to (pass p 0 (tests_passed p s))) f.connected h.1
 waits-decided p now Resumes s f h = (λ e. cc, h.1)
-waits-decided p now AnswersNext s (f, none, turn, cts) h = waits-reply now (pass p 0 (note_request 0 (tests_passed p s))) f.connected h.1
+waits-decided p now AnswersNext s (f, none, turn, cts) h =
+    waits-reply now (pass p 0 (note_request 0 (tests_passed p s))) f.connected h.1
 waits-decided p now AnswersEarly s f h =
     let z = note_request (distance (kept_of s) p) (confirm_units p s) in
     let t = reply now z in
@@ -82,9 +87,11 @@ sure-move : (m : Move) (s : State) → IsRead m → Sure s → Sure (move m s)
 sure-move (Hears p now) s a h =
     arrive-cases Sure p now s h
     (λ reason detail.
-    sure (leave reason detail now s) (bounded-leave reason detail now s h.bounded) (waits-leave reason detail now s (waits s h)))
+    sure (leave reason detail now s) (bounded-leave reason detail now s h.bounded)
+    (waits-leave reason detail now s (waits s h)))
     (λ _ _ in_time.
-    sure (respond p now s) (bounded-respond now p s h.bounded (λ live. (in_time live).1) h.down (opening-window p.kind p.body a.1))
+    sure (respond p now s) (bounded-respond now p s h.bounded (λ live. (in_time live).1) h.down
+    (opening-window p.kind p.body a.1))
     (waits-decided p now (decide (kept_of s) p now) s (decide-fits (kept_of s) p now) (waits s h)))
 sure-move m s a h =
     sure (move m s) (bounded-move m s tt h.bounded)
@@ -101,12 +108,14 @@ read-allows m h = grind arith
 
 texts-moved : (ms : List Move) (s : State) → AreRead ms → Texts s → Texts (make_moves ms s)
 texts-moved [] s a h = h
-texts-moved (m ∷ ms) s a h = texts-moved ms (move m s) a.1 (kept-move HasNumbers IsUnitSized Texts kept-texts m s (read-allows m a.0) h)
+texts-moved (m ∷ ms) s a h =
+    texts-moved ms (move m s) a.1 (kept-move HasNumbers IsUnitSized Texts kept-texts m s (read-allows m a.0) h)
 
 pub opened-sure : (settings : Settings) (first now : ℕ) → is_legal settings ≡ true → Sure (new_state settings first now)
 opened-sure settings first now legal =
     let since = (lawful settings legal).mwa_least in
-    let waits : Waits (new_state settings first now) = opened-cases Waits settings first now (λ _. ((λ e. cc), since)) (λ _. ((λ e. refl), since)) in
+    let waits : Waits (new_state settings first now) = opened-cases Waits settings first now (λ _. ((λ e. cc), since))
+    (λ _. ((λ e. refl), since)) in
     sure (new_state settings first now) (bounded-opened settings first now legal) waits
 
 -- The ring of a state.
@@ -115,16 +124,21 @@ units-of [] h = All-nil (λ (u : Numbered). IsBody RetrData u.octets)
 units-of (u ∷ us) h = All-cons (λ (u : Numbered). IsBody RetrData u.octets) u us h.0 (units-of us h.1)
 
 below-more : (n m : ℕ) (us : List Numbered) → n ≤ m → AllBelow n us → AllBelow m us
-below-more n m us le h = All-weaker (λ (u : Numbered). u.number < n) (λ (u : Numbered). u.number < m) (λ u k. omega (arith, k, le)) us h
+below-more n m us le h =
+    All-weaker (λ (u : Numbered). u.number < n) (λ (u : Numbered). u.number < m) (λ u k. omega (arith, k, le)) us h
 
-below-push : (n : ℕ) (us : List Numbered) (body : List ℕ) → AllBelow n us → AllBelow (n + 1) (us ++ record { number = n; octets = body } ∷ [])
-below-push n us body h = All-push (λ (u : Numbered). u.number < n + 1) us (record { number = n; octets = body }) (below-more n (n + 1) us (omega arith) h)
+below-push : (n : ℕ) (us : List Numbered) (body : List ℕ) → AllBelow n us
+    → AllBelow (n + 1) (us ++ record { number = n; octets = body } ∷ [])
+below-push n us body h = All-push (λ (u : Numbered). u.number < n + 1) us (record { number = n; octets = body })
+    (below-more n (n + 1) us (omega arith) h)
     (omega arith)
 
-below-after : (kind : Kind) (body : List ℕ) (n : ℕ) (us : List Numbered) → AllBelow n us → AllBelow (n + 1) (after_at kind body n us)
+below-after : (kind : Kind) (body : List ℕ) (n : ℕ) (us : List Numbered) → AllBelow n us
+    → AllBelow (n + 1) (after_at kind body n us)
 below-after kind body n us h = grind (arith, below-push, below-more)
 
-below-carried : (n end : ℕ) (us : List Numbered) (ms : List Made) → n + length ms ≤ end → AllBelow n us → AllBelow end (carried_at n us ms)
+below-carried : (n end : ℕ) (us : List Numbered) (ms : List Made) → n + length ms ≤ end → AllBelow n us
+    → AllBelow end (carried_at n us ms)
 below-carried n end us [] h k = below-more n end us (omega arith) k
 below-carried n end us (m ∷ ms) h k = below-carried (n + 1) end (after_at m.pdu.kind m.pdu.body n us) ms (omega arith)
     (below-after m.pdu.kind m.pdu.body n us k)
@@ -132,10 +146,12 @@ below-carried n end us (m ∷ ms) h k = below-carried (n + 1) end (after_at m.pd
 below-ring : (s : State) → AllBelow (length s.made) (ring_of s)
 below-ring s = grind (arith, below-carried, length-drop, drop_all)
 
-pub legal-reached : (v : View) (r : IsReached v) → is_legal (make_moves r.moves (new_state r.settings r.first r.began)).settings ≡ true
+pub legal-reached : (v : View) (r : IsReached v)
+    → is_legal (make_moves r.moves (new_state r.settings r.first r.began)).settings ≡ true
 legal-reached v r =
     let P : State → Type 0 = λ s. is_legal s.settings ≡ true in
-    kept-moved P (kept-lists P (λ s t e f h. ap is_legal e ∙ h) (λ kind body now s h. h)) r.moves (new_state r.settings r.first r.began)
+    kept-moved P (kept-lists P (λ s t e f h. ap is_legal e ∙ h) (λ kind body now s h. h)) r.moves
+    (new_state r.settings r.first r.began)
     (opened-cases P r.settings r.first r.began (λ _. r.legal) (λ _. r.legal))
 
 pub reached-legal : (v : View) → IsReached v → is_legal v.settings ≡ true
@@ -145,7 +161,8 @@ pub reached-room : (v : View) → IsReached v → v.room ≡ WINDOW_MAX
 reached-room v r = ap (λ (w : View). w.room) r.stands
 
 sure-reached : (v : View) (r : IsReached v) → Sure (make_moves r.moves (new_state r.settings r.first r.began))
-sure-reached v r = sure-moved r.moves (new_state r.settings r.first r.began) r.read (opened-sure r.settings r.first r.began r.legal)
+sure-reached v r =
+    sure-moved r.moves (new_state r.settings r.first r.began) r.read (opened-sure r.settings r.first r.began r.legal)
 
 pub reached-sound : (v : View) → IsReached v → Sound v
 reached-sound v r =
@@ -156,7 +173,8 @@ reached-sound v r =
     let texts : Texts t = texts-moved r.moves s r.read (texts-opened r.settings r.first r.began r.legal) in
     let ranges = lawful t.settings legal in
     let same : octets_of (ring_of t) ≡ unconfirmed t = ring_of-units t in
-    let sized : AllSized (unconfirmed t) = sized-run [] (drop (t.confirmed + 1) t.made) (texts-drop (t.confirmed + 1) t.made texts.texts) tt in
+    let sized : AllSized (unconfirmed t) = sized-run [] (drop (t.confirmed + 1) t.made)
+    (texts-drop (t.confirmed + 1) t.made texts.texts) tt in
     subst Sound (sym r.stands)
     (record {
       few = omega (arith, h.bounded.few);
@@ -167,7 +185,9 @@ reached-sound v r =
       below = below-ring t;
       live = h.bounded.confirmed_made;
       since = omega (arith, h.since, ranges.mwa_most);
-      down = λ e. ap (carried_at (t.confirmed + 1) []) (drop_all (t.confirmed + 1) t.made (omega (arith, ap length (h.down e))));
+      down =
+          λ e. ap (carried_at (t.confirmed + 1) [])
+          (drop_all (t.confirmed + 1) t.made (omega (arith, ap length (h.down e))));
       opening = (own-legal t.settings legal).window;
     })
 
@@ -187,7 +207,8 @@ reached-turn m v w r read e =
       moves = r.moves ++ m ∷ [];
       legal = r.legal;
       read = read-snoc r.moves m r.read read;
-      stands = e ∙ ((turns_law_holds m v s (reached-may m v r) r.stands).stands ∙ ap kept_of (sym (moved-snoc r.moves m (new_state r.settings r.first r.began))));
+      stands = e ∙ ((turns_law_holds m v s (reached-may m v r) r.stands).stands
+          ∙ ap kept_of (sym (moved-snoc r.moves m (new_state r.settings r.first r.began))));
     }
 
 -- At most as many units are unconfirmed as the peer's window allows.
@@ -199,24 +220,29 @@ reached-window v r =
     omega (arith, (sure-reached v r).bounded.in_window)
 
 -- How far the index of the peer's next PDU moves.
-leave-expected : (reason : Reason) (detail : Detail) (now : ℕ) (s : State) → (leave reason detail now s).expected ≡ s.expected
-leave-expected reason detail now s = leave-cases (λ t. t.expected ≡ s.expected) reason detail now s (λ _. refl) (λ _. refl)
+leave-expected : (reason : Reason) (detail : Detail) (now : ℕ) (s : State)
+    → (leave reason detail now s).expected ≡ s.expected
+leave-expected reason detail now s =
+    leave-cases (λ t. t.expected ≡ s.expected) reason detail now s (λ _. refl) (λ _. refl)
 
 unit-expected : (p : Pdu) (now : ℕ) (s : State) → (take_unit p now s).expected ≡ s.expected
 unit-expected p now s = unit-cases (λ t. t.expected ≡ s.expected) p now s (λ _. refl) (λ _ _. refl) (λ _. refl)
 
-near-decided : (p : Pdu) (now : ℕ) (d : Decision) (s : State) → s.settings.n_sendmax ≤ 32 → Fits (kept_of s) p now d → (carry_out p now d s).expected
+near-decided : (p : Pdu) (now : ℕ) (d : Decision) (s : State) → s.settings.n_sendmax ≤ 32 → Fits (kept_of s) p now d
+    → (carry_out p now d s).expected
     ≤ s.expected + index_step
 near-decided p now d s small f = grind (arith, leave-expected, unit-expected, resend-expected, early-cases)
 
-near-arrive : (p : Pdu) (now : ℕ) (s : State) → s.settings.n_sendmax ≤ 32 → (arrive p now s).expected ≤ s.expected + index_step
+near-arrive : (p : Pdu) (now : ℕ) (s : State) → s.settings.n_sendmax ≤ 32
+    → (arrive p now s).expected ≤ s.expected + index_step
 near-arrive p now s small =
     arrive-cases (λ (t : State). t.expected ≤ s.expected + index_step) p now s (omega arith)
     (λ reason detail. omega (arith, leave-expected reason detail now s))
     (λ _ _ _. near-decided p now (decide (kept_of s) p now) s small (decide-fits (kept_of s) p now))
 
 -- One arrival.
-pub reached-near : (p : Pdu) (now : ℕ) (v w : View) → IsReached v → w ≡ (arrival_turn p now v).left → w.expected ≤ v.expected + index_step
+pub reached-near : (p : Pdu) (now : ℕ) (v w : View) → IsReached v → w ≡ (arrival_turn p now v).left
+    → w.expected ≤ v.expected + index_step
 reached-near p now v w r e =
     let t = make_moves r.moves (new_state r.settings r.first r.began) in
     let stands = (turns_law_holds (Hears p now) v t tt r.stands).stands in
@@ -230,16 +256,21 @@ reached-still now v w r e = grind arith
 
 -- Which units an arrival confirms.
 abbrev Stops : Pdu → State → State → Type 0
-Stops p s t = (octets_of (ring_of t) ≡ octets_of (ring_of s)) ⊎ (octets_of (ring_of t) ≡ octets_of (above (s.confirmed + cs_step (kept_of s) p) (ring_of s)))
+Stops p s t =
+    (octets_of (ring_of t) ≡ octets_of (ring_of s)) ⊎
+    (octets_of (ring_of t) ≡ octets_of (above (s.confirmed + cs_step (kept_of s) p) (ring_of s)))
 
 ring-leave : (reason : Reason) (detail : Detail) (now : ℕ) (s : State) → ring_of (leave reason detail now s) ≡ ring_of s
-ring-leave reason detail now s = leave-cases (λ (t : State). ring_of t ≡ ring_of s) reason detail now s (λ live. grind (arith, plain-ring)) (λ quiet. refl)
+ring-leave reason detail now s = leave-cases (λ (t : State). ring_of t ≡ ring_of s) reason detail now s
+    (λ live. grind (arith, plain-ring)) (λ quiet. refl)
 
 ring-unit : (p : Pdu) (now : ℕ) (s : State) → ring_of (take_unit p now s) ≡ ring_of s
-ring-unit p now s = unit-cases (λ t. ring_of t ≡ ring_of s) p now s (λ _. plain-ring Heartbeat [] now (hand_up p s) refl) (λ _ _. refl) (λ _. refl)
+ring-unit p now s = unit-cases (λ t. ring_of t ≡ ring_of s) p now s
+    (λ _. plain-ring Heartbeat [] now (hand_up p s) refl) (λ _ _. refl) (λ _. refl)
 
 -- An answer keeps the units.
-ring-reply : (now : ℕ) (y : State) → y.confirmed < length y.made → octets_of (ring_of (reply now y)) ≡ octets_of (ring_of y)
+ring-reply : (now : ℕ) (y : State) → y.confirmed < length y.made
+    → octets_of (ring_of (reply now y)) ≡ octets_of (ring_of y)
 ring-reply now y within =
     let t = make RetrResp [] now y in
     let us = unconfirmed y in
@@ -247,12 +278,14 @@ ring-reply now y within =
     let more : length t.made ≡ length y.made + 1 = length-append y.made (next_made y RetrResp [] now ∷ []) in
     ap octets_of
     (plain-ring Heartbeat [] now r refl
-    ∙ (ring-resend us now t (omega arith) ∙ ap (λ cs. cs ++ renumber_units (length t.made) us) (answer-ring now y within)))
+    ∙ (ring-resend us now t (omega arith) ∙ ap (λ cs. cs ++ renumber_units (length t.made) us)
+    (answer-ring now y within)))
     ∙ (octets-renumbered (length t.made) us ∙ sym (ring_of-units y))
 
 -- A server that was just opened has no unit, also after its ConnResp.
 ring-none : (ms : List Made) (m : Made) → carried_at (length ms + 1) [] (drop (length ms + 1) (ms ++ m ∷ [])) ≡ []
-ring-none ms m = go (drop (length ms + 1) (ms ++ m ∷ [])) (length-drop (length ms + 1) (ms ++ m ∷ []) ∙ omega (arith, length-append ms (m ∷ [])))
+ring-none ms m = go (drop (length ms + 1) (ms ++ m ∷ [])) (length-drop (length ms + 1) (ms ++ m ∷ [])
+    ∙ omega (arith, length-append ms (m ∷ [])))
   where
     go : (rest : List Made) → length rest ≡ 0 → carried_at (length ms + 1) [] rest ≡ []
     go [] e = refl
@@ -261,16 +294,19 @@ ring-none ms m = go (drop (length ms + 1) (ms ++ m ∷ [])) (length-drop (length
 fits-within : (p : Pdu) (s : State) → cs_fits (kept_of s) p ≡ true → cs_step (kept_of s) p < length s.made - s.confirmed
 fits-within p s e = ltb-true (cs_step (kept_of s) p) (length s.made - s.confirmed) e
 
-confirmed-stops : (p : Pdu) (s t : State) → cs_fits (kept_of s) p ≡ true → octets_of (ring_of t) ≡ octets_of (ring_of (confirm_units p s)) → Stops p s t
+confirmed-stops : (p : Pdu) (s t : State) → cs_fits (kept_of s) p ≡ true
+    → octets_of (ring_of t) ≡ octets_of (ring_of (confirm_units p s)) → Stops p s t
 confirmed-stops p s t fits e = inr (e ∙ ap octets_of (sym (ring-step p s (fits-within p s fits))))
 
-stops-decided : (p : Pdu) (now : ℕ) (d : Decision) (s : State) → (s.connection ≡ Down → ring_of s ≡ []) → Fits (kept_of s) p now d
+stops-decided : (p : Pdu) (now : ℕ) (d : Decision) (s : State) → (s.connection ≡ Down → ring_of s ≡ [])
+    → Fits (kept_of s) p now d
     → Stops p s (carry_out p now d s)
 stops-decided p now Nothing s down f = inl refl
 stops-decided p now (Drops cause) s down f = inl refl
 stops-decided p now Shuts s down f = inl refl
 stops-decided p now (Leaves reason detail) s down f = inl (ap octets_of (ring-leave reason detail now s))
-stops-decided p now Rejects s down f = inl (ap octets_of (plain-ring DiscReq (leaving_body WrongVersion Unspecified) now (pass p 0 s) refl))
+stops-decided p now Rejects s down f =
+    inl (ap octets_of (plain-ring DiscReq (leaving_body WrongVersion Unspecified) now (pass p 0 s) refl))
 stops-decided p now Accepts s down f = grind (arith, ring-none)
 stops-decided p now Connects s down f =
     let y = set_window (window_of p.body) (pass p 0 (tests_passed p s)) in
@@ -287,7 +323,8 @@ stops-decided p now AnswersEarly s down f =
     let y = note_request (distance (kept_of s) p) (confirm_units p s) in
     let t = reply now y in
     let same = ring-reply now y (omega (arith, fits-within p s f.cs)) in
-    early-cases (Stops p s) p now s (λ _. confirmed-stops p s (ask now t) f.cs (ap octets_of (plain-ring RetrReq [] now t refl) ∙ same))
+    early-cases (Stops p s) p now s (λ _. confirmed-stops p s (ask now t) f.cs
+    (ap octets_of (plain-ring RetrReq [] now t refl) ∙ same))
     (confirmed-stops p s t f.cs same)
 
 stops-arrive : (p : Pdu) (now : ℕ) (s : State) → (s.connection ≡ Down → ring_of s ≡ []) → Stops p s (arrive p now s)
@@ -296,22 +333,27 @@ stops-arrive p now s down =
     (λ _ _ _. stops-decided p now (decide (kept_of s) p now) s down (decide-fits (kept_of s) p now))
 
 -- For every machine.
-pub reached-stops : (p : Pdu) (now : ℕ) (v w : View) → IsReached v → w ≡ (arrival_turn p now v).left → StopsOnly (v.confirmed + cs_step v p) v w
+pub reached-stops : (p : Pdu) (now : ℕ) (v w : View) → IsReached v → w ≡ (arrival_turn p now v).left
+    → StopsOnly (v.confirmed + cs_step v p) v w
 reached-stops p now v w r is =
     let t = make_moves r.moves (new_state r.settings r.first r.began) in
     let down : t.connection ≡ Down → ring_of t ≡ [] =
-    λ e. sym (ap (λ (x : View). x.ring) r.stands) ∙ (reached-sound v r).down (ap (λ (x : View). x.connection) r.stands ∙ e) in
+    λ e. sym (ap (λ (x : View). x.ring) r.stands)
+    ∙ (reached-sound v r).down (ap (λ (x : View). x.connection) r.stands ∙ e) in
     subst (λ (x : View). StopsOnly (x.confirmed + cs_step x p) x w) (sym r.stands)
     (subst (λ (y : View). StopsOnly (t.confirmed + cs_step (kept_of t) p) (beside (ring_of t) t) y)
     (sym (is ∙ (turns_law_holds (Hears p now) v t tt r.stands).stands)) (stops-arrive p now t down))
 
-pub reached-keeps : (now : ℕ) (v w : View) → IsReached v → w ≡ (guard_turn now v).left → octets_of w.ring ≡ octets_of v.ring
+pub reached-keeps : (now : ℕ) (v w : View) → IsReached v → w ≡ (guard_turn now v).left
+    → octets_of w.ring ≡ octets_of v.ring
 reached-keeps now v w r is = grind arith
 
 -- How few PDUs a move makes.
-few-leave : (reason : Reason) (detail : Detail) (now : ℕ) (s : State) → length (leave reason detail now s).made ≤ length s.made + 1
+few-leave : (reason : Reason) (detail : Detail) (now : ℕ) (s : State)
+    → length (leave reason detail now s).made ≤ length s.made + 1
 few-leave reason detail now s =
-    leave-cases (λ (t : State). length t.made ≤ length s.made + 1) reason detail now s (λ live. omega (arith, length-make DiscReq (leaving_body reason detail) now s))
+    leave-cases (λ (t : State). length t.made ≤ length s.made + 1) reason detail now s
+    (λ live. omega (arith, length-make DiscReq (leaving_body reason detail) now s))
     (λ quiet. omega arith)
 
 reply-length : (now : ℕ) (s : State) → length (reply now s).made ≡ length s.made + 2 + length (unconfirmed s)
@@ -321,14 +363,23 @@ reply-length now s = grind (arith, length-make, resend-length)
 shrinks : (p : Pdu) (s : State) → length (unconfirmed (confirm_units p s)) ≤ length (unconfirmed s)
 shrinks p s = run_of-shrinks (s.confirmed + 1) (s.confirmed + cs_step (kept_of s) p + 1) s.made (omega arith)
 
-few-carry : (p : Pdu) (now : ℕ) (d : Decision) (s : State) → length (unconfirmed s) ≤ 32 → length (carry_out p now d s).made ≤ length s.made + 35
+few-carry : (p : Pdu) (now : ℕ) (d : Decision) (s : State) → length (unconfirmed s) ≤ 32
+    → length (carry_out p now d s).made ≤ length s.made + 35
 few-carry p now (Leaves reason detail) s h = omega (arith, few-leave reason detail now s)
-few-carry p now Rejects s h = omega (arith, length-make DiscReq (leaving_body WrongVersion Unspecified) now (pass p 0 s))
-few-carry p now Accepts s h = omega (arith, length-make ConnResp (opening_body s.settings.n_sendmax) now (set_window (window_of p.body) (pass p 0 s)))
-few-carry p now Connects s h = omega (arith, length-make Heartbeat [] now (set_window (window_of p.body) (pass p 0 (tests_passed p s))))
+few-carry p now Rejects s h =
+    omega (arith, length-make DiscReq (leaving_body WrongVersion Unspecified) now (pass p 0 s))
+few-carry p now Accepts s h =
+    omega (
+      arith,
+      length-make ConnResp (opening_body s.settings.n_sendmax) now
+          (set_window (window_of p.body) (pass p 0 s)),
+    )
+few-carry p now Connects s h =
+    omega (arith, length-make Heartbeat [] now (set_window (window_of p.body) (pass p 0 (tests_passed p s))))
 few-carry p now (Takes to) s h =
     let y = move_to to (pass p 0 (tests_passed p s)) in
-    unit-cases (λ t. length t.made ≤ length s.made + 35) p now y (λ _. omega (arith, length-make Heartbeat [] now (hand_up p y))) (λ _ _. omega arith)
+    unit-cases (λ t. length t.made ≤ length s.made + 35) p now y
+    (λ _. omega (arith, length-make Heartbeat [] now (hand_up p y))) (λ _ _. omega arith)
     (λ _. omega arith)
 few-carry p now Asks s h = omega (arith, length-make RetrReq [] now s)
 few-carry p now AnswersNext s h =
@@ -340,22 +391,28 @@ few-carry p now AnswersEarly s h =
     let z = reply now y in
     let few : length (unconfirmed y) ≤ length (unconfirmed s) = shrinks p s in
     let more = reply-length now y in
-    early-cases (λ t. length t.made ≤ length s.made + 35) p now s (λ _. omega (arith, length-make RetrReq [] now z)) (omega arith)
+    early-cases (λ t. length t.made ≤ length s.made + 35) p now s (λ _. omega (arith, length-make RetrReq [] now z))
+    (omega arith)
 few-carry p now _ s h = omega arith
 
 few-move : (m : Move) (s : State) → Bounded s → length (move m s).made ≤ length s.made + 36
 few-move (Hears p now) s b =
-    arrive-cases (λ (t : State). length t.made ≤ length s.made + 36) p now s (omega arith) (λ reason detail. omega (arith, few-leave reason detail now s))
+    arrive-cases (λ (t : State). length t.made ≤ length s.made + 36) p now s (omega arith)
+    (λ reason detail. omega (arith, few-leave reason detail now s))
     (λ _ _ _. omega (arith, few-carry p now (decide (kept_of s) p now) s (omega (arith, b.in_window, b.window_small))))
 few-move m s b =
-    quiet-cases (λ (t : State). length t.made ≤ length s.made + 36) m s tt (omega arith) (λ reason detail. omega (arith, few-leave reason detail (when m) s))
-    (λ _ _. omega (arith, length-make Heartbeat [] (when m) s)) (λ unit _ _. omega (arith, length-make Data unit (when m) s))
+    quiet-cases (λ (t : State). length t.made ≤ length s.made + 36) m s tt (omega arith)
+    (λ reason detail. omega (arith, few-leave reason detail (when m) s))
+    (λ _ _. omega (arith, length-make Heartbeat [] (when m) s))
+    (λ unit _ _. omega (arith, length-make Data unit (when m) s))
 
-sending-one : (s : State) → Bounded s → (unit : List ℕ) (now : ℕ) → may_send s ≡ true → length (unconfirmed (send unit now s)) ≡ length (unconfirmed s) + 1
+sending-one : (s : State) → Bounded s → (unit : List ℕ) (now : ℕ) → may_send s ≡ true
+    → length (unconfirmed (send unit now s)) ≡ length (unconfirmed s) + 1
 sending-one s b unit now may =
     subst (λ (t : State). length (unconfirmed t) ≡ length (unconfirmed s) + 1) (sym (send-is unit now s)) (by_room may)
   where
-    by_room : may_send s ≡ true → length (unconfirmed (if may_send s then make Data unit now s else s)) ≡ length (unconfirmed s) + 1
+    by_room : may_send s ≡ true → length (unconfirmed (if may_send s then make Data unit now s else s))
+        ≡ length (unconfirmed s) + 1
     by_room may = grind (arith, turn-live, and_parts, unconfirmed-make, length-append, false≢true)
 
 pub few_law_holds : FewLaw

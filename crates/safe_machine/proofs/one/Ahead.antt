@@ -29,10 +29,12 @@ was-ahead p s fits = omega (arith, ltb-true (cs_step (kept_of s) p) (length s.ma
 leave-made : (reason : Reason) (detail : Detail) (now : ℕ) (s : State) → HasMade (kept_of (leave reason detail now s))
 leave-made reason detail now s = grind arith
 
-by-fit : (p : Pdu) (now : ℕ) (d : Decision) (s : State) → Fits (kept_of s) p now d → cs_fits (kept_of s) p ≡ true → HasMade (kept_of (carry_out p now d s))
+by-fit : (p : Pdu) (now : ℕ) (d : Decision) (s : State) → Fits (kept_of s) p now d → cs_fits (kept_of s) p ≡ true
+    → HasMade (kept_of (carry_out p now d s))
 by-fit p now d s f fits turn = kept-decided Anything Anything IsAhead ahead-kept p now d s tt f (was-ahead p s fits)
 
-decided-made : (p : Pdu) (now : ℕ) (d : Decision) (s : State) → Fits (kept_of s) p now d → HasMade (kept_of s) → HasMade (kept_of (carry_out p now d s))
+decided-made : (p : Pdu) (now : ℕ) (d : Decision) (s : State) → Fits (kept_of s) p now d → HasMade (kept_of s)
+    → HasMade (kept_of (carry_out p now d s))
 decided-made p now d s f h = grind (arith, leave-made, by-fit, false≢true)
 
 move-made : (m : Move) (s : State) → HasMade (kept_of s) → HasMade (kept_of (move m s))
@@ -41,7 +43,8 @@ move-made (Hears p now) s h =
     (λ _ _ _. decided-made p now (decide (kept_of s) p now) s (decide-fits (kept_of s) p now) h)
 move-made m s h =
     quiet-cases (λ t. HasMade (kept_of t)) m s tt h (λ reason detail. leave-made reason detail (when m) s)
-    (λ _ _ turn. omega (arith, h turn, length-make Heartbeat [] (when m) s)) (λ unit _ _ turn. omega (arith, h turn, length-make Data unit (when m) s))
+    (λ _ _ turn. omega (arith, h turn, length-make Heartbeat [] (when m) s))
+    (λ unit _ _ turn. omega (arith, h turn, length-make Data unit (when m) s))
 
 -- The same for what is kept.
 pub made_law_holds : (m : Move) (v : View) (s : State) → HasMade v → StandsFor v s → HasMade (turn m v).left

@@ -44,14 +44,17 @@ rises-weaken : (low high : ℕ) (cs : List Numbered) → Rises low high cs → R
 rises-weaken low high [] h = omega (arith, h)
 rises-weaken low high (c ∷ cs) h = (h.0, rises-weaken (c.number + 1) high cs h.1)
 
-rises-push : (low high : ℕ) (unit : List ℕ) (cs : List Numbered) → Rises low high cs → Rises low (high + 1) (cs ++ record { number = high; octets = unit } ∷ [])
+rises-push : (low high : ℕ) (unit : List ℕ) (cs : List Numbered) → Rises low high cs
+    → Rises low (high + 1) (cs ++ record { number = high; octets = unit } ∷ [])
 rises-push low high unit [] h = (h, omega arith)
 rises-push low high unit (c ∷ cs) h = (h.0, rises-push (c.number + 1) high unit cs h.1)
 
-rises-after : (low high : ℕ) (kind : Kind) (body : List ℕ) (cs : List Numbered) → Rises low high cs → Rises low (high + 1) (after_at kind body high cs)
+rises-after : (low high : ℕ) (kind : Kind) (body : List ℕ) (cs : List Numbered) → Rises low high cs
+    → Rises low (high + 1) (after_at kind body high cs)
 rises-after low high kind body cs h = grind (arith, rises-push, rises-bounds, rises-weaken)
 
-rises-carried : (low high : ℕ) (cs : List Numbered) (ms : List Made) → Rises low high cs → Rises low (high + length ms) (carried_at high cs ms)
+rises-carried : (low high : ℕ) (cs : List Numbered) (ms : List Made) → Rises low high cs
+    → Rises low (high + length ms) (carried_at high cs ms)
 rises-carried low high cs [] h = subst (λ (n : ℕ). Rises low n cs) (omega arith) h
 rises-carried low high cs (m ∷ ms) h =
     let next = after_at m.pdu.kind m.pdu.body high cs in
@@ -92,7 +95,8 @@ above-less : (a b : ℕ) (cs : List Numbered) → a ≤ b → above a cs ≡ [] 
 above-less a b [] h e = refl
 above-less a b (c ∷ cs) h e = go (nat_lt a c.number) refl e (λ none. above-less a b cs h none)
   where
-    go : (t : Bool) → nat_lt a c.number ≡ t → (if t then c ∷ above a cs else above a cs) ≡ [] → (above a cs ≡ [] → above b cs ≡ []) → above b (c ∷ cs) ≡ []
+    go : (t : Bool) → nat_lt a c.number ≡ t → (if t then c ∷ above a cs else above a cs) ≡ []
+        → (above a cs ≡ [] → above b cs ≡ []) → above b (c ∷ cs) ≡ []
     go true is e f = cc
     go false is e f = ap (λ (t : Bool). if t then c ∷ above b cs else above b cs) not_above ∙ f e
       where
@@ -120,36 +124,43 @@ new-begins : (kind : Kind) → is_new kind ≡ true → is_resent kind ≡ false
 new-begins kind h = grind arith
 
 -- What a new PDU carries.
-new-carrier : (kind : Kind) (body : List ℕ) (index n : ℕ) (cs : List Numbered) → is_new kind ≡ true → after_carrier kind body index n cs ≡ cs ++ after_at kind
+new-carrier : (kind : Kind) (body : List ℕ) (index n : ℕ) (cs : List Numbered) → is_new kind ≡ true
+    → after_carrier kind body index n cs ≡ cs ++ after_at kind
     body index []
 new-carrier kind body index n cs h = grind (arith, append-nil)
 
-new-ring : (kind : Kind) (body : List ℕ) (index : ℕ) (cs : List Numbered) → is_new kind ≡ true → after_at kind body index cs ≡ cs ++ after_at kind body index []
+new-ring : (kind : Kind) (body : List ℕ) (index : ℕ) (cs : List Numbered) → is_new kind ≡ true
+    → after_at kind body index cs ≡ cs ++ after_at kind body index []
 new-ring kind body index cs h = grind (arith, append-nil)
 
-new-units : (kind : Kind) (body : List ℕ) (index : ℕ) → is_new kind ≡ true → octets_of (after_at kind body index []) ≡ first_sent kind body
+new-units : (kind : Kind) (body : List ℕ) (index : ℕ) → is_new kind ≡ true
+    → octets_of (after_at kind body index []) ≡ first_sent kind body
 new-units kind body index h = grind arith
 
 new-first : (kind : Kind) (body : List ℕ) → above 0 (after_at kind body 0 []) ≡ []
 new-first kind body = grind arith
 
 -- The ring after one more PDU.
-ring-push : (confirmed : ℕ) (made : List Made) (m : Made) → confirmed < length made → Ring confirmed (made ++ m ∷ []) ≡ after_at m.pdu.kind m.pdu.body
+ring-push : (confirmed : ℕ) (made : List Made) (m : Made) → confirmed < length made
+    → Ring confirmed (made ++ m ∷ []) ≡ after_at m.pdu.kind m.pdu.body
     (length made) (Ring confirmed made)
 ring-push confirmed made m h = grind (arith, length-drop, drop-append-le, carried_at-append)
 
-carriers-push : (made : List Made) (m : Made) → is_new m.pdu.kind ≡ true → carriers (made ++ m ∷ []) ≡ carriers made ++ after_at m.pdu.kind m.pdu.body
+carriers-push : (made : List Made) (m : Made) → is_new m.pdu.kind ≡ true
+    → carriers (made ++ m ∷ []) ≡ carriers made ++ after_at m.pdu.kind m.pdu.body
     (length made) []
 carriers-push made m new = grind (arith, carriers-append, new-begins, new-carrier)
 
-push : (made : List Made) (confirmed : ℕ) (m : Made) → is_new m.pdu.kind ≡ true → CarriersOf made confirmed → CarriersOf (made ++ m ∷ []) confirmed
+push : (made : List Made) (confirmed : ℕ) (m : Made) → is_new m.pdu.kind ≡ true → CarriersOf made confirmed
+    → CarriersOf (made ++ m ∷ []) confirmed
 push made confirmed m new h =
     let add = after_at m.pdu.kind m.pdu.body (length made) [] in
     let all : octets_of (carriers (made ++ m ∷ [])) ≡ units (made ++ m ∷ []) =
     ap octets_of (carriers-push made m new)
     ∙ (octets_of-append (carriers made) add
     ∙ (ap (λ us. us ++ octets_of add) h.all
-    ∙ (ap (λ us. units made ++ us) (new-units m.pdu.kind m.pdu.body (length made) new ∙ sym (append-nil (first_sent m.pdu.kind m.pdu.body)))
+    ∙ (ap (λ us. units made ++ us) (new-units m.pdu.kind m.pdu.body (length made) new
+    ∙ sym (append-nil (first_sent m.pdu.kind m.pdu.body)))
     ∙ sym (units-append made (m ∷ []))))) in
     elim h.placed [
       | inl less ↦
@@ -158,7 +169,8 @@ push made confirmed m new h =
             is = carriers-push made m new
                 ∙ (ap (λ cs. cs ++ add) h.is
                 ∙ (append_assoc h.front (Ring confirmed made) add
-                ∙ ap (λ cs. h.front ++ cs) (sym (ring-push confirmed made m less ∙ new-ring m.pdu.kind m.pdu.body (length made) (Ring confirmed made) new))));
+                ∙ ap (λ cs. h.front ++ cs) (sym (ring-push confirmed made m less
+                ∙ new-ring m.pdu.kind m.pdu.body (length made) (Ring confirmed made) new))));
             none = h.none;
             placed = inl (omega (arith, length-append made (m ∷ [])));
             all = all;
@@ -179,12 +191,15 @@ push made confirmed m new h =
 confirm : (made : List Made) (a b : ℕ) → a ≤ b → b < length made → CarriersOf made a → CarriersOf made b
 confirm made a b more less h =
     let ring = Ring a made in
-    let s = split-at b (a + 1) (a + 1 + length (drop (a + 1) made)) ring (rises-carried (a + 1) (a + 1) [] (drop (a + 1) made) (omega arith)) in
+    let s = split-at b (a + 1) (a + 1 + length (drop (a + 1) made)) ring
+    (rises-carried (a + 1) (a + 1) [] (drop (a + 1) made) (omega arith)) in
     let kept : above b ring ≡ Ring b made = ring-confirm a b made more less in
     record {
       front = h.front ++ s.low;
-      is = h.is ∙ (ap (λ cs. h.front ++ cs) (s.is ∙ ap (λ cs. s.low ++ cs) kept) ∙ sym (append_assoc h.front s.low (Ring b made)));
-      none = above-append b h.front s.low ∙ (ap (λ cs. cs ++ above b s.low) (above-less a b h.front more h.none) ∙ s.none);
+      is = h.is ∙ (ap (λ cs. h.front ++ cs) (s.is ∙ ap (λ cs. s.low ++ cs) kept)
+          ∙ sym (append_assoc h.front s.low (Ring b made)));
+      none =
+          above-append b h.front s.low ∙ (ap (λ cs. cs ++ above b s.low) (above-less a b h.front more h.none) ∙ s.none);
       placed = inl less;
       all = h.all;
     }
@@ -198,30 +213,36 @@ resend-made : (us : List (List ℕ)) (now : ℕ) (s : State) → (resend us now 
 unfolding datas
 resend-made [] now s = sym (append-nil s.made)
 resend-made (u ∷ us) now s =
-    resend-made us now (make RetrData u now s) ∙ append_assoc s.made (next_made s RetrData u now ∷ []) (datas us now (make RetrData u now s))
+    resend-made us now (make RetrData u now s)
+    ∙ append_assoc s.made (next_made s RetrData u now ∷ []) (datas us now (make RetrData u now s))
 
-resent-datas : (us : List (List ℕ)) (now : ℕ) (s : State) (m : Made) → is_resent m.pdu.kind ≡ false → count_resent (datas us now s ++ m ∷ []) ≡ length us
+resent-datas : (us : List (List ℕ)) (now : ℕ) (s : State) (m : Made) → is_resent m.pdu.kind ≡ false
+    → count_resent (datas us now s ++ m ∷ []) ≡ length us
 unfolding datas
 resent-datas [] now s m h = ap (λ (t : Bool). if t then 1 else 0) h
 resent-datas (u ∷ us) now s m h = ap suc (resent-datas us now (make RetrData u now s) m h)
 
-carriers-datas : (us : List (List ℕ)) (now index : ℕ) (s : State) (cs : List Numbered) (m : Made) → m.pdu.kind ≡ Heartbeat
+carriers-datas : (us : List (List ℕ)) (now index : ℕ) (s : State) (cs : List Numbered) (m : Made)
+    → m.pdu.kind ≡ Heartbeat
     → carriers_from index cs (datas us now s ++ m ∷ []) ≡ cs
 unfolding datas
 carriers-datas [] now index s cs m h = ap (λ kind. after_carrier kind m.pdu.body index 0 cs) h
 carriers-datas (u ∷ us) now index s cs m h = carriers-datas us now (index + 1) (make RetrData u now s) cs m h
 
 -- The last units, carried again.
-again : (front ring : List Numbered) (us : List (List ℕ)) (index : ℕ) → octets_of ring ≡ us → carried_again (length us) index (front ++ ring) ≡ front
+again : (front ring : List Numbered) (us : List (List ℕ)) (index : ℕ) → octets_of ring ≡ us
+    → carried_again (length us) index (front ++ ring) ≡ front
     ++ renumber_units index us
 again front ring us index e =
     let size : length us ≡ length ring = sym (ap length e) ∙ octets_of-length ring in
     let at : length (front ++ ring) - length us ≡ length front = omega (arith, length-append front ring) in
     ap (λ (n : ℕ). take n (front ++ ring) ++ renumber_units index (octets_of (drop n (front ++ ring)))) at
-    ∙ (ap (λ cs. cs ++ renumber_units index (octets_of (drop (length front) (front ++ ring)))) (take-append_seam front ring)
+    ∙ (ap (λ cs. cs ++ renumber_units index (octets_of (drop (length front) (front ++ ring))))
+    (take-append_seam front ring)
     ∙ ap (λ cs. front ++ renumber_units index cs) (ap octets_of (drop-append_seam front ring) ∙ e))
 
-ring-answer : (confirmed : ℕ) (made : List Made) (m : Made) → m.pdu.kind ≡ RetrResp → (confirmed < length made) ⊎ ((made ≡ []) × (confirmed ≡ 0))
+ring-answer : (confirmed : ℕ) (made : List Made) (m : Made) → m.pdu.kind ≡ RetrResp
+    → (confirmed < length made) ⊎ ((made ≡ []) × (confirmed ≡ 0))
     → Ring confirmed (made ++ m ∷ []) ≡ []
 ring-answer confirmed made m is h = grind (arith, ring-push)
 
@@ -241,7 +262,8 @@ replied now s h =
     let last = next_made b Heartbeat [] now in
     let block = datas us now a ++ last ∷ [] in
     let size : length a.made ≡ length s.made + 1 = length-append s.made (answer ∷ []) in
-    let in_place : s.confirmed < length a.made = elim h.placed [ inl less ↦ omega (arith, less) | inr empty ↦ omega (arith, empty.1) ] in
+    let in_place : s.confirmed < length a.made = elim h.placed
+    [ inl less ↦ omega (arith, less) | inr empty ↦ omega (arith, empty.1) ] in
     let whole : (reply now s).made ≡ s.made ++ answer ∷ block =
     ap (λ ms. ms ++ last ∷ []) (resend-made us now a ∙ append_assoc s.made (answer ∷ []) (datas us now a))
     ∙ append_assoc s.made (answer ∷ datas us now a) (last ∷ []) in
@@ -250,11 +272,14 @@ replied now s h =
     let new : carriers (reply now s).made ≡ h.front ++ renumber_units (length s.made + 1) us =
     ap carriers whole
     ∙ (carriers-append 0 [] s.made (answer ∷ block) refl
-    ∙ (carriers-datas us now (0 + length s.made + 1) a (carried_again (count_resent block) (0 + length s.made + 1) (carriers s.made)) last refl
+    ∙ (carriers-datas us now (0 + length s.made + 1) a
+    (carried_again (count_resent block) (0 + length s.made + 1) (carriers s.made)) last refl
     ∙ (ap (λ (k : ℕ). carried_again (count_resent block) k (carriers s.made)) first_again
     ∙ (ap (λ (k : ℕ). carried_again k (length s.made + 1) (carriers s.made)) n
-    ∙ (ap (carried_again (length us) (length s.made + 1)) h.is ∙ again h.front (Ring s.confirmed s.made) us (length s.made + 1) (ring_of-units s)))))) in
-    let grown : length b.made ≡ length a.made + length (datas us now a) = ap length (resend-made us now a) ∙ length-append a.made (datas us now a) in
+    ∙ (ap (carried_again (length us) (length s.made + 1)) h.is
+    ∙ again h.front (Ring s.confirmed s.made) us (length s.made + 1) (ring_of-units s)))))) in
+    let grown : length b.made ≡ length a.made + length (datas us now a) = ap length (resend-made us now a)
+    ∙ length-append a.made (datas us now a) in
     let still : b.confirmed ≡ s.confirmed = resend-confirmed us now a in
     let ring : Ring b.confirmed (reply now s).made ≡ renumber_units (length s.made + 1) us =
     ring-push b.confirmed b.made last (omega (arith, still, grown, in_place))
@@ -276,7 +301,8 @@ replied now s h =
 kept-carriers : Kept Anything Anything Carriers
 kept-carriers =
     record {
-      silent = λ s t same h. subst (λ ms. CarriersOf ms t.confirmed) (sym same.1) (subst (λ (k : ℕ). CarriersOf s.made k) (sym same.2) h);
+      silent = λ s t same h. subst (λ ms. CarriersOf ms t.confirmed) (sym same.1)
+          (subst (λ (k : ℕ). CarriersOf s.made k) (sym same.2) h);
       plain = λ kind body now s is fits h. push s.made s.confirmed (next_made s kind body now) (plain-new kind is) h;
       passes = λ p d s a h. h;
       confirms = λ p s fits h.
@@ -286,7 +312,8 @@ kept-carriers =
           let m = next_made s ConnResp (opening_body s.settings.n_sendmax) now in
           let longer : length (s.made ++ m ∷ []) ≡ length s.made + 1 = length-append s.made (m ∷ []) in
           confirm (s.made ++ m ∷ []) s.confirmed (length s.made)
-          (elim h.placed [ inl less ↦ omega (arith, less) | inr empty ↦ omega (arith, empty.1) ]) (omega (arith, longer))
+          (elim h.placed [ inl less ↦ omega (arith, less) | inr empty ↦ omega (arith, empty.1) ])
+          (omega (arith, longer))
           (push s.made s.confirmed m refl h);
       sends = λ unit now s a h. push s.made s.confirmed (next_made s Data unit now) refl h;
       replies = λ now s h. replied now s h;
@@ -298,7 +325,8 @@ carriers-opened settings first now = grind arith
 reached : (s : State) → Carriers s → ReachedState s
 reached s h =
     let ring = Ring s.confirmed s.made in
-    let all_there : above s.confirmed ring ≡ ring = carried_at-above s.confirmed (s.confirmed + 1) [] (drop (s.confirmed + 1) s.made) (omega arith) in
+    let all_there : above s.confirmed ring ≡ ring = carried_at-above s.confirmed (s.confirmed + 1) []
+    (drop (s.confirmed + 1) s.made) (omega arith) in
     record {
       by_carriers =
           sym (ap octets_of (ap (above s.confirmed) h.is

@@ -20,7 +20,8 @@ carries-unit kind body e = grind arith
 pub carries-none : (kind : Kind) (body : List ℕ) → is_carrier_kind kind ≡ false → after_pdu kind body [] ≡ []
 carries-none kind body e = grind arith
 
-pub in_turn-room : (connection : ConnectionState) → in_turn connection ≡ true → (room connection ≡ 0) × (is_connected connection ≡ true)
+pub in_turn-room : (connection : ConnectionState) → in_turn connection ≡ true → (room connection ≡ 0)
+    × (is_connected connection ≡ true)
 in_turn-room connection e = grind arith
 
 -- What each decision says about the state and the PDU.
@@ -83,11 +84,13 @@ Fits v p now Connects = (v.connection ≡ Start) × (v.settings.client ≡ true)
 Fits v p now (Takes to) = TakeFits v p now to
 Fits v p now Asks = AskFits v p
 Fits v p now Resumes = ResumeFits v p now
-Fits v p now AnswersNext = AnswerFits v p × (distance v p ≡ 0) × (in_turn v.connection ≡ true) × (cts_fits v p now ≡ true)
+Fits v p now AnswersNext =
+    AnswerFits v p × (distance v p ≡ 0) × (in_turn v.connection ≡ true) × (cts_fits v p now ≡ true)
 Fits v p now AnswersEarly = AnswerFits v p
 Fits v p now _ = Unit {0}
 
-pub listens-live : (connection : ConnectionState) (client : Bool) → listens connection client ≡ true → is_live connection ≡ true
+pub listens-live : (connection : ConnectionState) (client : Bool) → listens connection client ≡ true
+    → is_live connection ≡ true
 listens-live connection client h = grind arith
 
 -- Every decision that is made fits.

@@ -1,4 +1,5 @@
--- What turns do to a history, change by change: the vocabulary of the laws' proofs. `Turns` defines turns; `TurnSteps` proves that a step is one.
+-- What turns do to a history, change by change: the vocabulary of the laws' proofs. `Turns` defines turns; `TurnSteps`
+-- proves that a step is one.
 use Rattle.std.specs.Prelude.{ℕ, ◌+◌, nat_le, List, [], ◌∷◌, ◌++◌, length, if◌then◌else◌}
 use Rattle.safe_pdu.specs.declared.Kind.{Kind}
 use Rattle.safe_pdu.specs.declared.Kind.TheVariants.{ConnResp, RetrReq, RetrResp, DiscReq, Heartbeat, RetrData}

@@ -22,7 +22,8 @@ use Rattle.safe_machine.specs.Numbers.{sn_of}
 -- Nothing changes that is derived from the PDUs made.
 abbrev pub Silent : State → State → Type 0
 Silent s t =
-    (t.settings ≡ s.settings) × (t.made ≡ s.made) × (t.confirmed ≡ s.confirmed) × (t.last_sn ≡ s.last_sn) × (t.last_ts ≡ s.last_ts)
+    (t.settings ≡ s.settings) × (t.made ≡ s.made) × (t.confirmed ≡ s.confirmed) × (t.last_sn ≡ s.last_sn)
+    × (t.last_ts ≡ s.last_ts)
 
 -- PDUs without a unit, and not a RetrResp.
 abbrev pub is_plain : Kind → Bool
@@ -34,10 +35,12 @@ is_plain _ = false
 -- P is kept if A holds for each PDU that arrives and U for each unit that is sent.
 pub record Kept (A : Pdu → Type 0) (U : List ℕ → Type 0) (P : State → Type 0) : Type 0 where
   pub silent : (s t : State) → Silent s t → P s → P t
-  pub plain : (kind : Kind) (body : List ℕ) (now : ℕ) (s : State) → is_plain kind ≡ true → IsBody kind body → P s → P (make kind body now s)
+  pub plain : (kind : Kind) (body : List ℕ) (now : ℕ) (s : State) → is_plain kind ≡ true → IsBody kind body → P s
+      → P (make kind body now s)
   pub passes : (p : Pdu) (d : ℕ) (s : State) → A p → P s → P (pass p d s)
   pub confirms : (p : Pdu) (s : State) → cs_fits (kept_of s) p ≡ true → P s → P (confirm_units p s)
-  pub accepts : (now : ℕ) (s : State) → P s → P (confirm_to (length s.made) now (make ConnResp (opening_body s.settings.n_sendmax) now s))
+  pub accepts : (now : ℕ) (s : State) → P s
+      → P (confirm_to (length s.made) now (make ConnResp (opening_body s.settings.n_sendmax) now s))
   pub sends : (unit : List ℕ) (now : ℕ) (s : State) → U unit → P s → P (make Data unit now s)
   pub replies : (now : ℕ) (s : State) → P s → P (reply now s)
 
@@ -64,7 +67,8 @@ module _ (A : Pdu → Type 0) (U : List ℕ → Type 0) (P : State → Type 0) (
   kept-tests : (p : Pdu) (s : State) → cs_fits (kept_of s) p ≡ true → P s → P (tests_passed p s)
   kept-tests p s fits h = grind arith
 
-  pub kept-decided : (p : Pdu) (now : ℕ) (d : Decision) (s : State) → A p → Fits (kept_of s) p now d → P s → P (carry_out p now d s)
+  pub kept-decided : (p : Pdu) (now : ℕ) (d : Decision) (s : State) → A p → Fits (kept_of s) p now d → P s
+      → P (carry_out p now d s)
   kept-decided p now Nothing s a f h = h
   kept-decided p now (Drops cause) s a f h = h
   kept-decided p now Shuts s a f h = k.silent s (move_to Closed s) (refl, refl, refl, refl, refl) h
@@ -83,36 +87,42 @@ module _ (A : Pdu → Type 0) (U : List ℕ → Type 0) (P : State → Type 0) (
       let y = set_window (window_of p.body) (pass p 0 t) in
       let z = make Heartbeat [] now y in
       k.silent z (move_to Up z) (refl, refl, refl, refl, refl)
-      (k.plain Heartbeat [] now y refl refl (k.silent (pass p 0 t) y (refl, refl, refl, refl, refl) (k.passes p 0 t a (kept-tests p s f.3.cs h))))
+      (k.plain Heartbeat [] now y refl refl (k.silent (pass p 0 t) y (refl, refl, refl, refl, refl)
+      (k.passes p 0 t a (kept-tests p s f.3.cs h))))
   kept-decided p now (Takes to) s a f h =
       let t = tests_passed p s in
       let y = move_to to (pass p 0 t) in
       let z = hand_up p y in
-      let before : P y = k.silent (pass p 0 t) y (refl, refl, refl, refl, refl) (k.passes p 0 t a (kept-tests p s f.passed.cs h)) in
+      let before : P y = k.silent (pass p 0 t) y (refl, refl, refl, refl, refl)
+      (k.passes p 0 t a (kept-tests p s f.passed.cs h)) in
       let up : P z = k.silent y z (refl, refl, refl, refl, refl) before in
       unit-cases P p now y (λ _. k.plain Heartbeat [] now z refl refl up) (λ _ _. up) (λ _. before)
   kept-decided p now Asks s a f h = grind arith
   kept-decided p now Resumes s a f h =
       let t = tests_passed p s in
       let y = pass p (distance (kept_of s) p) t in
-      k.silent y (move_to RetrRun y) (refl, refl, refl, refl, refl) (k.passes p (distance (kept_of s) p) t a (kept-tests p s f.passed.cs h))
+      k.silent y (move_to RetrRun y) (refl, refl, refl, refl, refl)
+      (k.passes p (distance (kept_of s) p) t a (kept-tests p s f.passed.cs h))
   kept-decided p now AnswersNext s a f h =
       let t = tests_passed p s in
       let y = note_request 0 t in
-      k.replies now (pass p 0 y) (k.passes p 0 y a (k.silent t y (refl, refl, refl, refl, refl) (kept-tests p s f.0.cs h)))
+      k.replies now (pass p 0 y) (k.passes p 0 y a
+      (k.silent t y (refl, refl, refl, refl, refl) (kept-tests p s f.0.cs h)))
   kept-decided p now AnswersEarly s a f h =
       let t = confirm_units p s in
       let y = note_request (distance (kept_of s) p) t in
       let z = reply now y in
       let m = make RetrReq [] now z in
       let before : P z = k.replies now y (k.silent t y (refl, refl, refl, refl, refl) (k.confirms p s f.cs h)) in
-      early-cases P p now s (λ _. k.silent m (move_to Requesting m) (refl, refl, refl, refl, refl) (k.plain RetrReq [] now z refl refl before)) before
+      early-cases P p now s (λ _. k.silent m (move_to Requesting m) (refl, refl, refl, refl, refl)
+      (k.plain RetrReq [] now z refl refl before)) before
 
   pub kept-move : (m : Move) (s : State) → AllowsMove A U m → P s → P (move m s)
   kept-move (Guards now) s a h = kept-guard now s h
   kept-move (Hears p now) s a h =
       let g = guard now s in
-      subst P (sym (arrive-is p now s)) (kept-decided p now (decide (kept_of g) p now) g a (decide-fits (kept_of g) p now) (kept-guard now s h))
+      subst P (sym (arrive-is p now s)) (kept-decided p now (decide (kept_of g) p now) g a
+      (decide-fits (kept_of g) p now) (kept-guard now s h))
   kept-move (Ticks now) s a h =
       let g = guard now s in
       let kept = kept-guard now s h in
@@ -131,13 +141,15 @@ kept-lists P same makes =
       confirms = λ p s fits h. same s (confirm_units p s) refl refl h;
       accepts = λ now s h.
           let m = make ConnResp (opening_body s.settings.n_sendmax) now s in
-          same m (confirm_to (length s.made) now m) refl refl (makes ConnResp (opening_body s.settings.n_sendmax) now s h);
+          same m (confirm_to (length s.made) now m) refl refl
+          (makes ConnResp (opening_body s.settings.n_sendmax) now s h);
       sends = λ unit now s a h. makes Data unit now s h;
       replies = λ now s h. made-again P now (λ kind body s none h. makes kind body now s h) s h;
     }
 
 -- A list of moves.
-pub kept-moved : (P : State → Type 0) → Kept Anything Anything P → (ms : List Move) (s : State) → P s → P (make_moves ms s)
+pub kept-moved : (P : State → Type 0) → Kept Anything Anything P → (ms : List Move) (s : State) → P s
+    → P (make_moves ms s)
 kept-moved P k [] s h = h
 kept-moved P k (m ∷ ms) s h = kept-moved P k ms (move m s) (kept-move Anything Anything P k m s (anything m) h)
 
@@ -145,9 +157,11 @@ kept-moved P k (m ∷ ms) s h = kept-moved P k ms (move m s) (kept-move Anything
 pub settings_law_holds : SettingsLaw
 settings_law_holds m s =
     kept-move Anything Anything (λ (t : State). t.settings ≡ s.settings)
-    (kept-lists (λ (t : State). t.settings ≡ s.settings) (λ a b e f h. e ∙ h) (λ kind body now a h. h)) m s (anything m) refl
+    (kept-lists (λ (t : State). t.settings ≡ s.settings) (λ a b e f h. e ∙ h) (λ kind body now a h. h)) m s (anything m)
+    refl
 
-from-push : (settings : Settings) (ms : List Made) (m : Made) → AreFrom settings ms → (m.pdu.receiver ≡ settings.peer) × (m.pdu.sender ≡ settings.own)
+from-push : (settings : Settings) (ms : List Made) (m : Made) → AreFrom settings ms → (m.pdu.receiver ≡ settings.peer)
+    × (m.pdu.sender ≡ settings.own)
     → AreFrom settings (ms ++ m ∷ [])
 from-push settings [] m h k = (k, tt)
 from-push settings (x ∷ xs) m h k = (h.0, from-push settings xs m h.1 k)
@@ -157,9 +171,13 @@ identified_law_holds settings first now ms =
     let P : State → Type 0 = λ s. (s.settings ≡ settings) × AreFrom settings s.made in
     let kept : Kept Anything Anything P =
     kept-lists P (λ s t e f h. (e ∙ h.0, subst (AreFrom settings) (sym f) h.1))
-    (λ kind body now s h.
-    (h.0, from-push settings s.made (next_made s kind body now) h.1 (ap (λ (c : Settings). c.peer) h.0, ap (λ (c : Settings). c.own) h.0))) in
-    let begun : P (new_state settings first now) = opened-cases P settings first now (λ _. (refl, ((refl, refl), tt))) (λ _. (refl, tt)) in
+    (λ kind body now s h. (
+      h.0,
+      from-push settings s.made (next_made s kind body now) h.1
+          (ap (λ (c : Settings). c.peer) h.0, ap (λ (c : Settings). c.own) h.0),
+    )) in
+    let begun : P (new_state settings first now) = opened-cases P settings first now (λ _. (refl, ((refl, refl), tt)))
+    (λ _. (refl, tt)) in
     (kept-moved P kept ms (new_state settings first now) begun).1
 
 -- A stranger's PDU changes nothing.
@@ -167,7 +185,8 @@ pub strangers_law_holds : StrangersLaw
 strangers_law_holds p now s strange = grind arith
 
 -- The states that can follow a state.
-decided-goes : (p : Pdu) (now : ℕ) (s : State) (d : Decision) → Fits (kept_of s) p now d → GoesOn s.connection (carry_out p now d s).connection
+decided-goes : (p : Pdu) (now : ℕ) (s : State) (d : Decision) → Fits (kept_of s) p now d
+    → GoesOn s.connection (carry_out p now d s).connection
 decided-goes p now s Nothing f = inl refl
 decided-goes p now s (Drops cause) f = inl refl
 decided-goes p now s Accepts f = inr (inr (inl (f.0, refl)))
@@ -181,7 +200,8 @@ decided-goes p now s AnswersEarly f =
     (inl (reply-connection now (note_request (distance (kept_of s) p) (confirm_units p s))))
 decided-goes p now s _ f = inr (inl refl)
 
-connection-stays : (m : Move) (s : State) → HearsNothing m → ((move m s).connection ≡ s.connection) ⊎ ((move m s).connection ≡ Closed)
+connection-stays : (m : Move) (s : State) → HearsNothing m
+    → ((move m s).connection ≡ s.connection) ⊎ ((move m s).connection ≡ Closed)
 connection-stays m s quiet = grind arith
 
 stays-goes : (a b : ConnectionState) → (b ≡ a) ⊎ (b ≡ Closed) → GoesOn a b
@@ -217,7 +237,8 @@ grown m s =
     m s (anything m) ([], sym (append-nil s.made))
 
 -- A PDU without a new unit.
-unsent-make : (us : List (List ℕ)) (kind : Kind) (body : List ℕ) (now : ℕ) (s : State) → first_sent kind body ≡ [] → units s.made ≡ us
+unsent-make : (us : List (List ℕ)) (kind : Kind) (body : List ℕ) (now : ℕ) (s : State) → first_sent kind body ≡ []
+    → units s.made ≡ us
     → units (make kind body now s).made ≡ us
 unsent-make us kind body now s none h = grind (arith, units-append, append-nil)
 
@@ -233,16 +254,19 @@ kept-unsent us =
       confirms = λ p s fits h. h;
       accepts = λ now s h. unsent-make us ConnResp (opening_body s.settings.n_sendmax) now s refl h;
       sends = λ unit now s a h. absurd a;
-      replies = λ now s h. made-again (λ (s : State). units s.made ≡ us) now (λ kind body s none h. unsent-make us kind body now s none h) s h;
+      replies = λ now s h. made-again (λ (s : State). units s.made ≡ us) now
+          (λ kind body s none h. unsent-make us kind body now s none h) s h;
     }
 
 unsent : (m : Move) (s : State) → AllowsMove Anything (λ unit. ⊥) m → units (move m s).made ≡ units s.made ++ []
 unsent m s a =
-    kept-move Anything (λ unit. ⊥) (λ (t : State). units t.made ≡ units s.made) (kept-unsent (units s.made)) m s a refl ∙ sym (append-nil (units s.made))
+    kept-move Anything (λ unit. ⊥) (λ (t : State). units t.made ≡ units s.made) (kept-unsent (units s.made)) m s a refl
+    ∙ sym (append-nil (units s.made))
 
 move-sent : (m : Move) (s : State) → units (move m s).made ≡ units s.made ++ sent_by m s
 move-sent (Sends unit now) s =
-    subst (λ (t : State). units t.made ≡ units s.made ++ (if may_send s then unit ∷ [] else [])) (sym (send-is unit now s)) (go (may_send s))
+    subst (λ (t : State). units t.made ≡ units s.made ++ (if may_send s then unit ∷ [] else []))
+    (sym (send-is unit now s)) (go (may_send s))
   where
     go : (b : Bool) → units (if b then make Data unit now s else s).made ≡ units s.made ++ (if b then unit ∷ [] else [])
     go true = units-append s.made (next_made s Data unit now ∷ [])
@@ -277,7 +301,8 @@ joins-down a b h = grind arith
 pub requests_law_holds : RequestsLaw
 requests_law_holds h s down e = grind arith
 
-none-by : (p : Pdu) (now : ℕ) (d : Decision) (s : State) → (s.connection ≡ Down) ⊎ (s.connection ≡ Start) → Fits (kept_of s) p now d → handed_by d p ≡ []
+none-by : (p : Pdu) (now : ℕ) (d : Decision) (s : State) → (s.connection ≡ Down) ⊎ (s.connection ≡ Start)
+    → Fits (kept_of s) p now d → handed_by d p ≡ []
 none-by p now (Takes to) s before f = grind arith
 none-by p now _ s before f = refl
 
@@ -285,9 +310,11 @@ none-by p now _ s before f = refl
 pub waits_law_holds : WaitsLaw
 waits_law_holds m s before = taken-move m s ∙ ap (λ us. s.taken ++ us) (none-handed m s before) ∙ append-nil s.taken
   where
-    none-handed : (m : Move) (s : State) → (s.connection ≡ Down) ⊎ (s.connection ≡ Start) → units_of_move m (kept_of s) ≡ []
+    none-handed : (m : Move) (s : State) → (s.connection ≡ Down) ⊎ (s.connection ≡ Start)
+        → units_of_move m (kept_of s) ≡ []
     none-handed (Hears p now) s before =
-        by_guard-cases (λ (us : List (List ℕ)). us ≡ []) now (kept_of s) (λ reason detail. []) (handed_by (decide (kept_of s) p now) p) (λ reason detail. refl)
+        by_guard-cases (λ (us : List (List ℕ)). us ≡ []) now (kept_of s) (λ reason detail. [])
+        (handed_by (decide (kept_of s) p now) p) (λ reason detail. refl)
         (λ _. none-by p now (decide (kept_of s) p now) s before (decide-fits (kept_of s) p now))
     none-handed m s before = refl
 
@@ -326,7 +353,8 @@ texts-push : (ms : List Made) (m : Made) → HaveTexts ms → HasText m.pdu → 
 texts-push [] m h k = (k, tt)
 texts-push (a ∷ ms) m h k = (h.0, texts-push ms m h.1 k)
 
-pub texts-make : (kind : Kind) (body : List ℕ) (now : ℕ) (s : State) → IsBody kind body → length body ≤ UNIT_MAX → Texts s → Texts (make kind body now s)
+pub texts-make : (kind : Kind) (body : List ℕ) (now : ℕ) (s : State) → IsBody kind body → length body ≤ UNIT_MAX
+    → Texts s → Texts (make kind body now s)
 texts-make kind body now s fits small h =
     let m = next_made s kind body now in
     record {
@@ -356,7 +384,8 @@ sized-push : (us : List (List ℕ)) (u : List ℕ) → AllSized us → IsBody Da
 sized-push [] u h k = (k, tt)
 sized-push (a ∷ us) u h k = (h.0, sized-push us u h.1 k)
 
-sized-after : (kind : Kind) (body : List ℕ) (run : List (List ℕ)) → IsBody kind body → AllSized run → AllSized (after_pdu kind body run)
+sized-after : (kind : Kind) (body : List ℕ) (run : List (List ℕ)) → IsBody kind body → AllSized run
+    → AllSized (after_pdu kind body run)
 sized-after kind body run k h = grind (arith, sized-push)
 
 pub sized-run : (run : List (List ℕ)) (ms : List Made) → HaveTexts ms → AllSized run → AllSized (run_after run ms)
@@ -374,7 +403,8 @@ unit-small u h = leb-true (length u) UNIT_MAX (and_parts (nat_le UNIT_MIN (lengt
 
 texts-resend : (us : List (List ℕ)) (now : ℕ) (s : State) → AllSized us → Texts s → Texts (resend us now s)
 texts-resend [] now s k h = h
-texts-resend (u ∷ us) now s k h = texts-resend us now (make RetrData u now s) k.1 (texts-make RetrData u now s k.0 (unit-small u k.0) h)
+texts-resend (u ∷ us) now s k h =
+    texts-resend us now (make RetrData u now s) k.1 (texts-make RetrData u now s k.0 (unit-small u k.0) h)
 
 texts-reply : (now : ℕ) (s : State) → Texts s → Texts (reply now s)
 texts-reply now s h = grind (arith, sized-run, texts-drop, texts-make, texts-resend)
@@ -393,9 +423,11 @@ allowed m h = grind arith
 
 texts-moved : (ms : List Move) (s : State) → AreSoundMoves ms → Texts s → Texts (make_moves ms s)
 texts-moved [] s a h = h
-texts-moved (m ∷ ms) s a h = texts-moved ms (move m s) a.1 (kept-move HasNumbers IsUnitSized Texts kept-texts m s (allowed m a.0) h)
+texts-moved (m ∷ ms) s a h =
+    texts-moved ms (move m s) a.1 (kept-move HasNumbers IsUnitSized Texts kept-texts m s (allowed m a.0) h)
 
-pub texts-opened : (settings : Settings) (first now : ℕ) → is_legal settings ≡ true → Texts (new_state settings first now)
+pub texts-opened : (settings : Settings) (first now : ℕ) → is_legal settings ≡ true
+    → Texts (new_state settings first now)
 texts-opened settings first now lawful =
     let own = own-legal settings lawful in
     let begun : State = blank settings first now Start in
@@ -405,4 +437,5 @@ texts-opened settings first now lawful =
     (λ _. record { own = own; sn = omega arith; ts = omega arith; texts = tt })
 
 pub texts_law_holds : TextsLaw
-texts_law_holds settings first now ms lawful sound = (texts-moved ms (new_state settings first now) sound (texts-opened settings first now lawful)).texts
+texts_law_holds settings first now ms lawful sound =
+    (texts-moved ms (new_state settings first now) sound (texts-opened settings first now lawful)).texts

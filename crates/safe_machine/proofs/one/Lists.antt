@@ -40,12 +40,14 @@ count-append sort [] b = omega arith
 count-append sort (m ∷ a) b = omega (arith, count-append sort a b)
 
 -- A PDU that is not a RetrResp keeps what was carried before it at the front.
-pub after_pdu-front : (kind : Kind) (body : List ℕ) (front run : List (List ℕ)) → is_answer kind ≡ 0 → after_pdu kind body (front ++ run) ≡ front
+pub after_pdu-front : (kind : Kind) (body : List ℕ) (front run : List (List ℕ)) → is_answer kind ≡ 0
+    → after_pdu kind body (front ++ run) ≡ front
     ++ after_pdu kind body run
 after_pdu-front kind body front run e = grind (arith, append_assoc)
 
 -- Without a RetrResp, what was carried before stays at the front.
-pub run_after-front : (front run : List (List ℕ)) (ms : List Made) → answers ms ≡ 0 → run_after (front ++ run) ms ≡ front ++ run_after run ms
+pub run_after-front : (front run : List (List ℕ)) (ms : List Made) → answers ms ≡ 0
+    → run_after (front ++ run) ms ≡ front ++ run_after run ms
 run_after-front front run [] e = refl
 run_after-front front run (m ∷ ms) e =
     let none : is_answer m.pdu.kind ≡ 0 = omega arith in
@@ -54,7 +56,8 @@ run_after-front front run (m ∷ ms) e =
     ∙ run_after-front front (after_pdu m.pdu.kind m.pdu.body run) ms rest
 
 -- A RetrResp discards what was carried before it.
-pub after_answer : (kind : Kind) (body : List ℕ) (run : List (List ℕ)) → 1 ≤ is_answer kind → after_pdu kind body run ≡ []
+pub after_answer : (kind : Kind) (body : List ℕ) (run : List (List ℕ)) → 1 ≤ is_answer kind
+    → after_pdu kind body run ≡ []
 after_answer kind body run e = grind arith
 
 -- Places. `drop i ms ≡ m ∷ rest` means that m has index i.
@@ -64,14 +67,16 @@ at-length i ms m rest e = omega (arith, length-drop i ms, ap length e)
 pub at-next : (i : ℕ) (ms : List Made) (m : Made) (rest : List Made) → drop i ms ≡ m ∷ rest → drop (i + 1) ms ≡ rest
 at-next i ms m rest e = sym (drop-drop 1 i ms) ∙ ap (drop 1) e
 
-pub split_at : (r i : ℕ) (ms : List Made) (m : Made) (rest : List Made) → r ≤ i → drop i ms ≡ m ∷ rest → drop r ms ≡ take (i - r) (drop r ms) ++ m ∷ rest
+pub split_at : (r i : ℕ) (ms : List Made) (m : Made) (rest : List Made) → r ≤ i → drop i ms ≡ m ∷ rest
+    → drop r ms ≡ take (i - r) (drop r ms) ++ m ∷ rest
 split_at r i ms m rest h e =
     let same : r + (i - r) ≡ i = omega arith in
     sym (take-append-drop (i - r) (drop r ms))
     ∙ ap (λ b. take (i - r) (drop r ms) ++ b) (drop-drop (i - r) r ms ∙ (ap (λ k. drop k ms) same ∙ e))
 
 -- What is carried from r on is what is carried after a RetrResp at i or later.
-pub run_of-resume : (r i : ℕ) (ms : List Made) (m : Made) (rest : List Made) → r ≤ i → drop i ms ≡ m ∷ rest → 1 ≤ is_answer m.pdu.kind
+pub run_of-resume : (r i : ℕ) (ms : List Made) (m : Made) (rest : List Made) → r ≤ i → drop i ms ≡ m ∷ rest
+    → 1 ≤ is_answer m.pdu.kind
     → run_of (drop r ms) ≡ run_of (drop (i + 1) ms)
 run_of-resume r i ms m rest h e a =
     ap run_of (split_at r i ms m rest h e)
@@ -87,13 +92,15 @@ count-at sort r i ms m rest h e =
     let tail : count sort (drop (i + 1) ms) ≡ count sort rest = ap (count sort) (at-next i ms m rest e) in
     omega arith
 
-pub count-push : (sort : Kind → ℕ) (ms : List Made) (m : Made) → count sort (ms ++ m ∷ []) ≡ count sort ms + sort m.pdu.kind
+pub count-push : (sort : Kind → ℕ) (ms : List Made) (m : Made)
+    → count sort (ms ++ m ∷ []) ≡ count sort ms + sort m.pdu.kind
 count-push sort ms m = omega (arith, count-append sort ms (m ∷ []))
 
 pub count-drop_nil : (sort : Kind → ℕ) (n : ℕ) → count sort (drop n []) ≡ 0
 count-drop_nil sort n = grind arith
 
-pub count-drop_push : (sort : Kind → ℕ) (n : ℕ) (ms : List Made) (m : Made) → count sort (drop n (ms ++ m ∷ [])) ≤ count sort (drop n ms) + sort m.pdu.kind
+pub count-drop_push : (sort : Kind → ℕ) (n : ℕ) (ms : List Made) (m : Made)
+    → count sort (drop n (ms ++ m ∷ [])) ≤ count sort (drop n ms) + sort m.pdu.kind
 count-drop_push sort zero ms m = omega (arith, count-push sort ms m)
 count-drop_push sort (suc n) [] m = grind (arith, count-drop_nil)
 count-drop_push sort (suc n) (x ∷ ms) m = count-drop_push sort n ms m
@@ -111,7 +118,8 @@ pub every-append : (P : Made → Type 0) (a b : List Made) → Every P a → Eve
 every-append P [] b h k = k
 every-append P (m ∷ a) b h k = (h.0, every-append P a b h.1 k)
 
-pub every-drop_push : (P : Made → Type 0) (n : ℕ) (ms : List Made) (m : Made) → Every P (drop n ms) → P m → Every P (drop n (ms ++ m ∷ []))
+pub every-drop_push : (P : Made → Type 0) (n : ℕ) (ms : List Made) (m : Made) → Every P (drop n ms) → P m
+    → Every P (drop n (ms ++ m ∷ []))
 every-drop_push P zero ms m h k = every-push P ms m h k
 every-drop_push P (suc n) [] m h k = elim n as (λ j. Every P (drop j [])) [ zero ↦ tt | suc j ↦ tt ]
 every-drop_push P (suc n) (x ∷ ms) m h k = every-drop_push P n ms m h k
@@ -121,7 +129,8 @@ every-weaken P Q [] f h = tt
 every-weaken P Q (m ∷ ms) f h = (f m h.0, every-weaken P Q ms f h.1)
 
 -- What holds at each index holds for all.
-pub every-from : (P : Made → Type 0) (ms : List Made) → ((i : ℕ) (m : Made) (rest : List Made) → drop i ms ≡ m ∷ rest → P m) → Every P ms
+pub every-from : (P : Made → Type 0) (ms : List Made)
+    → ((i : ℕ) (m : Made) (rest : List Made) → drop i ms ≡ m ∷ rest → P m) → Every P ms
 every-from P [] h = tt
 every-from P (m ∷ ms) h = (h 0 m ms refl, every-from P ms (λ i. h (suc i)))
 
@@ -134,7 +143,8 @@ every-behind : (P : Made → Type 0) (a b : List Made) → Every P (a ++ b) → 
 every-behind P [] b h = h
 every-behind P (x ∷ a) b h = every-behind P a b h.1
 
-pub every-at : (P : Made → Type 0) (r i : ℕ) (ms : List Made) (m : Made) (rest : List Made) → Every P (drop r ms) → r ≤ i → drop i ms ≡ m ∷ rest → P m
+pub every-at : (P : Made → Type 0) (r i : ℕ) (ms : List Made) (m : Made) (rest : List Made) → Every P (drop r ms)
+    → r ≤ i → drop i ms ≡ m ∷ rest → P m
 every-at P r i ms m rest h k e =
     (every-behind P (take (i - r) (drop r ms)) (m ∷ rest) (subst (Every P) (split_at r i ms m rest k e) h)).0
 
@@ -153,13 +163,16 @@ abbrev pub CountsUp : ℕ → ℕ → List Made → Type 0
 CountsUp first i [] = Unit {0}
 CountsUp first i (m ∷ ms) = (m.pdu.sn ≡ sn_of first i) × CountsUp first (i + 1) ms
 
-pub numbered-push : (first i : ℕ) (ms : List Made) (m : Made) → CountsUp first i ms → m.pdu.sn ≡ sn_of first (i + length ms) → CountsUp first i (ms ++ m ∷ [])
-numbered-push first i [] m h e = let same : i + length {A = Made} [] ≡ i = omega arith in (e ∙ ap (sn_of first) same, tt)
+pub numbered-push : (first i : ℕ) (ms : List Made) (m : Made) → CountsUp first i ms
+    → m.pdu.sn ≡ sn_of first (i + length ms) → CountsUp first i (ms ++ m ∷ [])
+numbered-push first i [] m h e = let same : i + length {A = Made} [] ≡ i =
+    omega arith in (e ∙ ap (sn_of first) same, tt)
 numbered-push first i (x ∷ ms) m h e =
     let same : i + length (x ∷ ms) ≡ (i + 1) + length ms = omega arith in
     (h.0, numbered-push first (i + 1) ms m h.1 (e ∙ ap (sn_of first) same))
 
-pub numbered-at : (first i k : ℕ) (ms : List Made) (m : Made) (rest : List Made) → CountsUp first i ms → drop k ms ≡ m ∷ rest → m.pdu.sn ≡ sn_of first (i + k)
+pub numbered-at : (first i k : ℕ) (ms : List Made) (m : Made) (rest : List Made) → CountsUp first i ms
+    → drop k ms ≡ m ∷ rest → m.pdu.sn ≡ sn_of first (i + k)
 numbered-at first i zero [] m rest h e = cc
 numbered-at first i zero (x ∷ ms) m rest h e = grind arith
 numbered-at first i (suc k) [] m rest h e = cc
@@ -172,7 +185,8 @@ every-drop_all P [] = tt
 every-drop_all P (m ∷ ms) = every-drop_all P ms
 
 -- The first PDU of a list carries nothing.
-pub first_plain-push : (ms : List Made) (m : Made) → run_of ms ≡ run_of (drop 1 ms) → (ms ≡ [] → after_pdu m.pdu.kind m.pdu.body [] ≡ [])
+pub first_plain-push : (ms : List Made) (m : Made) → run_of ms ≡ run_of (drop 1 ms)
+    → (ms ≡ [] → after_pdu m.pdu.kind m.pdu.body [] ≡ [])
     → run_of (ms ++ m ∷ []) ≡ run_of (drop 1 (ms ++ m ∷ []))
 first_plain-push ms m h plain = grind (arith, run_after-append)
 
@@ -201,36 +215,45 @@ InTime now v = is_live v.connection ≡ true → (now < v.confirmed_at + v.setti
 
 -- The timeout check: either it disconnects, or the rest follows.
 pub by_guard-cases : {A : Type 0} (P : A → Type 0) (now : ℕ) (v : View) (leaves : Reason → Detail → A) (goes : A)
-    → ((reason : Reason) (detail : Detail) → P (leaves reason detail)) → (InTime now v → P goes) → P (by_guard now v leaves goes)
+    → ((reason : Reason) (detail : Detail) → P (leaves reason detail)) → (InTime now v → P goes)
+    → P (by_guard now v leaves goes)
 by_guard-cases P now v leaves goes left on = grind arith
 
 -- Two results of the timeout check.
-pub by_guard-two : {A B : Type 0} (R : A → B → Type 0) (now : ℕ) (v : View) (leaves_a : Reason → Detail → A) (goes_a : A) (leaves_b : Reason → Detail → B)
+pub by_guard-two : {A B : Type 0} (R : A → B → Type 0) (now : ℕ) (v : View) (leaves_a : Reason → Detail
+    → A) (goes_a : A) (leaves_b : Reason → Detail → B)
     (goes_b : B) →
     ((reason : Reason) (detail : Detail) → R (leaves_a reason detail) (leaves_b reason detail)) → R goes_a goes_b
     → R (by_guard now v leaves_a goes_a) (by_guard now v leaves_b goes_b)
-by_guard-two R now v leaves_a goes_a leaves_b goes_b left on = go (is_live v.connection) (nat_le (v.confirmed_at + v.settings.t_max) now)
+by_guard-two R now v leaves_a goes_a leaves_b goes_b left on =
+    go (is_live v.connection) (nat_le (v.confirmed_at + v.settings.t_max) now)
     (nat_le v.settings.pdu_limit v.made)
   where
     go : (live late full : Bool) →
-        R (if live then (if late then leaves_a Timeout Unspecified else if full then leaves_a ProtocolError Limit else goes_a) else goes_a)
-        (if live then (if late then leaves_b Timeout Unspecified else if full then leaves_b ProtocolError Limit else goes_b) else goes_b)
+        R (if live then (if late then leaves_a Timeout Unspecified else if full then leaves_a ProtocolError Limit
+        else goes_a) else goes_a)
+        (if live then (if late then leaves_b Timeout Unspecified else if full then leaves_b ProtocolError Limit
+        else goes_b) else goes_b)
     go true true full = left Timeout Unspecified
     go true false true = left ProtocolError Limit
     go true false false = on
     go false late full = on
 
 -- A heartbeat that is due, or nothing.
-pub heartbeat-cases : (P : State → Type 0) (now : ℕ) (s : State) → (is_connected s.connection ≡ true → P (make Heartbeat [] now s)) → P s → P (heartbeat now s)
+pub heartbeat-cases : (P : State → Type 0) (now : ℕ) (s : State)
+    → (is_connected s.connection ≡ true → P (make Heartbeat [] now s)) → P s → P (heartbeat now s)
 heartbeat-cases P now s beats quiet = grind arith
 
 -- A unit, with a heartbeat if it is the mwa-th.
-pub unit-cases : (P : State → Type 0) (p : Pdu) (now : ℕ) (s : State) → (is_carrier_kind p.kind ≡ true → P (make Heartbeat [] now (hand_up p s)))
-    → (is_carrier_kind p.kind ≡ true → s.since + 1 < s.settings.mwa → P (hand_up p s)) → (is_carrier_kind p.kind ≡ false → P s) → P (take_unit p now s)
+pub unit-cases : (P : State → Type 0) (p : Pdu) (now : ℕ) (s : State)
+    → (is_carrier_kind p.kind ≡ true → P (make Heartbeat [] now (hand_up p s)))
+    → (is_carrier_kind p.kind ≡ true → s.since + 1 < s.settings.mwa → P (hand_up p s))
+    → (is_carrier_kind p.kind ≡ false → P s) → P (take_unit p now s)
 unit-cases P p now s beats up none = grind arith
 
 -- An answer to a request that is not the next PDU, with the end's own request if it takes units in order.
-pub early-cases : (P : State → Type 0) (p : Pdu) (now : ℕ) (s : State) → (in_turn s.connection ≡ true → P (ask now (answered_ahead p now s)))
+pub early-cases : (P : State → Type 0) (p : Pdu) (now : ℕ) (s : State)
+    → (in_turn s.connection ≡ true → P (ask now (answered_ahead p now s)))
     → P (answered_ahead p now s) → P (carry_out p now AnswersEarly s)
 early-cases P p now s asks waits = grind arith
 
@@ -284,7 +307,8 @@ opening_window n small = omega (arith, small)
 -- What sending units again leaves unchanged.
 
 -- Every part of a state that each PDU made leaves unchanged.
-resend-keeps : {X : Type 0} (part : State → X) → ((kind : Kind) (body : List ℕ) (now : ℕ) (s : State) → part (make kind body now s) ≡ part s) →
+resend-keeps : {X : Type 0} (part : State → X)
+    → ((kind : Kind) (body : List ℕ) (now : ℕ) (s : State) → part (make kind body now s) ≡ part s) →
     (us : List (List ℕ)) (now : ℕ) (s : State) → part (resend us now s) ≡ part s
 resend-keeps part one [] now s = refl
 resend-keeps part one (u ∷ us) now s = resend-keeps part one us now (make RetrData u now s) ∙ one RetrData u now s
@@ -309,7 +333,8 @@ resend-taken = resend-keeps (λ (s : State). s.taken) (λ kind body now s. refl)
 
 -- What each PDU without a new unit keeps, an answer keeps.
 pub made-again : (P : State → Type 0) (now : ℕ) →
-    ((kind : Kind) (body : List ℕ) (s : State) → first_sent kind body ≡ [] → P s → P (make kind body now s)) → (s : State) → P s → P (reply now s)
+    ((kind : Kind) (body : List ℕ) (s : State) → first_sent kind body ≡ [] → P s → P (make kind body now s))
+    → (s : State) → P s → P (reply now s)
 made-again P now one s h =
     let a = make RetrResp [] now s in
     one Heartbeat [] (resend (unconfirmed s) now a) refl (again (unconfirmed s) a (one RetrResp [] s refl h))
@@ -331,7 +356,8 @@ none-taken s = sym (append-nil s.taken)
 unit-taken : (p : Pdu) (now : ℕ) (s : State) → (take_unit p now s).taken ≡ s.taken ++ carried_unit p
 unit-taken p now s = search rules
 
-pub decided-taken : (p : Pdu) (now : ℕ) (d : Decision) (s : State) → (carry_out p now d s).taken ≡ s.taken ++ handed_by d p
+pub decided-taken : (p : Pdu) (now : ℕ) (d : Decision) (s : State)
+    → (carry_out p now d s).taken ≡ s.taken ++ handed_by d p
 decided-taken p now (Leaves reason detail) s = refl
 decided-taken p now (Takes to) s = unit-taken p now (move_to to (pass p 0 (tests_passed p s)))
 decided-taken p now AnswersNext s = reply-taken now (pass p 0 (note_request 0 (tests_passed p s))) ∙ none-taken s
@@ -340,19 +366,22 @@ decided-taken p now AnswersEarly s =
     early-cases (λ u. u.taken ≡ s.taken ++ []) p now s (λ _. same) same
 decided-taken p now _ s = none-taken s
 
--- Confirming drops the units that are not above from the ring, an answer renumbers it, and its units are the unconfirmed ones.
+-- Confirming drops the units that are not above from the ring, an answer renumbers it, and its units are the
+-- unconfirmed ones.
 pub octets_of-append : (a b : List Numbered) → octets_of (a ++ b) ≡ octets_of a ++ octets_of b
 octets_of-append = map-append (λ (c : Numbered). c.octets)
 
 pub octets_of-length : (cs : List Numbered) → length (octets_of cs) ≡ length cs
 octets_of-length cs = length-map cs (λ (c : Numbered). c.octets)
 
-after_at-units : (kind : Kind) (body : List ℕ) (index : ℕ) (run : List Numbered) → octets_of (after_at kind body index run) ≡ after_pdu kind body
+after_at-units : (kind : Kind) (body : List ℕ) (index : ℕ) (run : List Numbered)
+    → octets_of (after_at kind body index run) ≡ after_pdu kind body
     (octets_of run)
 after_at-units kind body index run = grind (arith, octets_of-append)
 
 -- The units of the ring are the unconfirmed ones.
-pub carried_at-units : (index : ℕ) (run : List Numbered) (ms : List Made) → octets_of (carried_at index run ms) ≡ run_after (octets_of run) ms
+pub carried_at-units : (index : ℕ) (run : List Numbered) (ms : List Made)
+    → octets_of (carried_at index run ms) ≡ run_after (octets_of run) ms
 carried_at-units index run [] = refl
 carried_at-units index run (m ∷ ms) =
     carried_at-units (index + 1) (after_at m.pdu.kind m.pdu.body index run) ms
@@ -361,7 +390,8 @@ carried_at-units index run (m ∷ ms) =
 pub ring_of-units : (s : State) → octets_of (ring_of s) ≡ unconfirmed s
 ring_of-units s = carried_at-units (s.confirmed + 1) [] (drop (s.confirmed + 1) s.made)
 
-pub carried_at-append : (index : ℕ) (run : List Numbered) (a b : List Made) → carried_at index run (a ++ b) ≡ carried_at (index + length a)
+pub carried_at-append : (index : ℕ) (run : List Numbered) (a b : List Made)
+    → carried_at index run (a ++ b) ≡ carried_at (index + length a)
     (carried_at index run a) b
 carried_at-append index run [] b = ap (λ (n : ℕ). carried_at n run b) (omega arith)
 carried_at-append index run (m ∷ a) b =
@@ -372,43 +402,53 @@ carried_at-append index run (m ∷ a) b =
 pub above-append : (index : ℕ) (a b : List Numbered) → above index (a ++ b) ≡ above index a ++ above index b
 above-append index = filter-append (λ (c : Numbered). nat_lt index c.number)
 
-pub above-one : (index p : ℕ) (unit : List ℕ) → index < p → above index (record { number = p; octets = unit } ∷ []) ≡ record { number = p; octets = unit } ∷ []
-above-one index p unit h = ap (λ (t : Bool). if t then record { number = p; octets = unit } ∷ [] else []) (lt-ltb index p h)
+pub above-one : (index p : ℕ) (unit : List ℕ) → index < p
+    → above index (record { number = p; octets = unit } ∷ []) ≡ record { number = p; octets = unit } ∷ []
+above-one index p unit h =
+    ap (λ (t : Bool). if t then record { number = p; octets = unit } ∷ [] else []) (lt-ltb index p h)
 
 below-one : (index p : ℕ) (unit : List ℕ) → p ≤ index → above index (record { number = p; octets = unit } ∷ []) ≡ []
 below-one index p unit h = grind arith
 
 -- After the confirmed index, every unit is kept.
-after_at-above : (kind : Kind) (body : List ℕ) (index p : ℕ) (run : List Numbered) → index < p → above index (after_at kind body p run) ≡ after_at kind body p
+after_at-above : (kind : Kind) (body : List ℕ) (index p : ℕ) (run : List Numbered) → index < p
+    → above index (after_at kind body p run) ≡ after_at kind body p
     (above index run)
 after_at-above kind body index p run h = grind (arith, above-append, above-one)
 
-pub carried_at-above : (index p : ℕ) (run : List Numbered) (ms : List Made) → index < p → above index (carried_at p run ms) ≡ carried_at p (above index run) ms
+pub carried_at-above : (index p : ℕ) (run : List Numbered) (ms : List Made) → index < p
+    → above index (carried_at p run ms) ≡ carried_at p (above index run) ms
 carried_at-above index p run [] h = refl
 carried_at-above index p run (m ∷ ms) h =
     carried_at-above index (p + 1) (after_at m.pdu.kind m.pdu.body p run) ms (omega arith)
     ∙ ap (λ cs. carried_at (p + 1) cs ms) (after_at-above m.pdu.kind m.pdu.body index p run h)
 
 -- Up to that index, no unit is kept.
-after_at-below : (kind : Kind) (body : List ℕ) (index p : ℕ) (run : List Numbered) → p ≤ index → above index run ≡ [] → above index (after_at kind body p run)
+after_at-below : (kind : Kind) (body : List ℕ) (index p : ℕ) (run : List Numbered) → p ≤ index → above index run ≡ []
+    → above index (after_at kind body p run)
     ≡ []
 after_at-below kind body index p run h e = grind (arith, above-append, below-one)
 
-carried_at-below : (index p : ℕ) (run : List Numbered) (ms : List Made) → p + length ms ≤ index + 1 → above index run ≡ [] → above index (carried_at p run ms)
+carried_at-below : (index p : ℕ) (run : List Numbered) (ms : List Made) → p + length ms ≤ index + 1
+    → above index run ≡ [] → above index (carried_at p run ms)
     ≡ []
 carried_at-below index p run [] h e = e
 carried_at-below index p run (m ∷ ms) h e =
-    carried_at-below index (p + 1) (after_at m.pdu.kind m.pdu.body p run) ms (omega arith) (after_at-below m.pdu.kind m.pdu.body index p run (omega arith) e)
+    carried_at-below index (p + 1) (after_at m.pdu.kind m.pdu.body p run) ms (omega arith)
+    (after_at-below m.pdu.kind m.pdu.body index p run (omega arith) e)
 
 -- `confirm` up to an index gives the ring of a state that has confirmed this index.
-pub ring-confirm : (a b : ℕ) (ms : List Made) → a ≤ b → b < length ms → above b (carried_at (a + 1) [] (drop (a + 1) ms)) ≡ carried_at (b + 1) []
+pub ring-confirm : (a b : ℕ) (ms : List Made) → a ≤ b → b < length ms
+    → above b (carried_at (a + 1) [] (drop (a + 1) ms)) ≡ carried_at (b + 1) []
     (drop (b + 1) ms)
 ring-confirm a b ms h l =
     let front = take (b - a) (drop (a + 1) ms) in
     let back = drop (b - a) (drop (a + 1) ms) in
     let size : length front ≡ b - a = length-take (b - a) (drop (a + 1) ms) ∙ omega (arith, length-drop (a + 1) ms) in
-    let split : carried_at (a + 1) [] (drop (a + 1) ms) ≡ carried_at (a + 1 + length front) (carried_at (a + 1) [] front) back =
-    ap (carried_at (a + 1) []) (sym (take-append-drop (b - a) (drop (a + 1) ms))) ∙ carried_at-append (a + 1) [] front back in
+    let split : carried_at (a + 1) [] (drop (a + 1) ms)
+    ≡ carried_at (a + 1 + length front) (carried_at (a + 1) [] front) back =
+    ap (carried_at (a + 1) []) (sym (take-append-drop (b - a) (drop (a + 1) ms)))
+    ∙ carried_at-append (a + 1) [] front back in
     let index : a + 1 + length front ≡ b + 1 = omega arith in
     let rest : back ≡ drop (b + 1) ms = drop-drop (b - a) (a + 1) ms ∙ ap (λ (n : ℕ). drop n ms) (omega arith) in
     ap (above b) split
@@ -417,14 +457,16 @@ ring-confirm a b ms h l =
     ∙ (ap (λ (n : ℕ). carried_at n [] back) index ∙ ap (carried_at (b + 1) []) rest)))
 
 -- Units sent again have consecutive indices.
-pub ring-resend : (us : List (List ℕ)) (now : ℕ) (s : State) → s.confirmed < length s.made → ring_of (resend us now s) ≡ ring_of s ++ renumber_units (length s.made)
+pub ring-resend : (us : List (List ℕ)) (now : ℕ) (s : State) → s.confirmed < length s.made
+    → ring_of (resend us now s) ≡ ring_of s ++ renumber_units (length s.made)
     us
 ring-resend [] now s h = sym (append-nil (ring_of s))
 ring-resend (u ∷ us) now s h =
     let m = next_made s RetrData u now in
     let t = make RetrData u now s in
     let more : length t.made ≡ length s.made + 1 = length-append s.made (m ∷ []) in
-    let size : length (drop (s.confirmed + 1) s.made) ≡ length s.made - (s.confirmed + 1) = length-drop (s.confirmed + 1) s.made in
+    let size : length (drop (s.confirmed + 1) s.made)
+    ≡ length s.made - (s.confirmed + 1) = length-drop (s.confirmed + 1) s.made in
     let index : s.confirmed + 1 + length (drop (s.confirmed + 1) s.made) ≡ length s.made = omega arith in
     let one : ring_of t ≡ ring_of s ++ record { number = length s.made; octets = u } ∷ [] =
     ap (carried_at (s.confirmed + 1) []) (drop-append-le (s.confirmed + 1) s.made (m ∷ []) (omega arith))
@@ -457,26 +499,31 @@ leaves_units RetrData = false
 leaves_units _ = true
 
 -- The ring after a PDU that does not change the units.
-leaves-after : (kind : Kind) (body : List ℕ) (index : ℕ) (run : List Numbered) → leaves_units kind ≡ true → after_at kind body index run ≡ run
+leaves-after : (kind : Kind) (body : List ℕ) (index : ℕ) (run : List Numbered) → leaves_units kind ≡ true
+    → after_at kind body index run ≡ run
 leaves-after kind body index run e = grind arith
 
-plain-carried : (n index : ℕ) (ms : List Made) (m : Made) → leaves_units m.pdu.kind ≡ true → carried_at index [] (drop n (ms ++ m ∷ [])) ≡ carried_at index []
+plain-carried : (n index : ℕ) (ms : List Made) (m : Made) → leaves_units m.pdu.kind ≡ true
+    → carried_at index [] (drop n (ms ++ m ∷ [])) ≡ carried_at index []
     (drop n ms)
 plain-carried zero index ms m e = grind (arith, carried_at-append, leaves-after)
 plain-carried (suc zero) index [] m e = refl
 plain-carried (suc (suc n)) index [] m e = refl
 plain-carried (suc n) index (a ∷ ms) m e = plain-carried n index ms m e
 
-pub plain-ring : (kind : Kind) (body : List ℕ) (now : ℕ) (s : State) → leaves_units kind ≡ true → ring_of (make kind body now s) ≡ ring_of s
+pub plain-ring : (kind : Kind) (body : List ℕ) (now : ℕ) (s : State) → leaves_units kind ≡ true
+    → ring_of (make kind body now s) ≡ ring_of s
 plain-ring kind body now s e = plain-carried (s.confirmed + 1) (s.confirmed + 1) s.made (next_made s kind body now) e
 
 -- A unit that is sent is the last in the ring.
-pub data-ring : (unit : List ℕ) (now : ℕ) (s : State) → s.confirmed < length s.made → ring_of (make Data unit now s) ≡ ring_of s
+pub data-ring : (unit : List ℕ) (now : ℕ) (s : State) → s.confirmed < length s.made
+    → ring_of (make Data unit now s) ≡ ring_of s
     ++ record { number = length s.made; octets = unit } ∷ []
 data-ring unit now s h = grind (arith, length-drop, drop-append-le, carried_at-append)
 
 -- What a PDU confirms.
-pub ring-step : (p : Pdu) (s : State) → cs_step (kept_of s) p < length s.made - s.confirmed → above (s.confirmed + cs_step (kept_of s) p) (ring_of s)
+pub ring-step : (p : Pdu) (s : State) → cs_step (kept_of s) p < length s.made - s.confirmed
+    → above (s.confirmed + cs_step (kept_of s) p) (ring_of s)
     ≡ ring_of (confirm_units p s)
 ring-step p s h = ring-confirm s.confirmed (s.confirmed + cs_step (kept_of s) p) s.made (omega arith) (omega arith)
 

@@ -22,7 +22,8 @@ abbrev pub Idle : State → Option ℕ → Type 0
 Idle fe joined = fe.connection ≡ Down → Untouched fe × (joined ≡ None)
 
 -- T is what else holds if the two have met, and P if the field element was opened later.
-pub record InvOf (T P : Type 0) (il : State) (il_before : List State) (fe : State) (joined : Option ℕ) (fe_before : List Served) (dead_il dead_fe : ℕ)
+pub record InvOf (T P : Type 0) (il : State) (il_before : List State) (fe : State) (joined : Option ℕ)
+    (fe_before : List Served) (dead_il dead_fe : ℕ)
     : Type 0 where
   pub bounded_il : Bounded il
   pub bounded_fe : Bounded fe
@@ -50,13 +51,18 @@ nothing-left (u ∷ us) vs e = cc
 
 -- The law, if the two have met.
 met-law : (s il : State) (before : List State) (fe : State) (joined : Option ℕ) (fe_before : List Served) (old : Served)
-    → Met (length before) il fe joined fe_before → AllTakeBeginnings (s ∷ before) fe_before → OnlyJoinedTake (old ∷ fe_before) before
-    → ((number : ℕ) → old.joined ≡ Some number → joined ≡ Some number) → LawOf (il ∷ before) (record { machine = fe; joined = joined } ∷ fe_before)
-met-law s il before fe None fe_before old m takes only more = grind (arith, nothing-left, all-takes, takes-other, fall-more, only-weaken)
-met-law s il before fe (Some number) fe_before old m takes only more = grind (arith, linked-latest, all-takes, takes-other, only-weaken)
+    → Met (length before) il fe joined fe_before → AllTakeBeginnings (s ∷ before) fe_before
+    → OnlyJoinedTake (old ∷ fe_before) before
+    → ((number : ℕ) → old.joined ≡ Some number → joined ≡ Some number)
+    → LawOf (il ∷ before) (record { machine = fe; joined = joined } ∷ fe_before)
+met-law s il before fe None fe_before old m takes only more =
+    grind (arith, nothing-left, all-takes, takes-other, fall-more, only-weaken)
+met-law s il before fe (Some number) fe_before old m takes only more =
+    grind (arith, linked-latest, all-takes, takes-other, only-weaken)
 
 -- The law, if the interlocking takes nothing.
-il_lone-law : (s t : State) (before : List State) (fes : List Served) → Lone s t → LawOf (s ∷ before) fes → LawOf (t ∷ before) fes
+il_lone-law : (s t : State) (before : List State) (fes : List Served) → Lone s t → LawOf (s ∷ before) fes
+    → LawOf (t ∷ before) fes
 il_lone-law s t before fes l h = grind (arith, all-takes, fall-more, takes-il_lone)
 
 fe_lone-law : (ils : List State) (s t : State) (p : Option ℕ) (before : List Served) → Lone s t →
@@ -79,18 +85,27 @@ module _ {T P T' P' : Type 0} where
   il-met : (w : World) (t : State) → Inv T P w → MetIn w → Pair t w.fe → Bounded t → T' → Inv T' P' (with_il t w)
   il-met w t h m pair b times =
       let after : Met (length w.il_before) t w.fe w.joined w.fe_before =
-      record { solo_il = pair.0; solo_fe = m.solo_fe; il_sends = pair.1; fe_sends = pair.2; joined_to = m.joined_to; falls = m.falls } in
+      record {
+        solo_il = pair.0;
+        solo_fe = m.solo_fe;
+        il_sends = pair.1;
+        fe_sends = pair.2;
+        joined_to = m.joined_to;
+        falls = m.falls;
+      } in
       record {
         bounded_il = b;
         bounded_fe = h.bounded_fe;
         idle = h.idle;
         status = met after times;
-        law = met-law w.il t w.il_before w.fe w.joined w.fe_before (record { machine = w.fe; joined = w.joined }) after h.law.beginnings.1 h.law.only_joined.1
+        law = met-law w.il t w.il_before w.fe w.joined w.fe_before (record { machine = w.fe; joined = w.joined }) after
+            h.law.beginnings.1 h.law.only_joined.1
             (λ number e. e);
         loses_nothing = met-loses_nothing t w.il_before w.fe w.joined w.fe_before after;
       }
 
-  il-later : (w : World) (t : State) → Inv T P w → IlLater (length w.il_before) w.il w.fe w.joined w.fe_before w.dead_fe → Mute t → Lone w.il t → Bounded t
+  il-later : (w : World) (t : State) → Inv T P w → IlLater (length w.il_before) w.il w.fe w.joined w.fe_before w.dead_fe
+      → Mute t → Lone w.il t → Bounded t
       → Inv T' P' (with_il t w)
   il-later w t h s mute l b =
       record {
@@ -100,12 +115,15 @@ module _ {T P T' P' : Type 0} where
         status = il_later (record { mute = mute; started = s.started; dead = s.dead; falls = s.falls });
         law = il_lone-law w.il t w.il_before (record { machine = w.fe; joined = w.joined } ∷ w.fe_before) l h.law;
         loses_nothing = record {
-          from_il = mute-loses_nothing t (taken_from_il (length w.il_before) (record { machine = w.fe; joined = w.joined } ∷ w.fe_before)) mute;
+          from_il =
+              mute-loses_nothing t (taken_from_il (length w.il_before)
+              (record { machine = w.fe; joined = w.joined } ∷ w.fe_before)) mute;
           from_fe = omega (arith, h.loses_nothing.from_fe, taken-other w.il t w.il_before w.joined s.falls.0);
         };
       }
 
-  il-fe_later : (w : World) (t : State) → Inv T P w → FeLater (length w.il_before) w.il w.fe w.joined w.fe_before w.dead_il → Lone w.il t → Bounded t
+  il-fe_later : (w : World) (t : State) → Inv T P w
+      → FeLater (length w.il_before) w.il w.fe w.joined w.fe_before w.dead_il → Lone w.il t → Bounded t
       → P' → Inv T' P' (with_il t w)
   il-fe_later w t h s l b past =
       record {
@@ -123,29 +141,36 @@ module _ {T P T' P' : Type 0} where
         law = il_lone-law w.il t w.il_before (record { machine = w.fe; joined = w.joined } ∷ w.fe_before) l h.law;
         loses_nothing = record {
           from_il =
-              lone-owes w.il t (taken_from_il (length w.il_before) (record { machine = w.fe; joined = w.joined } ∷ w.fe_before)) l h.loses_nothing.from_il;
+              lone-owes w.il t (taken_from_il (length w.il_before)
+              (record { machine = w.fe; joined = w.joined } ∷ w.fe_before)) l h.loses_nothing.from_il;
           from_fe = omega (arith, ap (λ ms. length (units ms)) s.made);
         };
       }
 
   -- A move of the interlocking that is not an arrival.
-  pub il-quiet : (w : World) (m : Move) → HearsNothing m → (MetIn w → T → T') → (P → P') → Inv T P w → Inv T' P' (with_il (move m w.il) w)
+  pub il-quiet : (w : World) (m : Move) → HearsNothing m → (MetIn w → T → T') → (P → P') → Inv T P w
+      → Inv T' P' (with_il (move m w.il) w)
   il-quiet w m quiet times past h = go h.status
     where
       go : StatusIn T P w → Inv T' P' (with_il (move m w.il) w)
       go (met s t) =
-          il-met w (move m w.il) h s (pair-move m w.il w.fe quiet (s.solo_il, s.il_sends, s.fe_sends)) (bounded-move m w.il quiet h.bounded_il) (times s t)
+          il-met w (move m w.il) h s (pair-move m w.il w.fe quiet (s.solo_il, s.il_sends, s.fe_sends))
+          (bounded-move m w.il quiet h.bounded_il) (times s t)
       go (il_later s) =
-          il-later w (move m w.il) h s (mute-move m w.il quiet s.mute) (lone-move m w.il quiet h.bounded_il) (bounded-move m w.il quiet h.bounded_il)
-      go (fe_later s p) = il-fe_later w (move m w.il) h s (lone-move m w.il quiet h.bounded_il) (bounded-move m w.il quiet h.bounded_il) (past p)
+          il-later w (move m w.il) h s (mute-move m w.il quiet s.mute) (lone-move m w.il quiet h.bounded_il)
+          (bounded-move m w.il quiet h.bounded_il)
+      go (fe_later s p) = il-fe_later w (move m w.il) h s (lone-move m w.il quiet h.bounded_il)
+          (bounded-move m w.il quiet h.bounded_il) (past p)
 
-  pub il-arrive : (w : World) (p : Pdu) (now : ℕ) → (MetIn w → T → T') → (P → P') → Inv T P w → GenuineAt w.il p (drop w.dead_fe w.fe.made)
+  pub il-arrive : (w : World) (p : Pdu) (now : ℕ) → (MetIn w → T → T') → (P → P') → Inv T P w
+      → GenuineAt w.il p (drop w.dead_fe w.fe.made)
       → Inv T' P' (with_il (arrive p now w.il) w)
   il-arrive w p now times past h genuine = go h.status
     where
       go : StatusIn T P w → Inv T' P' (with_il (arrive p now w.il) w)
       go (met s t) =
-          let r = pair-arrive now w.dead_fe p w.il w.fe (s.solo_il, s.il_sends, s.fe_sends) s.solo_fe h.bounded_il h.bounded_fe genuine in
+          let r = pair-arrive now w.dead_fe p w.il w.fe (s.solo_il, s.il_sends, s.fe_sends) s.solo_fe h.bounded_il
+          h.bounded_fe genuine in
           il-met w (arrive p now w.il) h s r.0 r.1 (times s t)
       go (il_later s) =
           let r = mute-arrive now w.dead_fe p w.il w.fe.made s.mute h.bounded_il s.dead genuine in
@@ -173,7 +198,8 @@ idle-lone s t p l h = grind arith
 joined-lone : (index : ℕ) (s t : State) (p : Option ℕ) → Lone s t → JoinedTo index s p → JoinedTo index t p
 joined-lone index s t p l h = grind arith
 
-pub still-lone : (s t : State) → Lone s t → (s.connection ≡ Down) ⊎ (s.connection ≡ Closed) → ((t.connection ≡ Down) ⊎ (t.connection ≡ Closed))
+pub still-lone : (s t : State) → Lone s t → (s.connection ≡ Down) ⊎ (s.connection ≡ Closed)
+    → ((t.connection ≡ Down) ⊎ (t.connection ≡ Closed))
     × (t.made ≡ s.made)
 still-lone s t l h = grind arith
 
@@ -186,7 +212,8 @@ AfterDown index s t =
     JoinedTo index t (if is_joining s.connection t.connection then Some index else None)
     × Idle t (if is_joining s.connection t.connection then Some index else None)
 
-down-carry : (index : ℕ) (p : Pdu) (now : ℕ) (s : State) → s.connection ≡ Down → Untouched s → (e : Decision) → Fits (kept_of s) p now e
+down-carry : (index : ℕ) (p : Pdu) (now : ℕ) (s : State) → s.connection ≡ Down → Untouched s → (e : Decision)
+    → Fits (kept_of s) p now e
     → AfterDown index s (carry_out p now e s)
 down-carry index p now s down k h f = grind arith
 
@@ -194,33 +221,47 @@ none_some : (number : ℕ) (o : Option ℕ) → o ≡ None → o ≡ Some number
 none_some number o a b = cc
 
 module _ {T P T' P' : Type 0} where
-  fe-met : (w : World) (t : State) (p : Option ℕ) → Inv T P w → MetIn w → Pair t w.il → Bounded t → Idle t p → JoinedTo (length w.il_before) t p
+  fe-met : (w : World) (t : State) (p : Option ℕ) → Inv T P w → MetIn w → Pair t w.il → Bounded t → Idle t p
+      → JoinedTo (length w.il_before) t p
       → ((number : ℕ) → w.joined ≡ Some number → p ≡ Some number) → T' → InvAt T' P' w t p
   fe-met w t p h m pair b idle joined more times =
       let after : Met (length w.il_before) w.il t p w.fe_before =
-      record { solo_il = m.solo_il; solo_fe = pair.0; il_sends = pair.2; fe_sends = pair.1; joined_to = joined; falls = m.falls } in
+      record {
+        solo_il = m.solo_il;
+        solo_fe = pair.0;
+        il_sends = pair.2;
+        fe_sends = pair.1;
+        joined_to = joined;
+        falls = m.falls;
+      } in
       record {
         bounded_il = h.bounded_il;
         bounded_fe = b;
         idle = idle;
         status = met after times;
-        law = met-law w.il w.il w.il_before t p w.fe_before (record { machine = w.fe; joined = w.joined }) after h.law.beginnings.1 h.law.only_joined.1 more;
+        law = met-law w.il w.il w.il_before t p w.fe_before (record { machine = w.fe; joined = w.joined }) after
+            h.law.beginnings.1 h.law.only_joined.1 more;
         loses_nothing = met-loses_nothing w.il w.il_before t p w.fe_before after;
       }
 
-  fe-il_later : (w : World) (t : State) → Inv T P w → IlLater (length w.il_before) w.il w.fe w.joined w.fe_before w.dead_fe → t.connection ≢ Down → Lone w.fe t
+  fe-il_later : (w : World) (t : State) → Inv T P w
+      → IlLater (length w.il_before) w.il w.fe w.joined w.fe_before w.dead_fe → t.connection ≢ Down → Lone w.fe t
       → Bounded t → InvAt T' P' w t w.joined
   fe-il_later w t h s on l b = grind (arith, fe_lone-law, mute-loses_nothing, lone-owes)
 
-  fe-fe_later : (w : World) (t : State) → Inv T P w → FeLater (length w.il_before) w.il w.fe w.joined w.fe_before w.dead_il
-      → (t.connection ≡ Down) ⊎ (t.connection ≡ Closed) → t.made ≡ w.fe.made → Lone w.fe t → Bounded t → P' → InvAt T' P' w t w.joined
+  fe-fe_later : (w : World) (t : State) → Inv T P w
+      → FeLater (length w.il_before) w.il w.fe w.joined w.fe_before w.dead_il
+      → (t.connection ≡ Down) ⊎ (t.connection ≡ Closed) → t.made ≡ w.fe.made → Lone w.fe t → Bounded t → P'
+      → InvAt T' P' w t w.joined
   fe-fe_later w t h s still same l b past = grind arith
 
   -- A move of the field element that is not an arrival.
-  pub fe-quiet : (w : World) (m : Move) → HearsNothing m → (MetIn w → T → T') → (P → P') → Inv T P w → Inv T' P' (with_fe (move m w.fe) w)
+  pub fe-quiet : (w : World) (m : Move) → HearsNothing m → (MetIn w → T → T') → (P → P') → Inv T P w
+      → Inv T' P' (with_fe (move m w.fe) w)
   fe-quiet w m quiet times past h =
       subst (InvAt T' P' w (move m w.fe))
-      (sym (kept w (move m w.fe) (joins-same w.fe.connection (move m w.fe).connection (lone-move m w.fe quiet h.bounded_fe).connection))) (go h.status)
+      (sym (kept w (move m w.fe) (joins-same w.fe.connection (move m w.fe).connection
+      (lone-move m w.fe quiet h.bounded_fe).connection))) (go h.status)
     where
       go : StatusIn T P w → InvAt T' P' w (move m w.fe) w.joined
       go status =
@@ -229,53 +270,66 @@ module _ {T P T' P' : Type 0} where
           let b = bounded-move m w.fe quiet h.bounded_fe in
           elim status [
             | met s x ↦
-                fe-met w t w.joined h s (pair-move m w.fe w.il quiet (s.solo_fe, s.fe_sends, s.il_sends)) b (idle-lone w.fe t w.joined l h.idle)
+                fe-met w t w.joined h s (pair-move m w.fe w.il quiet (s.solo_fe, s.fe_sends, s.il_sends)) b
+                (idle-lone w.fe t w.joined l h.idle)
                 (joined-lone (length w.il_before) w.fe t w.joined l s.joined_to) (λ number e. e) (times s x)
             | il_later s ↦ fe-il_later w t h s (on-lone w.fe t l s.started) l b
             | fe_later s p ↦ (let k = still-lone w.fe t l s.connection in fe-fe_later w t h s k.0 k.1 l b (past p))
           ]
 
-  fe-arrive_met : (w : World) (p : Pdu) (now : ℕ) → Inv T P w → MetIn w → GenuineAt w.fe p (drop w.dead_il w.il.made) → T'
+  fe-arrive_met : (w : World) (p : Pdu) (now : ℕ) → Inv T P w → MetIn w → GenuineAt w.fe p (drop w.dead_il w.il.made)
+      → T'
       → Inv T' P' (with_fe (arrive p now w.fe) w)
-  fe-arrive_met w p now h m genuine times = elim (down_or w.fe.connection) [ inl down ↦ in_down down | inr on ↦ while_on on ]
+  fe-arrive_met w p now h m genuine times =
+      elim (down_or w.fe.connection) [ inl down ↦ in_down down | inr on ↦ while_on on ]
     where
       in_down : w.fe.connection ≡ Down → Inv T' P' (with_fe (arrive p now w.fe) w)
       in_down down =
-          let r = pair-arrive now w.dead_il p w.fe w.il (m.solo_fe, m.fe_sends, m.il_sends) m.solo_il h.bounded_fe h.bounded_il genuine in
+          let r = pair-arrive now w.dead_il p w.fe w.il (m.solo_fe, m.fe_sends, m.il_sends) m.solo_il h.bounded_fe
+          h.bounded_il genuine in
           let k = h.idle down in
           let same : guard now w.fe ≡ w.fe = guard-idle now w.fe (ap is_live down) in
-          let c = down-carry (length w.il_before) p now w.fe down k.0 (decide (kept_of w.fe) p now) (decide-fits (kept_of w.fe) p now) in
+          let c = down-carry (length w.il_before) p now w.fe down k.0 (decide (kept_of w.fe) p now)
+          (decide-fits (kept_of w.fe) p now) in
           let after : AfterDown (length w.il_before) w.fe (arrive p now w.fe) =
           subst (AfterDown (length w.il_before) w.fe) (sym (arrive-is p now w.fe))
           (subst (λ (s : State). AfterDown (length w.il_before) w.fe (respond p now s)) (sym same) c) in
           let joined : JoinedTo (length w.il_before) (arrive p now w.fe) (joined_after w (arrive p now w.fe)) =
           subst (λ (q : Option ℕ). JoinedTo (length w.il_before) (arrive p now w.fe)
-          (if is_joining w.fe.connection (arrive p now w.fe).connection then Some (length w.il_before) else q)) (sym k.1) after.0 in
+          (if is_joining w.fe.connection (arrive p now w.fe).connection then Some (length w.il_before) else q))
+          (sym k.1) after.0 in
           let idle : Idle (arrive p now w.fe) (joined_after w (arrive p now w.fe)) =
-          subst (λ (q : Option ℕ). Idle (arrive p now w.fe) (if is_joining w.fe.connection (arrive p now w.fe).connection then Some (length w.il_before) else q))
+          subst (λ (q : Option ℕ). Idle (arrive p now w.fe)
+          (if is_joining w.fe.connection (arrive p now w.fe).connection then Some (length w.il_before) else q))
           (sym k.1) after.1 in
           fe-met w (arrive p now w.fe) (joined_after w (arrive p now w.fe)) h m r.0 r.1 idle joined
           (λ number e. absurd (none_some number w.joined k.1 e)) times
 
       while_on : w.fe.connection ≢ Down → Inv T' P' (with_fe (arrive p now w.fe) w)
       while_on on =
-          let r = pair-arrive now w.dead_il p w.fe w.il (m.solo_fe, m.fe_sends, m.il_sends) m.solo_il h.bounded_fe h.bounded_il genuine in
-          let still_on : (arrive p now w.fe).connection ≢ Down = λ e. on ((moves_law_holds (Hears p now) w.fe).never_down e) in
+          let r = pair-arrive now w.dead_il p w.fe w.il (m.solo_fe, m.fe_sends, m.il_sends) m.solo_il h.bounded_fe
+          h.bounded_il genuine in
+          let still_on : (arrive p now w.fe).connection ≢ Down = λ e.
+          on ((moves_law_holds (Hears p now) w.fe).never_down e) in
           subst (InvAt T' P' w (arrive p now w.fe))
           (sym (kept w (arrive p now w.fe) (joins-on w.fe.connection (arrive p now w.fe).connection on)))
-          (fe-met w (arrive p now w.fe) w.joined h m r.0 r.1 (λ e. absurd (still_on e)) (joined w.joined m.joined_to) (λ number e. e) times)
+          (fe-met w (arrive p now w.fe) w.joined h m r.0 r.1 (λ e. absurd (still_on e)) (joined w.joined m.joined_to)
+          (λ number e. e) times)
         where
-          joined : (q : Option ℕ) → JoinedTo (length w.il_before) w.fe q → JoinedTo (length w.il_before) (arrive p now w.fe) q
+          joined : (q : Option ℕ) → JoinedTo (length w.il_before) w.fe q
+              → JoinedTo (length w.il_before) (arrive p now w.fe) q
           joined (Some number) j = j
           joined None j =
               let closed : w.fe.connection ≡ Closed = elim j.0 [ inl down ↦ absurd (on down) | inr c ↦ c ] in
               subst Settled (sym (closed-move (Hears p now) w.fe closed)) j
 
-  pub fe-arrive : (w : World) (p : Pdu) (now : ℕ) → (MetIn w → T → T') → ((arrive p now w.fe).confirmed_at ≡ w.fe.confirmed_at → P → P') → Inv T P w
+  pub fe-arrive : (w : World) (p : Pdu) (now : ℕ) → (MetIn w → T → T')
+      → ((arrive p now w.fe).confirmed_at ≡ w.fe.confirmed_at → P → P') → Inv T P w
       → GenuineAt w.fe p (drop w.dead_il w.il.made) → Inv T' P' (with_fe (arrive p now w.fe) w)
   fe-arrive w p now times past h genuine = go h.status
     where
-      same : is_joining w.fe.connection (arrive p now w.fe).connection ≡ false → InvAt T' P' w (arrive p now w.fe) w.joined
+      same : is_joining w.fe.connection (arrive p now w.fe).connection ≡ false
+          → InvAt T' P' w (arrive p now w.fe) w.joined
           → Inv T' P' (with_fe (arrive p now w.fe) w)
       same e = subst (InvAt T' P' w (arrive p now w.fe)) (sym (kept w (arrive p now w.fe) e))
 
@@ -283,10 +337,12 @@ module _ {T P T' P' : Type 0} where
       go (met s t) = fe-arrive_met w p now h s genuine (times s t)
       go (il_later s) =
           let r = deaf-arrive now w.dead_il p w.fe w.il.made s.started h.bounded_fe s.mute.quiet genuine in
-          same (joins-on w.fe.connection (arrive p now w.fe).connection s.started) (fe-il_later w (arrive p now w.fe) h s r.0 r.1 r.2)
+          same (joins-on w.fe.connection (arrive p now w.fe).connection s.started)
+          (fe-il_later w (arrive p now w.fe) h s r.0 r.1 r.2)
       go (fe_later s q) =
           let r = still-arrive now w.dead_il p w.fe w.il.made s.connection h.bounded_fe s.dead genuine in
-          same (joins-same w.fe.connection (arrive p now w.fe).connection r.0.connection) (fe-fe_later w (arrive p now w.fe) h s r.2 r.3 r.0 r.1 (past r.4 q))
+          same (joins-same w.fe.connection (arrive p now w.fe).connection r.0.connection)
+          (fe-fe_later w (arrive p now w.fe) h s r.2 r.3 r.0 r.1 (past r.4 q))
 
 pub solo-il : (s : Settings) (first now : ℕ) → is_legal s ≡ true → Solo (new_state (as_role true s) first now)
 solo-il s first now e = grind arith
@@ -304,10 +360,12 @@ met-opened settings first now fe down k =
     let il = new_state (as_role true settings) first now in
     let no_answers : answers (drop fe.expected il.made) ≡ 0 = ap (λ (n : ℕ). answers (drop n il.made)) k.expected in
     let no_requests_fe : requests (drop 1 fe.made) ≡ 0 = ap (λ ms. requests (drop 1 ms)) k.made in
-    let no_requests_il : requests (drop (fe.answered + 1) il.made) ≡ 0 = only_opening (fe.answered + 1) settings first now in
+    let no_requests_il : requests (drop (fe.answered + 1) il.made)
+    ≡ 0 = only_opening (fe.answered + 1) settings first now in
     let no_answers_fe : answers fe.made ≡ 0 = ap answers k.made in (
       record {
-        carried = subst (λ us. us ++ (run_of (drop fe.expected il.made) ++ []) ≡ []) (sym k.taken) (ap (λ (n : ℕ). run_of (drop n il.made) ++ []) k.expected);
+        carried = subst (λ us. us ++ (run_of (drop fe.expected il.made) ++ []) ≡ []) (sym k.taken)
+            (ap (λ (n : ℕ). run_of (drop n il.made) ++ []) k.expected);
         within = omega (arith, k.expected);
         first_plain = refl;
         open_requests = omega arith;
@@ -328,19 +386,22 @@ met-opened settings first now fe down k =
       },
     )
   where
-    only_opening : (n : ℕ) (settings : Settings) (first now : ℕ) → requests (drop n (new_state (as_role true settings) first now).made) ≡ 0
+    only_opening : (n : ℕ) (settings : Settings) (first now : ℕ)
+        → requests (drop n (new_state (as_role true settings) first now).made) ≡ 0
     only_opening zero settings first now = refl
     only_opening (suc n) settings first now = count-drop_nil is_request n
 
 module _ {T P T' P' : Type 0} where
-  pub inv-open_il : (settings : Settings) (first now : ℕ) (w : World) → Inv T P w → is_legal settings ≡ true → (w.fe.connection ≡ Down → T')
+  pub inv-open_il : (settings : Settings) (first now : ℕ) (w : World) → Inv T P w → is_legal settings ≡ true
+      → (w.fe.connection ≡ Down → T')
       → Inv T' P' (open_il settings first now w)
   inv-open_il settings first now w h legal times =
       let il = new_state (as_role true settings) first now in
       let ils = w.il ∷ w.il_before in
       let entry : Served = record { machine = w.fe; joined = w.joined } in
       let pushed : AllTakeBeginnings (il ∷ ils) (entry ∷ w.fe_before) =
-      all-takes ils (il ∷ ils) (length ils) (entry ∷ w.fe_before) h.law.joins_fall (λ f p below k. takes-pushed il ils f p below k) h.law.beginnings in
+      all-takes ils (il ∷ ils) (length ils) (entry ∷ w.fe_before) h.law.joins_fall
+      (λ f p below k. takes-pushed il ils f p below k) h.law.beginnings in
       elim (down_or w.fe.connection) [
         | inl down ↦
             let k = h.idle down in
@@ -353,7 +414,9 @@ module _ {T P T' P' : Type 0} where
               solo_fe = solo-untouched w.fe down k.0;
               il_sends = halves.0;
               fe_sends = halves.1;
-              joined_to = subst (λ (p : Option ℕ). JoinedTo (length ils) w.fe p) (sym k.1) (inl down, ap units k.0.made, k.0.taken);
+              joined_to =
+                  subst (λ (p : Option ℕ). JoinedTo (length ils) w.fe p) (sym k.1)
+                  (inl down, ap units k.0.made, k.0.taken);
               falls = falls;
             } in
             record {
@@ -377,17 +440,21 @@ module _ {T P T' P' : Type 0} where
               });
               law = record {
                 beginnings = pushed;
-                joins_fall = fall-more (length ils) (length (il ∷ ils)) (entry ∷ w.fe_before) (omega arith) h.law.joins_fall;
+                joins_fall =
+                    fall-more (length ils) (length (il ∷ ils)) (entry ∷ w.fe_before) (omega arith) h.law.joins_fall;
                 only_joined = (inl refl, h.law.only_joined);
               };
               loses_nothing = record {
-                from_il = mute-loses_nothing il (taken_from_il (length ils) (entry ∷ w.fe_before)) (mute-il settings first now);
+                from_il =
+                    mute-loses_nothing il (taken_from_il (length ils) (entry ∷ w.fe_before))
+                    (mute-il settings first now);
                 from_fe = omega (arith, h.loses_nothing.from_fe, taken-pushed il ils w.joined h.law.joins_fall.0);
               };
             }
       ]
 
-  pub inv-open_fe : (settings : Settings) (first now : ℕ) (w : World) → Inv T P w → is_legal settings ≡ true → P' → Inv T' P' (open_fe settings first now w)
+  pub inv-open_fe : (settings : Settings) (first now : ℕ) (w : World) → Inv T P w → is_legal settings ≡ true → P'
+      → Inv T' P' (open_fe settings first now w)
   inv-open_fe settings first now w h legal past =
       let fe = new_state (as_role false settings) first now in
       let ils = w.il ∷ w.il_before in
@@ -408,7 +475,9 @@ module _ {T P T' P' : Type 0} where
         law = record {
           beginnings = (refl, h.law.beginnings);
           joins_fall = (tt, h.law.joins_fall);
-          only_joined = only-weaken (entry ∷ w.fe_before) (fresh_entry ∷ entry ∷ w.fe_before) ils (λ number is. inr is) h.law.only_joined;
+          only_joined =
+              only-weaken (entry ∷ w.fe_before) (fresh_entry ∷ entry ∷ w.fe_before) ils (λ number is. inr is)
+              h.law.only_joined;
         };
         loses_nothing = record { from_il = h.loses_nothing.from_il; from_fe = omega arith };
       }
@@ -435,7 +504,8 @@ inv-start =
   where
     bounded_unopened : Bounded unopened_state
     bounded_unopened =
-        bounded-low unopened_state (omega arith) (omega arith) (omega arith) (omega arith) (omega arith) (λ _. omega arith) (λ live. absurd (false≢true live))
+        bounded-low unopened_state (omega arith) (omega arith) (omega arith) (omega arith) (omega arith)
+        (λ _. omega arith) (λ live. absurd (false≢true live))
 
 -- The law by itself, which every event keeps.
 abbrev pub Lawful : World → Type 0
@@ -449,9 +519,11 @@ quiet-fe w m quiet h = fe-quiet w m quiet (λ _ t. t) (λ p. p) h
 
 inv-event : (w : World) (e : Event) → Lawful w → GenuineEvent w e → Lawful (apply_event w e)
 inv-event w (Open Il settings first now) h g =
-    cond_both (is_legal settings) (open_il settings first now w) w Lawful (λ legal. inv-open_il settings first now w h legal (λ _. tt)) (λ _. h)
+    cond_both (is_legal settings) (open_il settings first now w) w Lawful
+    (λ legal. inv-open_il settings first now w h legal (λ _. tt)) (λ _. h)
 inv-event w (Open Fe settings first now) h g =
-    cond_both (is_legal settings) (open_fe settings first now w) w Lawful (λ legal. inv-open_fe settings first now w h legal tt) (λ _. h)
+    cond_both (is_legal settings) (open_fe settings first now w) w Lawful
+    (λ legal. inv-open_fe settings first now w h legal tt) (λ _. h)
 inv-event w (Send Il unit now) h g = quiet-il w (Sends unit now) tt h
 inv-event w (Send Fe unit now) h g = quiet-fe w (Sends unit now) tt h
 inv-event w (Close Il reason detail now) h g = quiet-il w (LeavesNow reason detail now) tt h

@@ -30,7 +30,8 @@ input-each P c x i e h k p y u =
     (h (closed-shut x.machine.connection u.lives) (closed-shut (guard_end c x).machine.connection u.goes_on)) k p
     (ap (λ j. slice_get (parts_passed j (guard_end c x).red) k) (sym same) ∙ u.part) in
     subst (λ z. P z p.1)
-    (ap (λ j. parts_step (time_of c) (take k (parts_passed j (guard_end c x).red)) (with_input j (guard_end c x))) (sym same) ∙ u.meanwhile) at
+    (ap (λ j. parts_step (time_of c) (take k (parts_passed j (guard_end c x).red)) (with_input j (guard_end c x)))
+    (sym same) ∙ u.meanwhile) at
 
 each-input : (P : EndState → List ℕ → Type 0) (c : Call) (x : EndState) (i : Input) → input_of c ≡ Some i → EachUp P c x
     → is_shut x ≡ false → AtInput P (time_of c) i (guard_end c x)

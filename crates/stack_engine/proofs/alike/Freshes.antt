@@ -10,7 +10,8 @@ use Rattle.stack_engine.proofs.alike.Calls.{call-each, each-call}
 use Rattle.stack_engine.proofs.alike.Places.{drop-get, get-drop}
 
 fresh-at : (now : ℕ) (peer : List Made) (octets : List ℕ) (y : EndState)
-    → (p : Pdu) × (safe_seen (rule_of y.settings) octets ≡ Ok p) × Fresh y.machine p now peer → IsFreshAt now peer octets y
+    → (p : Pdu) × (safe_seen (rule_of y.settings) octets ≡ Ok p) × Fresh y.machine p now peer
+    → IsFreshAt now peer octets y
 fresh-at now peer octets y h =
     let f = h.2 in
     record {
@@ -54,29 +55,36 @@ at-fresh now peer octets y h =
 -- of one call
 abbrev FreshParts : List Made → Call → EndState → Type 0
 FreshParts peer c x =
-    (k : ℕ) (p : Part) (y : EndState) → GoesUp c x k p y → taken_at (part_step (time_of c) p.1 y) ≢ taken_at y → IsFreshAt (time_of c) peer p.1 y
+    (k : ℕ) (p : Part) (y : EndState) → GoesUp c x k p y → taken_at (part_step (time_of c) p.1 y) ≢ taken_at y
+    → IsFreshAt (time_of c) peer p.1 y
 
 parts-fresh : (peer : List Made) (c : Call) (x : EndState) → FreshCall peer c x → FreshParts peer c x
-parts-fresh peer c x h k p y u takes = fresh-at (time_of c) peer p.1 y (call-each (TakesFresh (time_of c) peer) c x h k p y u takes)
+parts-fresh peer c x h k p y u takes =
+    fresh-at (time_of c) peer p.1 y (call-each (TakesFresh (time_of c) peer) c x h k p y u takes)
 
 fresh-parts : (peer : List Made) (c : Call) (x : EndState) → FreshParts peer c x → FreshCall peer c x
-fresh-parts peer c x h = each-call (TakesFresh (time_of c) peer) c x (λ k p y u takes. at-fresh (time_of c) peer p.1 y (h k p y u takes))
+fresh-parts peer c x h =
+    each-call (TakesFresh (time_of c) peer) c x (λ k p y u takes. at-fresh (time_of c) peer p.1 y (h k p y u takes))
 
-opened-fresh : (peer : List Made) (c : Call) (r : Option EndState) → AtOpened (FreshCall peer c) r → (x : EndState) → r ≡ Some x → FreshParts peer c x
+opened-fresh : (peer : List Made) (c : Call) (r : Option EndState) → AtOpened (FreshCall peer c) r → (x : EndState)
+    → r ≡ Some x → FreshParts peer c x
 opened-fresh peer c None h x e = absurd (none-some x e)
 opened-fresh peer c (Some y) h x e = subst (FreshParts peer c) (same_Some y x e) (parts-fresh peer c y h)
 
-fresh-opened : (peer : List Made) (c : Call) (r : Option EndState) → ((x : EndState) → r ≡ Some x → FreshParts peer c x) → AtOpened (FreshCall peer c) r
+fresh-opened : (peer : List Made) (c : Call) (r : Option EndState) → ((x : EndState) → r ≡ Some x → FreshParts peer c x)
+    → AtOpened (FreshCall peer c) r
 fresh-opened peer c None h = tt
 fresh-opened peer c (Some y) h = fresh-parts peer c y (h y refl)
 
-event-fresh : (side : Side) (c : Call) (w : World) → FreshEvent (Calls side c) w → (x : EndState) → present side w ≡ Some x
+event-fresh : (side : Side) (c : Call) (w : World) → FreshEvent (Calls side c) w → (x : EndState)
+    → present side w ≡ Some x
     → FreshParts (made_of (present (other side) w)) c x
 event-fresh Il c w h = opened-fresh (made_of (present Fe w)) c (present Il w) h
 event-fresh Fe c w h = opened-fresh (made_of (present Il w)) c (present Fe w) h
 
 fresh-event : (e : Event) (w : World)
-    → ((side : Side) (c : Call) (x : EndState) → e ≡ Calls side c → present side w ≡ Some x → FreshParts (made_of (present (other side) w)) c x)
+    → ((side : Side) (c : Call) (x : EndState) → e ≡ Calls side c → present side w ≡ Some x
+    → FreshParts (made_of (present (other side) w)) c x)
     → FreshEvent e w
 fresh-event (Open side s first now) w h = tt
 fresh-event (Calls Il c) w h = fresh-opened (made_of (present Fe w)) c (present Il w) (λ x e. h Il c x refl e)
@@ -89,7 +97,8 @@ by-place (e ∷ es) w h zero k side c p x y at u =
     let is = same_Some e (Calls side c) at.event in
     event-fresh side c w (subst (λ d. refusal d w ≡ None → FreshEvent d w) is h.0 at.accepted) x at.at k p y u
 by-place (e ∷ es) w h (suc n) k side c p x y at u =
-    by-place es (apply_event w e) h.1 n k side c p x y (record { event = at.event; accepted = at.accepted; at = at.at }) u
+    by-place es (apply_event w e) h.1 n k side c p x y (record { event = at.event; accepted = at.accepted; at = at.at })
+    u
 
 by-recursion : (es : List Event) (w : World) → FreshByPlace es w → AllFresh es w
 by-recursion [] w h = tt
@@ -100,7 +109,8 @@ by-recursion (e ∷ es) w h = (
       h zero k side c p x y
       (record { event = ap Some is; accepted = subst (λ d. refusal d w ≡ None) is accepted; at = at }) u),
   by-recursion es (apply_event w e)
-      (λ n k side c p x y at u. h (suc n) k side c p x y (record { event = at.event; accepted = at.accepted; at = at.at }) u),
+      (λ n k side c p x y at u. h (suc n) k side c p x y
+      (record { event = at.event; accepted = at.accepted; at = at.at }) u),
 )
 
 pub fresh-twice : (es : List Event) (w : World) → AllFresh es w ↔ FreshByPlace es w

@@ -14,16 +14,19 @@ use Rattle.stack_engine.proofs.alike.Places.{agree-begins, begins-agree, opened-
 pub found-opened : (ils : List EndState) (n : ℕ) (g : EndState) → incarnation ils n ≡ Some g → IsOpened ils n g
 found-opened [] n g e = absurd (none-some g e)
 found-opened (x ∷ before) n g e =
-    by_test (λ b. n == length before + 1 ≡ b → cond b (Some x) (incarnation before n) ≡ Some g → IsOpened (x ∷ before) n g)
+    by_test (λ b. n == length before + 1 ≡ b → cond b (Some x) (incarnation before n) ≡ Some g
+    → IsOpened (x ∷ before) n g)
     (n == length before + 1)
     (λ is is' at. subst (λ y. IsOpened (x ∷ before) n y) (same_Some x g at)
     (subst (λ k. IsOpened (x ∷ before) k x) (sym (eqb-true n (length before + 1) is)) (opened-first x before)))
     (λ is is' at. opened-before x before n g (found-opened before n g at)) refl e
 
-first-found : (x : EndState) (before : List EndState) (n : ℕ) → n ≡ length before + 1 → incarnation (x ∷ before) n ≡ Some x
+first-found : (x : EndState) (before : List EndState) (n : ℕ) → n ≡ length before + 1
+    → incarnation (x ∷ before) n ≡ Some x
 first-found x before n e = grind (arith, nat_tests, e)
 
-other-found : (x : EndState) (before : List EndState) (n : ℕ) → n ≤ length before → incarnation (x ∷ before) n ≡ incarnation before n
+other-found : (x : EndState) (before : List EndState) (n : ℕ) → n ≤ length before
+    → incarnation (x ∷ before) n ≡ incarnation before n
 other-found x before n le = grind (arith, nat_tests, le)
 
 pub opened-found : (ils : List EndState) (n : ℕ) (g : EndState) → IsOpened ils n g → incarnation ils n ≡ Some g
@@ -36,7 +39,8 @@ opened-found (x ∷ before) n g h =
 
 -- partners took prefixes of what the other put
 partner : (ils : List EndState) (n : ℕ) (f : EndState) (r : Option EndState) → incarnation ils n ≡ r
-    → MatchOption r ⊥ (λ g. IsBeginning (taken_at f) (put_at g) × IsBeginning (taken_at g) (put_at f)) → HasPartner ils n f
+    → MatchOption r ⊥ (λ g. IsBeginning (taken_at f) (put_at g) × IsBeginning (taken_at g) (put_at f))
+    → HasPartner ils n f
 partner ils n f None e h = absurd h
 partner ils n f (Some g) e h =
     record {
@@ -46,16 +50,19 @@ partner ils n f (Some g) e h =
       status = begins-agree (taken_at g) (put_at f) h.1;
     }
 
-has-partner : (ils : List EndState) (n : ℕ) (f : EndState) (joined : Option ℕ) → joined ≡ Some n → TakesBeginnings ils f joined → HasPartner ils n f
+has-partner : (ils : List EndState) (n : ℕ) (f : EndState) (joined : Option ℕ) → joined ≡ Some n
+    → TakesBeginnings ils f joined → HasPartner ils n f
 has-partner ils n f None e h = absurd (none-some n e)
 has-partner ils n f (Some m) e h =
     subst (λ k. HasPartner ils k f) (same_Some m n e) (partner ils m f (incarnation ils m) refl h)
 
-is-alone : (ils : List EndState) (f : EndState) (joined : Option ℕ) → joined ≡ None → TakesBeginnings ils f joined → taken_at f ≡ []
+is-alone : (ils : List EndState) (f : EndState) (joined : Option ℕ) → joined ≡ None → TakesBeginnings ils f joined
+    → taken_at f ≡ []
 is-alone ils f None e h = h
 is-alone ils f (Some m) e h = absurd (none-some m (sym e))
 
-takes-beginnings : (ils : List EndState) (f : EndState) (joined : Option ℕ) → ((n : ℕ) → joined ≡ Some n → HasPartner ils n f)
+takes-beginnings : (ils : List EndState) (f : EndState) (joined : Option ℕ)
+    → ((n : ℕ) → joined ≡ Some n → HasPartner ils n f)
     → (joined ≡ None → taken_at f ≡ []) → TakesBeginnings ils f joined
 takes-beginnings ils f None partners alone = alone refl
 takes-beginnings ils f (Some n) partners alone =
@@ -65,7 +72,8 @@ takes-beginnings ils f (Some n) partners alone =
     (agree-begins (taken_at f) (put_at h.il) h.commands, agree-begins (taken_at h.il) (put_at f) h.status)
 
 -- of each incarnation of the field element
-one-takes : (ils : List EndState) (fes : List JoinedEnd) (i : ℕ) (f : JoinedEnd) → AllTakeBeginnings ils fes → IsOpened fes i f
+one-takes : (ils : List EndState) (fes : List JoinedEnd) (i : ℕ) (f : JoinedEnd) → AllTakeBeginnings ils fes
+    → IsOpened fes i f
     → TakesBeginnings ils f.end f.joined
 one-takes ils [] i f all h = absurd (opened-none i f h)
 one-takes ils (e ∷ before) i f all h =
@@ -77,8 +85,10 @@ one-takes ils (e ∷ before) i f all h =
 all-take : (ils : List EndState) (fes : List JoinedEnd)
     → ((i : ℕ) (f : JoinedEnd) → IsOpened fes i f → TakesBeginnings ils f.end f.joined) → AllTakeBeginnings ils fes
 all-take ils [] each = tt
-all-take ils (f ∷ before) each =
-    (each (length before + 1) f (opened-first f before), all-take ils before (λ i e h. each i e (opened-before f before i e h)))
+all-take ils (f ∷ before) each = (
+  each (length before + 1) f (opened-first f before),
+  all-take ils before (λ i e h. each i e (opened-before f before i e h)),
+)
 
 -- later ones are joined to later ones
 bound-falls : (bound : ℕ) (joined : Option ℕ) → JoinedBelow bound joined → next_bound bound joined ≤ bound
@@ -93,7 +103,8 @@ next-below : (bound n : ℕ) (joined : Option ℕ) → joined ≡ Some n → nex
 next-below bound n None e = absurd (none-some n e)
 next-below bound n (Some m) e = same_Some m n e
 
-all-below : (bound : ℕ) (fes : List JoinedEnd) → JoinsFall bound fes → (i n : ℕ) (f : JoinedEnd) → IsOpened fes i f → f.joined ≡ Some n → n < bound
+all-below : (bound : ℕ) (fes : List JoinedEnd) → JoinsFall bound fes → (i n : ℕ) (f : JoinedEnd) → IsOpened fes i f
+    → f.joined ≡ Some n → n < bound
 all-below bound [] falls i n f h e = absurd (opened-none i f h)
 all-below bound (x ∷ before) falls i n f h e =
     elim (opened-cases x before i f h) [
@@ -104,7 +115,8 @@ all-below bound (x ∷ before) falls i n f h e =
           omega (arith, lower, fallen))
     ]
 
-later-later : (bound : ℕ) (fes : List JoinedEnd) → JoinsFall bound fes → (i j m n : ℕ) (e f : JoinedEnd) → IsOpened fes i e → IsOpened fes j f
+later-later : (bound : ℕ) (fes : List JoinedEnd) → JoinsFall bound fes → (i j m n : ℕ) (e f : JoinedEnd)
+    → IsOpened fes i e → IsOpened fes j f
     → e.joined ≡ Some m → f.joined ≡ Some n → i < j → m < n
 later-later bound [] falls i j m n e f he hf je jf le = absurd (opened-none i e he)
 later-later bound (x ∷ before) falls i j m n e f he hf je jf le =
@@ -122,12 +134,15 @@ below : (bound : ℕ) (joined : Option ℕ) → ((n : ℕ) → joined ≡ Some n
 below bound None h = tt
 below bound (Some n) h = h n refl
 
-next : (bound : ℕ) (joined : Option ℕ) (m : ℕ) → m < bound → ((n : ℕ) → joined ≡ Some n → m < n) → m < next_bound bound joined
+next : (bound : ℕ) (joined : Option ℕ) (m : ℕ) → m < bound → ((n : ℕ) → joined ≡ Some n → m < n)
+    → m < next_bound bound joined
 next bound None m le h = le
 next bound (Some n) m le h = h n refl
 
-falls : (bound : ℕ) (fes : List JoinedEnd) → ((i n : ℕ) (f : JoinedEnd) → IsOpened fes i f → f.joined ≡ Some n → n < bound)
-    → ((i j m n : ℕ) (e f : JoinedEnd) → IsOpened fes i e → IsOpened fes j f → e.joined ≡ Some m → f.joined ≡ Some n → i < j → m < n)
+falls : (bound : ℕ) (fes : List JoinedEnd)
+    → ((i n : ℕ) (f : JoinedEnd) → IsOpened fes i f → f.joined ≡ Some n → n < bound)
+    → ((i j m n : ℕ) (e f : JoinedEnd) → IsOpened fes i e → IsOpened fes j f → e.joined ≡ Some m → f.joined ≡ Some n
+    → i < j → m < n)
     → JoinsFall bound fes
 falls bound [] under order = tt
 falls bound (x ∷ before) under order = (
@@ -142,7 +157,8 @@ falls bound (x ∷ before) under order = (
 )
 
 -- whether somebody is joined to a number
-joined-opened : (n : ℕ) (fes : List JoinedEnd) → IsJoined n fes → ((i : ℕ) (f : JoinedEnd) → IsOpened fes i f → f.joined ≢ Some n) → ⊥
+joined-opened : (n : ℕ) (fes : List JoinedEnd) → IsJoined n fes
+    → ((i : ℕ) (f : JoinedEnd) → IsOpened fes i f → f.joined ≢ Some n) → ⊥
 joined-opened n [] h none = h
 joined-opened n (f ∷ before) h none =
     elim h [
@@ -160,7 +176,8 @@ same-number n (Some m) =
     differs : (a b : ℕ) → a == b ≡ false → a ≡ b → ⊥
     differs a b h e = grind (arith, nat_tests)
 
-joined-or-not : (n : ℕ) (fes : List JoinedEnd) → IsJoined n fes ⊎ ((i : ℕ) (f : JoinedEnd) → IsOpened fes i f → f.joined ≢ Some n)
+joined-or-not : (n : ℕ) (fes : List JoinedEnd)
+    → IsJoined n fes ⊎ ((i : ℕ) (f : JoinedEnd) → IsOpened fes i f → f.joined ≢ Some n)
 joined-or-not n [] = inr (λ i f o e. opened-none i f o)
 joined-or-not n (f ∷ before) =
     elim (same-number n f.joined) [
@@ -186,17 +203,20 @@ lone fes (x ∷ before) only n g o none =
           elim only.0 [
             | inl e ↦ subst (λ y. taken_at y ≡ []) it.is e
             | inr joined ↦
-                absurd (joined-opened (length before + 1) fes joined (subst (λ k. (i : ℕ) (f : JoinedEnd) → IsOpened fes i f → f.joined ≢ Some k) it.number none))
+                absurd (joined-opened (length before + 1) fes joined
+                (subst (λ k. (i : ℕ) (f : JoinedEnd) → IsOpened fes i f → f.joined ≢ Some k) it.number none))
           ]
       | inr older ↦ lone fes before only.1 n g older none
     ]
 
 only-joined : (fes : List JoinedEnd) (ils : List EndState)
-    → ((n : ℕ) (g : EndState) → IsOpened ils n g → ((i : ℕ) (f : JoinedEnd) → IsOpened fes i f → f.joined ≢ Some n) → taken_at g ≡ [])
+    → ((n : ℕ) (g : EndState) → IsOpened ils n g → ((i : ℕ) (f : JoinedEnd) → IsOpened fes i f → f.joined ≢ Some n)
+    → taken_at g ≡ [])
     → OnlyJoinedTake fes ils
 only-joined fes [] alone = tt
 only-joined fes (x ∷ before) alone = (
-  elim (joined-or-not (length before + 1) fes) [ inl joined ↦ inr joined | inr none ↦ inl (alone (length before + 1) x (opened-first x before) none) ],
+  elim (joined-or-not (length before + 1) fes)
+      [ inl joined ↦ inr joined | inr none ↦ inl (alone (length before + 1) x (opened-first x before) none) ],
   only-joined fes before (λ n g o. alone n g (opened-before x before n g o)),
 )
 
@@ -212,10 +232,13 @@ by-place w h =
 by-recursion : (w : World) → HeadlineByPlace w → Headline w
 by-recursion w h =
     record {
-      beginnings = all-take w.ils w.fes (λ i f o. takes-beginnings w.ils f.end f.joined (λ n e. h.partners i n f o e) (λ e. h.lone_fe i f o e));
+      beginnings =
+          all-take w.ils w.fes (λ i f o. takes-beginnings w.ils f.end f.joined (λ n e. h.partners i n f o e)
+          (λ e. h.lone_fe i f o e));
       joins_fall =
           falls (length w.ils + 1) w.fes
-          (λ i n f o e. let p = h.partners i n f o e in let k = within w.ils n p.il p.opened in omega (arith, k)) h.later_with_later;
+          (λ i n f o e. let p = h.partners i n f o e in let k = within w.ils n p.il p.opened in omega (arith, k))
+          h.later_with_later;
       only_joined = only-joined w.fes w.ils h.lone_il;
     }
 

@@ -22,7 +22,8 @@ abbrev one_open : Kind → List ℕ → Bool → List (List ℕ)
 one_open kind body later = cond (has_unit kind && not later) (body ∷ []) []
 
 kept-step : (kind : Kind) (body : List ℕ) (run rest : List (List ℕ)) (later : Bool)
-    → kept later (after_pdu kind body run) ++ rest ≡ kept (begins_again kind || later) run ++ (one_open kind body later ++ rest)
+    → kept later (after_pdu kind body run) ++ rest ≡ kept (begins_again kind || later) run
+    ++ (one_open kind body later ++ rest)
 kept-step Data body run rest true = refl
 kept-step Data body run rest false = append_assoc run (body ∷ []) rest
 kept-step RetrData body run rest true = refl
@@ -34,24 +35,29 @@ kept-step _ body run rest false = refl
 
 open-here : (c i : ℕ) (m : Made) (ms : List Made) → c < i
     → cond (is_open c i m ms) (m.pdu.body ∷ []) [] ≡ one_open m.pdu.kind m.pdu.body (answers ms)
-open-here c i m ms le = ap (λ b. cond (has_unit m.pdu.kind && (b && not (answers ms))) (m.pdu.body ∷ []) []) (is-below c i le)
+open-here c i m ms le =
+    ap (λ b. cond (has_unit m.pdu.kind && (b && not (answers ms))) (m.pdu.body ∷ []) []) (is-below c i le)
   where
     is-below : (a b : ℕ) → a < b → nat_lt a b ≡ true
     is-below a b h = grind (arith, nat_tests)
 
-run-open : (c i : ℕ) (run : List (List ℕ)) (ms : List Made) → c < i → run_after run ms ≡ kept (answers ms) run ++ open_from c i ms
+run-open : (c i : ℕ) (run : List (List ℕ)) (ms : List Made) → c < i
+    → run_after run ms ≡ kept (answers ms) run ++ open_from c i ms
 run-open c i run [] le = sym (append-nil run)
 run-open c i run (m ∷ ms) le =
     run-open c (i + 1) (after_pdu m.pdu.kind m.pdu.body run) ms (omega (arith, le))
     ∙ kept-step m.pdu.kind m.pdu.body run (open_from c (i + 1) ms) (answers ms)
     ∙ ap (λ here. kept (answers (m ∷ ms)) run ++ (here ++ open_from c (i + 1) ms)) (sym (open-here c i m ms le))
 
-nothing-open : (kind : Kind) (body : List ℕ) (later : Bool) → cond (has_unit kind && (false && not later)) (body ∷ []) [] ≡ []
-nothing-open kind body later = by_test (λ b. cond (b && (false && not later)) (body ∷ []) [] ≡ []) (has_unit kind) (λ e. refl) (λ e. refl)
+nothing-open : (kind : Kind) (body : List ℕ) (later : Bool)
+    → cond (has_unit kind && (false && not later)) (body ∷ []) [] ≡ []
+nothing-open kind body later =
+    by_test (λ b. cond (b && (false && not later)) (body ∷ []) [] ≡ []) (has_unit kind) (λ e. refl) (λ e. refl)
 
 shut-here : (c i : ℕ) (m : Made) (ms : List Made) → i ≤ c → cond (is_open c i m ms) (m.pdu.body ∷ []) [] ≡ []
 shut-here c i m ms le =
-    ap (λ b. cond (has_unit m.pdu.kind && (b && not (answers ms))) (m.pdu.body ∷ []) []) (not-below i c le) ∙ nothing-open m.pdu.kind m.pdu.body (answers ms)
+    ap (λ b. cond (has_unit m.pdu.kind && (b && not (answers ms))) (m.pdu.body ∷ []) []) (not-below i c le)
+    ∙ nothing-open m.pdu.kind m.pdu.body (answers ms)
   where
     not-below : (a b : ℕ) → a ≤ b → nat_lt b a ≡ false
     not-below a b h = grind (arith, nat_tests)
@@ -64,7 +70,8 @@ drop-open : (k c i : ℕ) (ms : List Made) → i + k ≡ c + 1 → open_from c i
 drop-open zero c i ms e = sym (run-open c i [] ms (omega (arith, e)) ∙ kept-none (answers ms) (open_from c i ms))
 drop-open (suc k) c i [] e = refl
 drop-open (suc k) c i (m ∷ ms) e =
-    ap (λ here. here ++ open_from c (i + 1) ms) (shut-here c i m ms (omega (arith, e))) ∙ drop-open k c (i + 1) ms (omega (arith, e))
+    ap (λ here. here ++ open_from c (i + 1) ms) (shut-here c i m ms (omega (arith, e)))
+    ∙ drop-open k c (i + 1) ms (omega (arith, e))
 
 pub open-unconfirmed : (x : EndState) → open_units x ≡ unconfirmed x.machine
 open-unconfirmed x = drop-open (x.machine.confirmed + 1) x.machine.confirmed 0 x.machine.made (omega arith)
@@ -79,14 +86,17 @@ messages-alike [] = refl
 messages-alike (u ∷ us) = ap (λ ms. ms ++ flat_map (λ v. messages_read (unit_seen v)) us) (read-alike (unit_seen u))
     ∙ ap (λ ms. found_messages (unit_seen u) ++ ms) (messages-alike us)
 
-item-alike : (r : Result Tele TeleFault) (ts : List Tele) → items_of (found_telegram r ++ ts) ≡ item_read r ++ items_of ts
+item-alike : (r : Result Tele TeleFault) (ts : List Tele)
+    → items_of (found_telegram r ++ ts) ≡ item_read r ++ items_of ts
 item-alike (Ok t) ts =
-    by_test (λ b. cond b (items_of ts) (item_of t ∷ items_of ts) ≡ cond b [] (item_of t ∷ []) ++ items_of ts) (is_reserved t.kind) (λ e. refl) (λ e. refl)
+    by_test (λ b. cond b (items_of ts) (item_of t ∷ items_of ts) ≡ cond b [] (item_of t ∷ []) ++ items_of ts)
+    (is_reserved t.kind) (λ e. refl) (λ e. refl)
 item-alike (Err fault) ts = refl
 
 pub items-alike : (ms : List (List ℕ)) → items_among ms ≡ items_of (telegrams_in ms)
 items-alike [] = refl
-items-alike (m ∷ ms) = ap (λ rest. item_read (tele_seen m) ++ rest) (items-alike ms) ∙ sym (item-alike (tele_seen m) (telegrams_in ms))
+items-alike (m ∷ ms) = ap (λ rest. item_read (tele_seen m) ++ rest) (items-alike ms)
+    ∙ sym (item-alike (tele_seen m) (telegrams_in ms))
 
 among-append : (xs ys : List (List ℕ)) → items_among (xs ++ ys) ≡ items_among xs ++ items_among ys
 among-append [] ys = refl
@@ -96,7 +106,8 @@ among-append (x ∷ xs) ys = ap (λ rest. item_read (tele_seen x) ++ rest) (amon
 pub held-is : (x : EndState) → held_items x ≡ items_unconfirmed x ++ items_waiting x
 held-is x =
     among-append (flat_map (λ u. messages_read (unit_seen u)) (open_units x)) x.session.waiting
-    ∙ ap (λ us. items_among (flat_map (λ u. messages_read (unit_seen u)) us) ++ items_among x.session.waiting) (open-unconfirmed x)
+    ∙ ap (λ us. items_among (flat_map (λ u. messages_read (unit_seen u)) us) ++ items_among x.session.waiting)
+    (open-unconfirmed x)
     ∙ ap (λ ms. items_among ms ++ items_among x.session.waiting) (messages-alike (unconfirmed x.machine))
     ∙ ap (λ is. is ++ items_among x.session.waiting) (items-alike (messages_in (unconfirmed x.machine)))
     ∙ ap (λ is. items_unconfirmed x ++ is) (items-alike x.session.waiting)

@@ -43,7 +43,8 @@ in-parts k [] e = absurd (false-true e)
 in-parts k (p ∷ ps) e =
     by_test (λ b. p.0 == k ≡ b → b || has_number k ps ≡ true → IsIn k (p ∷ ps)) (p.0 == k)
     (λ is is' or. record { index = zero; part = p; there = refl; is = eqb-true p.0 k is })
-    (λ is is' or. let r = in-parts k ps or in record { index = suc r.index; part = r.part; there = r.there; is = r.is }) refl e
+    (λ is is' or. let r = in-parts k ps or in record { index = suc r.index; part = r.part; there = r.there; is = r.is })
+    refl e
 
 same-eqb : (a b : ℕ) → a ≡ b → a == b ≡ true
 same-eqb a b e = grind (arith, nat_tests)
@@ -52,7 +53,8 @@ or-true : (b : Bool) → b || true ≡ true
 or-true true = refl
 or-true false = refl
 
-pub parts-in : (k : ℕ) (ps : List Part) (index : ℕ) (q : Part) → slice_get ps index ≡ Some q → q.0 ≡ k → has_number k ps ≡ true
+pub parts-in : (k : ℕ) (ps : List Part) (index : ℕ) (q : Part) → slice_get ps index ≡ Some q → q.0 ≡ k
+    → has_number k ps ≡ true
 parts-in k [] index q e is = absurd (none-some q e)
 parts-in k (p ∷ ps) zero q e is =
     ap (λ b. b || has_number k ps) (same-eqb p.0 k (ap (λ (o : Part). o.0) (same_Some p q e) ∙ is))
@@ -61,21 +63,32 @@ parts-in k (p ∷ ps) (suc index) q e is = ap (λ b. (p.0 == k) || b) (parts-in 
 pub number-append : (k : ℕ) (xs ys : List Part) → has_number k (xs ++ ys) ≡ (has_number k xs || has_number k ys)
 number-append k [] ys = refl
 number-append k (x ∷ xs) ys =
-    by_test (λ b. b || has_number k (xs ++ ys) ≡ ((b || has_number k xs) || has_number k ys)) (x.0 == k) (λ e. refl) (λ e. number-append k xs ys)
+    by_test (λ b. b || has_number k (xs ++ ys) ≡ ((b || has_number k xs) || has_number k ys)) (x.0 == k) (λ e. refl)
+    (λ e. number-append k xs ys)
 
 pub came : (k : ℕ) (inputs : List Input) → has_number k (arrivals inputs) ≡ true → Came k inputs
 came k [] e = absurd (false-true e)
 came k (i ∷ inputs) e =
-    by_test (λ b. has_number k (arrivals_of i) ≡ b → b || has_number k (arrivals inputs) ≡ true → Came k (i ∷ inputs)) (has_number k (arrivals_of i))
+    by_test (λ b. has_number k (arrivals_of i) ≡ b → b || has_number k (arrivals inputs) ≡ true
+    → Came k (i ∷ inputs)) (has_number k (arrivals_of i))
     (λ is is' or.
     let r = in-parts k (arrivals_of i) is in
     record { place = zero; input = i; at = refl; index = r.index; part = r.part; there = r.there; is = r.is })
     (λ is is' or.
     let r = came k inputs or in
-    record { place = suc r.place; input = r.input; at = r.at; index = r.index; part = r.part; there = r.there; is = r.is }) refl
+    record {
+      place = suc r.place;
+      input = r.input;
+      at = r.at;
+      index = r.index;
+      part = r.part;
+      there = r.there;
+      is = r.is;
+    }) refl
     (sym (number-append k (arrivals_of i) (arrivals inputs)) ∙ e)
 
-pub came-at : (k : ℕ) (inputs : List Input) (place : ℕ) (i : Input) → slice_get inputs place ≡ Some i → has_number k (arrivals_of i) ≡ true
+pub came-at : (k : ℕ) (inputs : List Input) (place : ℕ) (i : Input) → slice_get inputs place ≡ Some i
+    → has_number k (arrivals_of i) ≡ true
     → has_number k (arrivals inputs) ≡ true
 came-at k [] place i e h = absurd (none-some i e)
 came-at k (j ∷ inputs) zero i e h =
@@ -83,7 +96,8 @@ came-at k (j ∷ inputs) zero i e h =
     ∙ ap (λ b. b || has_number k (arrivals inputs)) (ap (λ o. has_number k (arrivals_of o)) (same_Some j i e) ∙ h)
 came-at k (j ∷ inputs) (suc place) i e h =
     number-append k (arrivals_of j) (arrivals inputs)
-    ∙ ap (λ b. has_number k (arrivals_of j) || b) (came-at k inputs place i e h) ∙ or-true (has_number k (arrivals_of j))
+    ∙ ap (λ b. has_number k (arrivals_of j) || b) (came-at k inputs place i e h)
+    ∙ or-true (has_number k (arrivals_of j))
 
 heard-all : (x y : EndState) → (is_shut x ≡ false → AllArrived x y) → HasHeardAll x y
 heard-all x y h lives k m e =
@@ -115,17 +129,20 @@ same-there x y h =
 -- waiting for room
 waits-room : (x : EndState) → (is_shut x ≡ false → WaitsForWindow x) → WaitsForRoom x
 waits-room x h lives some =
-    subst (λ (us : List (List ℕ)). x.machine.window ≤ length us) (sym (open-unconfirmed x)) (h (closed-shut x.machine.connection lives) some)
+    subst (λ (us : List (List ℕ)). x.machine.window ≤ length us) (sym (open-unconfirmed x))
+    (h (closed-shut x.machine.connection lives) some)
 
 room-waits : (x : EndState) → WaitsForRoom x → is_shut x ≡ false → WaitsForWindow x
 room-waits x h lives some =
-    subst (λ (us : List (List ℕ)). x.machine.window ≤ length us) (open-unconfirmed x) (h (shut-closed x.machine.connection lives) some)
+    subst (λ (us : List (List ℕ)). x.machine.window ≤ length us) (open-unconfirmed x)
+    (h (shut-closed x.machine.connection lives) some)
 
 -- settings fit
 at-version : (v : ℕ) (vs : List ℕ) → list_any (λ u. u == v) vs ≡ true → (place : ℕ) × (slice_get vs place ≡ Some v)
 at-version v [] e = absurd (false-true e)
 at-version v (u ∷ vs) e =
-    by_test (λ b. u == v ≡ b → b || list_any (λ u. u == v) vs ≡ true → (place : ℕ) × (slice_get (u ∷ vs) place ≡ Some v)) (u == v)
+    by_test (λ b. u == v ≡ b → b || list_any (λ u. u == v) vs ≡ true
+    → (place : ℕ) × (slice_get (u ∷ vs) place ≡ Some v)) (u == v)
     (λ is is' or. (zero, ap Some (eqb-true u v is))) (λ is is' or. let r = at-version v vs or in (suc r.0, r.1)) refl e
 
 version-at : (v : ℕ) (vs : List ℕ) (place : ℕ) → slice_get vs place ≡ Some v → list_any (λ u. u == v) vs ≡ true
@@ -159,7 +176,8 @@ matches il fe f =
       rule = same-rule (rule_of il.settings) (rule_of fe.settings) f.code_length f.initial_value;
       protocol = f.protocol;
       version =
-          version-at (first_version il.settings.versions) fe.settings.versions f.place (f.version ∙ ap Some (sym (first-is il.settings.versions)));
+          version-at (first_version il.settings.versions) fe.settings.versions f.place (f.version
+          ∙ ap Some (sym (first-is il.settings.versions)));
       il_identifier = sym f.fe_knows.identifier;
       fe_identifier = sym f.il_knows.identifier;
       il_name = sym f.fe_knows.name;
@@ -174,8 +192,10 @@ is-established _ e = absurd (false-true e)
 established-at : (ps : List Phase) → was_established ps ≡ true → (n : ℕ) × (slice_get ps n ≡ Some Established)
 established-at [] e = absurd (false-true e)
 established-at (p ∷ ps) e =
-    by_test (λ b. is_established p ≡ b → cond b true (was_established ps) ≡ true → (n : ℕ) × (slice_get (p ∷ ps) n ≡ Some Established)) (is_established p)
-    (λ is is' or. (zero, ap Some (is-established p is))) (λ is is' or. let r = established-at ps or in (suc r.0, r.1)) refl e
+    by_test (λ b. is_established p ≡ b → cond b true (was_established ps) ≡ true
+    → (n : ℕ) × (slice_get (p ∷ ps) n ≡ Some Established)) (is_established p)
+    (λ is is' or. (zero, ap Some (is-established p is))) (λ is is' or. let r = established-at ps or in (suc r.0, r.1))
+    refl e
 
 cond-true : (b : Bool) → cond b true true ≡ true
 cond-true true = refl
@@ -184,7 +204,8 @@ cond-true false = refl
 at-established : (ps : List Phase) (n : ℕ) → slice_get ps n ≡ Some Established → was_established ps ≡ true
 at-established [] n e = absurd (none-some Established e)
 at-established (p ∷ ps) zero e = ap (λ q. cond (is_established q) true (was_established ps)) (same_Some p Established e)
-at-established (p ∷ ps) (suc n) e = ap (λ b. cond (is_established p) true b) (at-established ps n e) ∙ cond-true (is_established p)
+at-established (p ∷ ps) (suc n) e = ap (λ b. cond (is_established p) true b) (at-established ps n e)
+    ∙ cond-true (is_established p)
 
 one-phase : (il fe : EndState) → InStep il fe → AreInOnePhase il fe
 one-phase il fe (inl h) =
@@ -200,7 +221,8 @@ one-phase il fe (inr h) =
 
 in-step : (il fe : EndState) → AreInOnePhase il fe → InStep il fe
 in-step il fe h =
-    by_test (λ b. was_established fe.session.history.phases ≡ b → InStep il fe) (was_established fe.session.history.phases)
+    by_test (λ b. was_established fe.session.history.phases ≡ b
+    → InStep il fe) (was_established fe.session.history.phases)
     (λ is is'. let e = established-at fe.session.history.phases is in let p = h.since e.0 e.1 in inr (is, p.0, p.1))
     (λ is is'.
     let p = h.before (λ n e. false-true (sym is ∙ at-established fe.session.history.phases n e)) in
@@ -256,13 +278,15 @@ if-heard il fe h a b = all-there il fe (h (all-heard il fe a) (all-heard fe il b
 heard-if : (il fe : EndState) → IfHeard il fe → IfAllArrived il fe
 heard-if il fe h a b = is-there il fe (h (heard-all il fe a) (heard-all fe il b))
 
-of-both : (a b : Option EndState) → OfBoth IfAllArrived a b → (il fe : EndState) → a ≡ Some il → b ≡ Some fe → IfHeard il fe
+of-both : (a b : Option EndState) → OfBoth IfAllArrived a b → (il fe : EndState) → a ≡ Some il → b ≡ Some fe
+    → IfHeard il fe
 of-both None b h il fe e k = absurd (none-some il e)
 of-both (Some x) None h il fe e k = absurd (none-some fe k)
 of-both (Some x) (Some y) h il fe e k =
     subst (λ z. IfHeard z fe) (same_Some x il e) (subst (IfHeard x) (same_Some y fe k) (if-heard x y h))
 
-both-of : (a b : Option EndState) → ((il fe : EndState) → a ≡ Some il → b ≡ Some fe → IfHeard il fe) → OfBoth IfAllArrived a b
+both-of : (a b : Option EndState) → ((il fe : EndState) → a ≡ Some il → b ≡ Some fe → IfHeard il fe)
+    → OfBoth IfAllArrived a b
 both-of None b h = tt
 both-of (Some x) None h = tt
 both-of (Some x) (Some y) h = heard-if x y (h x y refl refl)

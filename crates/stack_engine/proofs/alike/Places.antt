@@ -9,7 +9,8 @@ pub within : {A : Type 0} (xs : List A) (n : ℕ) (x : A) → IsOpened xs n x �
 within xs n x h = let c = h.counted in omega (arith, c)
 
 pub opened-before : {A : Type 0} (y : A) (xs : List A) (n : ℕ) (x : A) → IsOpened xs n x → IsOpened (y ∷ xs) n x
-opened-before y xs n x h = record { place = suc h.place; there = h.there; counted = (let c = h.counted in omega (arith, c)) }
+opened-before y xs n x h =
+    record { place = suc h.place; there = h.there; counted = (let c = h.counted in omega (arith, c)) }
 
 pub opened-first : {A : Type 0} (x : A) (xs : List A) → IsOpened (x ∷ xs) (length xs + 1) x
 opened-first x xs = record { place = zero; there = refl; counted = omega arith }
@@ -19,19 +20,23 @@ pub record IsLatest {A : Type 0} (y : A) (xs : List A) (n : ℕ) (x : A) : Type 
   pub number : n ≡ length xs + 1
   pub is : y ≡ x
 
-at-place : {A : Type 0} (y : A) (xs : List A) (n : ℕ) (x : A) (place : ℕ) → slice_get (y ∷ xs) place ≡ Some x → n + place ≡ length (y ∷ xs)
+at-place : {A : Type 0} (y : A) (xs : List A) (n : ℕ) (x : A) (place : ℕ) → slice_get (y ∷ xs) place ≡ Some x
+    → n + place ≡ length (y ∷ xs)
     → IsLatest y xs n x ⊎ IsOpened xs n x
 at-place y xs n x zero there counted = inl (record { number = omega (arith, counted); is = same_Some y x there })
-at-place y xs n x (suc place) there counted = inr (record { place = place; there = there; counted = omega (arith, counted) })
+at-place y xs n x (suc place) there counted =
+    inr (record { place = place; there = there; counted = omega (arith, counted) })
 
-pub opened-cases : {A : Type 0} (y : A) (xs : List A) (n : ℕ) (x : A) → IsOpened (y ∷ xs) n x → IsLatest y xs n x ⊎ IsOpened xs n x
+pub opened-cases : {A : Type 0} (y : A) (xs : List A) (n : ℕ) (x : A) → IsOpened (y ∷ xs) n x
+    → IsLatest y xs n x ⊎ IsOpened xs n x
 opened-cases y xs n x h = at-place y xs n x h.place h.there h.counted
 
 pub opened-none : {A : Type 0} (n : ℕ) (x : A) → IsOpened [] n x → ⊥
 opened-none n x h = none-some x h.there
 
 -- a prefix is a list that agrees as far as it goes
-pub agree : {A : Type 0} (xs ys rest : List A) → xs ++ rest ≡ ys → (n : ℕ) → n < length xs → slice_get xs n ≡ slice_get ys n
+pub agree : {A : Type 0} (xs ys rest : List A) → xs ++ rest ≡ ys → (n : ℕ) → n < length xs
+    → slice_get xs n ≡ slice_get ys n
 agree [] ys rest e n le = absurd (omega (arith, le))
 agree (x ∷ xs) [] rest e n le = absurd (none-some x (sym (ap (λ zs. slice_get zs 0) e)))
 agree (x ∷ xs) (y ∷ ys) rest e zero le = ap (λ zs. slice_get zs 0) e
@@ -77,7 +82,8 @@ get-taken (suc k) (x ∷ xs) zero le = refl
 get-taken (suc k) (x ∷ xs) (suc n) le = get-taken k xs n (omega (arith, le))
 
 -- a list that is as long and has the same at each place is the same
-pub same-list : {A : Type 0} (xs ys : List A) → length xs ≡ length ys → ((n : ℕ) → n < length xs → slice_get xs n ≡ slice_get ys n) → xs ≡ ys
+pub same-list : {A : Type 0} (xs ys : List A) → length xs ≡ length ys
+    → ((n : ℕ) → n < length xs → slice_get xs n ≡ slice_get ys n) → xs ≡ ys
 same-list [] [] e same = refl
 same-list [] (y ∷ ys) e same = absurd (omega (arith, e))
 same-list (x ∷ xs) [] e same = absurd (omega (arith, e))
@@ -91,7 +97,8 @@ pub record Parted {A : Type 0} (sure : ℕ) (all whole left : List A) : Type 0 w
   pub first : AgreeUpTo sure all whole
   pub behind : (n : ℕ) → n < length left → slice_get left n ≡ slice_get all (sure + n)
 
-pub front-parted : {A : Type 0} (all whole left front : List A) → IsBeginning front whole → all ≡ front ++ left → Parted (length front) all whole left
+pub front-parted : {A : Type 0} (all whole left front : List A) → IsBeginning front whole → all ≡ front ++ left
+    → Parted (length front) all whole left
 front-parted all whole left front h e =
     let a = begins-agree front whole h in
     record {
@@ -117,14 +124,17 @@ parted-begins all whole left sure h =
       agree-begins (take sure all) whole
           (record {
             enough = (let e = h.first.enough in omega (arith, long, e));
-            same = λ n le. (let short : n < sure = omega (arith, long, le) in get-taken sure all n short ∙ h.first.same n short);
+            same =
+                λ n le. (let short : n < sure = omega (arith, long, le) in get-taken sure all n short
+                ∙ h.first.same n short);
           }),
       sym (take-append-drop sure all) ∙ ap (λ zs. take sure all ++ zs) rest,
       long,
     )
 
 -- a prefix that is as long is the whole
-pub as-long : {A : Type 0} (front whole : List A) → IsBeginning front whole → length front ≡ length whole → front ≡ whole
+pub as-long : {A : Type 0} (front whole : List A) → IsBeginning front whole → length front ≡ length whole
+    → front ≡ whole
 as-long front whole h e = same-list front whole e (agree front whole h.0 h.1)
 
 pub get-some : {A : Type 0} (xs : List A) (k : ℕ) → k < length xs → (x : A) × (slice_get xs k ≡ Some x)
@@ -143,7 +153,8 @@ latest-opened xs x before e =
     record { place = zero; there = ap (λ (ys : List _). slice_get ys zero) e; counted = omega arith }
 
 -- elements before the rest from a place on
-pub drop-get : {A : Type 0} (k : ℕ) (xs : List A) (x : A) (rest : List A) → drop k xs ≡ x ∷ rest → slice_get xs k ≡ Some x
+pub drop-get : {A : Type 0} (k : ℕ) (xs : List A) (x : A) (rest : List A) → drop k xs ≡ x ∷ rest
+    → slice_get xs k ≡ Some x
 drop-get zero xs x rest e = ap (λ (ys : List _). slice_get ys zero) e
 drop-get (suc k) [] x rest e = absurd (none-some x (ap (λ (ys : List _). slice_get ys zero) e))
 drop-get (suc k) (y ∷ xs) x rest e = drop-get k xs x rest e

@@ -44,7 +44,8 @@ passing-none r = record { q = refl; count = omega arith; few = λ h. h }
 passing-release : (now : ℕ) (r : Receiver) → Passing 0 r (parts_due now r) (after_release now r)
 passing-release now r = go (is_due now r)
   where
-    go : (b : Bool) → Passing 0 r (cond b (run_from (least_waiting r.waiting) r.waiting) []) (cond b (follow now (least_waiting r.waiting) r) r)
+    go : (b : Bool) → Passing 0 r (cond b (run_from (least_waiting r.waiting) r.waiting) [])
+        (cond b (follow now (least_waiting r.waiting) r) r)
     go true =
         let split = run-and-rest (least_waiting r.waiting) r.waiting in
         record { q = refl; count = omega arith; few = λ h. omega arith }
@@ -69,7 +70,8 @@ passing (Datagram octets now) r = grind (arith, nat_tests, length-append, passin
 passing (RedTick now) r = grind (arith, nat_tests, passing-release)
 
 -- what a message says is small
-named-small : (m : List ℕ) (t : Tele) (a b : Option (List ℕ)) → length m ≤ MESSAGE_MAX → read_named a b m ≡ Ok t → length t.payload ≤ PAYLOAD_MAX
+named-small : (m : List ℕ) (t : Tele) (a b : Option (List ℕ)) → length m ≤ MESSAGE_MAX → read_named a b m ≡ Ok t
+    → length t.payload ≤ PAYLOAD_MAX
 named-small m t (Some a) (Some b) h e = grind (arith, length-drop MESSAGE_MIN m)
 named-small m t (Some a) None h e = cc
 named-small m t None b h e = cc
@@ -93,16 +95,20 @@ takes-more : (m n : ℕ) (d e : Dialogue) → m ≤ n → Takes_ m d e → Takes
 takes-more m n d e le a = record { few = omega (arith, a.few); small = a.small }
 
 -- a telegram that arrives is taken at most
-takes-as : (t : Tele) (d e : Dialogue) (v : Verdict) → length t.payload ≤ PAYLOAD_MAX → e.history.taken ≡ d.history.taken ++ taken_as t v → Takes_ 1 d e
+takes-as : (t : Tele) (d e : Dialogue) (v : Verdict) → length t.payload ≤ PAYLOAD_MAX
+    → e.history.taken ≡ d.history.taken ++ taken_as t v → Takes_ 1 d e
 takes-as t d e Takes small same = grind (arith, nat_tests, all-append, length-append)
 takes-as t d e _ small same = takes-more 0 1 d e (omega arith) (takes-same d e (same ∙ append-nil d.history.taken))
 
-takes-read : (m : List ℕ) (d : Dialogue) (r : Result Tele TeleFault) → tele_seen m ≡ r → Takes_ 1 d (judge_read r d).left
-takes-read m d (Ok t) e = takes-as t d (process_event (Arrives t) d) (judge_telegram d.history.state t) (small-tele m t e) refl
+takes-read : (m : List ℕ) (d : Dialogue) (r : Result Tele TeleFault) → tele_seen m ≡ r
+    → Takes_ 1 d (judge_read r d).left
+takes-read m d (Ok t) e =
+    takes-as t d (process_event (Arrives t) d) (judge_telegram d.history.state t) (small-tele m t e) refl
 takes-read m d (Err fault) e = takes-more 0 1 d d (omega arith) (takes-same d d refl)
 
 -- the others of a unit
-takes-unless : (n : ℕ) (d : Dialogue) (why : Option Leaving) (first rest : Judgement) → Takes_ 1 d first.left → Takes_ n first.left rest.left
+takes-unless : (n : ℕ) (d : Dialogue) (why : Option Leaving) (first rest : Judgement) → Takes_ 1 d first.left
+    → Takes_ n first.left rest.left
     → Takes_ (1 + n) d (unless_leaving why first rest).left
 takes-unless n d None first rest a b = takes-then 1 n d first.left rest.left a b
 takes-unless n d (Some why) first rest a b = takes-more 1 (1 + n) d first.left (omega arith) a
@@ -112,10 +118,12 @@ takes-messages [] d = takes-same d d refl
 takes-messages (m ∷ ms) d =
     let first = judge_read (tele_seen m) d in
     takes-more (1 + length ms) (length (m ∷ ms)) d (judge_messages (m ∷ ms) d).left (omega arith)
-    (takes-unless (length ms) d first.leaving first (judge_messages ms first.left) (takes-read m d (tele_seen m) refl) (takes-messages ms first.left))
+    (takes-unless (length ms) d first.leaving first (judge_messages ms first.left) (takes-read m d (tele_seen m) refl)
+    (takes-messages ms first.left))
 
 -- a unit has three messages at most
-after-few : (n : ℕ) (m : List ℕ) (r : Result (List (List ℕ)) PackFault) (ms : List (List ℕ)) → after_read (m ∷ []) r ≡ Ok ms
+after-few : (n : ℕ) (m : List ℕ) (r : Result (List (List ℕ)) PackFault) (ms : List (List ℕ))
+    → after_read (m ∷ []) r ≡ Ok ms
     → ((ns : List (List ℕ)) → r ≡ Ok ns → length ns ≤ n) → length ms ≤ n + 1
 after-few n m r ms h k = grind (arith, nat_tests)
 
@@ -128,8 +136,10 @@ unit-few : (u : List ℕ) (ms : List (List ℕ)) → unit_seen u ≡ Ok ms → l
 unfolding unit_seen
 unit-few u ms e = grind (arith, pieces-few)
 
-takes-unpacked : (u : List ℕ) (d : Dialogue) (r : Result (List (List ℕ)) PackFault) → unit_seen u ≡ r → Takes_ 3 d (judge_unpacked r d).left
-takes-unpacked u d (Ok ms) e = takes-more (length ms) 3 d (judge_messages ms d).left (unit-few u ms e) (takes-messages ms d)
+takes-unpacked : (u : List ℕ) (d : Dialogue) (r : Result (List (List ℕ)) PackFault) → unit_seen u ≡ r
+    → Takes_ 3 d (judge_unpacked r d).left
+takes-unpacked u d (Ok ms) e =
+    takes-more (length ms) 3 d (judge_messages ms d).left (unit-few u ms e) (takes-messages ms d)
 takes-unpacked u d (Err fault) e = takes-more 0 3 d d (omega arith) (takes-same d d refl)
 
 -- the machine delivers at most one unit
@@ -142,7 +152,8 @@ takes-units (u ∷ []) d h =
   where
     takes-one : (why : Option Leaving) (first rest : Judgement) → Takes_ 3 d first.left → Takes_ 0 first.left rest.left
         → Takes_ 3 d (unless_leaving why first rest).left
-    takes-one None first rest a b = takes-more (3 + 0) 3 d rest.left (omega arith) (takes-then 3 0 d first.left rest.left a b)
+    takes-one None first rest a b =
+        takes-more (3 + 0) 3 d rest.left (omega arith) (takes-then 3 0 d first.left rest.left a b)
     takes-one (Some why) first rest a b = a
 takes-units (u ∷ v ∷ us) d h = absurd (omega arith)
 
@@ -150,7 +161,8 @@ takes-units (u ∷ v ∷ us) d h = absurd (omega arith)
 handed-few : MovesLaw → (m : Move) (x : EndState) → length (handed_up x (move m x.machine)) ≤ 1
 handed-few moves m x =
     let one = moves m x.machine in
-    let same : handed_up x (move m x.machine) ≡ one.more_taken = ap (drop (length x.machine.taken)) one.taken ∙ drop-append_seam x.machine.taken one.more_taken
+    let same : handed_up x (move m x.machine) ≡ one.more_taken = ap (drop (length x.machine.taken)) one.taken
+    ∙ drop-append_seam x.machine.taken one.more_taken
     in
     omega (arith, ap (λ (us : List (List ℕ)). length us) same, by-kind m one.more_taken one.one_taken)
   where
@@ -172,10 +184,15 @@ pub record Grows (n k : ℕ) (x y : EndState) : Type 0 where
   pub takes : Takes_ k x.session y.session
 
 grows-then : (m n j k : ℕ) (x y z : EndState) → Grows m j x y → Grows n k y z → Grows (m + n) (j + k) x z
-grows-then m n j k x y z a b = record { made = omega (arith, a.made, b.made); takes = takes-then j k x.session y.session z.session a.takes b.takes }
+grows-then m n j k x y z a b =
+    record {
+      made = omega (arith, a.made, b.made);
+      takes = takes-then j k x.session y.session z.session a.takes b.takes;
+    }
 
 grows-more : (m n j k : ℕ) (x y : EndState) → m ≤ n → j ≤ k → Grows m j x y → Grows n k x y
-grows-more m n j k x y le less a = record { made = omega (arith, a.made); takes = takes-more j k x.session y.session less a.takes }
+grows-more m n j k x y le less a =
+    record { made = omega (arith, a.made); takes = takes-more j k x.session y.session less a.takes }
 
 grows-same : (x : EndState) → Grows 0 0 x x
 grows-same x = record { made = omega arith; takes = takes-same x.session x.session refl }
@@ -183,7 +200,8 @@ grows-same x = record { made = omega arith; takes = takes-same x.session x.sessi
 grows-settle : (x : EndState) → Grows 0 0 x (settle x)
 grows-settle x = grind (arith, nat_tests, append-nil, grows-same, takes-same)
 
-leave-few : (reason : Reason) (detail : Detail) (now : ℕ) (s : State) → length (leave reason detail now s).made ≤ length s.made + 1
+leave-few : (reason : Reason) (detail : Detail) (now : ℕ) (s : State)
+    → length (leave reason detail now s).made ≤ length s.made + 1
 leave-few reason detail now s = grind (arith, length-append s.made)
 
 -- What holds of an end by itself, so that its next call makes little.
@@ -203,14 +221,17 @@ few-made law side m x read h =
 
 grows-leaves : (now : ℕ) (why : Option Leaving) (y : EndState) → Grows 1 0 y (leaves now why y)
 grows-leaves now None y = grows-more 0 1 0 0 y y (omega arith) (omega arith) (grows-same y)
-grows-leaves now (Some why) y = record { made = leave-few why.0 why.1 now y.machine; takes = takes-same y.session y.session refl }
+grows-leaves now (Some why) y =
+    record { made = leave-few why.0 why.1 now y.machine; takes = takes-same y.session y.session refl }
 
 -- a part that goes up
-grows-heard : Laws → (side : Side) (now : ℕ) (octets : List ℕ) (x : EndState) → AreOctets octets → Sized side x → Grows 37 3 x (heard now octets x)
+grows-heard : Laws → (side : Side) (now : ℕ) (octets : List ℕ) (x : EndState) → AreOctets octets → Sized side x
+    → Grows 37 3 x (heard now octets x)
 grows-heard laws side now octets x octs h =
     let s = arrive_octets octets now x.machine in
     let m = heard_as (seen_by x.machine octets) now in
-    let few = few-made laws.few side m x (read-heard laws.heard now octets x.machine octs (seen_by x.machine octets) refl) h in
+    let few = few-made laws.few side m x (read-heard laws.heard now octets x.machine octs (seen_by x.machine octets)
+    refl) h in
     let up = takes-units (handed_up x s) x.session (handed-few laws.moves m x) in
     let y = answered octets x s in
     let d = (judge_units (handed_up x s) x.session).left in
@@ -220,7 +241,8 @@ grows-heard laws side now octets x octs h =
           (takes-then 3 0 x.session d y.session up (takes-rises (comes_up x.machine.connection s.connection) d));
     } in
     grows-more (36 + 1) 37 (3 + 0) 3 x (heard now octets x) (omega arith) (omega arith)
-    (grows-then 36 1 3 0 x y (heard now octets x) one (grows-leaves now (judge_units (handed_up x s) x.session).leaving y))
+    (grows-then 36 1 3 0 x y (heard now octets x) one
+    (grows-leaves now (judge_units (handed_up x s) x.session).leaving y))
 
 sized-keeps : Laws → (side : Side) (now : ℕ) → Keeps now OctetsUp (Sized side)
 sized-keeps laws side now =
@@ -276,33 +298,41 @@ module _ (laws : Laws) (side : Side) (now : ℕ) where
   k : Keeps now OctetsUp (Sized side)
   k = sized-keeps laws side now
 
-  grows-part : (octets : List ℕ) (x : EndState) → AreOctets octets → Sized side x → Grows 37 3 x (part_step now octets x)
+  grows-part : (octets : List ℕ) (x : EndState) → AreOctets octets → Sized side x
+      → Grows 37 3 x (part_step now octets x)
   grows-part octets x octs h =
       let y = settle (heard now octets x) in
       subst (Grows 37 3 x) (sym (part-is now octets x))
       (grows-more (37 + 0) 37 (3 + 0) 3 x y (omega arith) (omega arith)
-      (grows-then 37 0 3 0 x (heard now octets x) y (grows-heard laws side now octets x octs h) (grows-settle (heard now octets x))))
+      (grows-then 37 0 3 0 x (heard now octets x) y (grows-heard laws side now octets x octs h)
+      (grows-settle (heard now octets x))))
 
   grows-parts : (ps : List Part) (x : EndState) → AllByRecursion OctetPart ps → Sized side x
       → Grows (37 * length ps) (3 * length ps) x (parts_step now ps x) × Sized side (parts_step now ps x)
   grows-parts [] x octs h = (grows-same x, h)
   grows-parts (p ∷ ps) x octs h =
       let y = part_step now p.1 x in
-      let rest = grows-parts ps y octs.1 (keep-part now OctetsUp (Sized side) (goes-of now OctetsUp (Sized side) k) p.1 x octs.0 h) in (
-        grows-more (37 + 37 * length ps) (37 * length (p ∷ ps)) (3 + 3 * length ps) (3 * length (p ∷ ps)) x (parts_step now ps y) (omega arith) (omega arith)
-            (grows-then 37 (37 * length ps) 3 (3 * length ps) x y (parts_step now ps y) (grows-part p.1 x octs.0 h) rest.0),
+      let rest = grows-parts ps y octs.1 (keep-part now OctetsUp (Sized side) (goes-of now OctetsUp (Sized side) k) p.1
+      x octs.0 h) in (
+        grows-more (37 + 37 * length ps) (37 * length (p ∷ ps)) (3 + 3 * length ps) (3 * length (p ∷ ps)) x
+            (parts_step now ps y) (omega arith) (omega arith)
+            (grows-then 37 (37 * length ps) 3 (3 * length ps) x y (parts_step now ps y) (grows-part p.1 x octs.0 h)
+            rest.0),
         rest.1,
       )
 
   -- units go out while the window is open
   packs-few : (n : ℕ) (x : EndState) → Sized side x
-      → (length (packed_up_to n now x).machine.made + length (unconfirmed x.machine) ≤ length x.machine.made + 32) × Takes_ 0 x.session
+      → (length (packed_up_to n now x).machine.made + length (unconfirmed x.machine) ≤ length x.machine.made + 32)
+      × Takes_ 0 x.session
       (packed_up_to n now x).session
   packs-few zero x h =
-      let few = few-made laws.few side (Guards now) x tt h in (omega (arith, few.few), takes-same x.session x.session refl)
+      let few = few-made laws.few side (Guards now) x tt h in
+      (omega (arith, few.few), takes-same x.session x.session refl)
   packs-few (suc n) x h =
       let few = few-made laws.few side (Guards now) x tt h in
-      let P : EndState → Type 0 = λ y. (length y.machine.made + length (unconfirmed x.machine) ≤ length x.machine.made + 32) × Takes_ 0 x.session y.session in
+      let P : EndState → Type 0 = λ y. (length y.machine.made + length (unconfirmed x.machine) ≤ length x.machine.made
+      + 32) × Takes_ 0 x.session y.session in
       let same : P x = (omega (arith, few.few), takes-same x.session x.session refl) in
       by_cond P (can_pack (fields_kept x)) (packed_up_to n now (step (pack_turn now) x)) x (λ can.
       let is = may-pack x can in
@@ -312,10 +342,12 @@ module _ (laws : Laws) (side : Side) (now : ℕ) where
       let rest = packs-few n y (k.sends x may is.1 h) in
       let one : length y.machine.made ≤ length x.machine.made + 1 =
       subst (λ (t : State). length t.made ≤ length x.machine.made + 1) (sym (send-is unit now x.machine))
-      (by_cond (λ (t : State). length t.made ≤ length x.machine.made + 1) (may_send x.machine) (make Data unit now x.machine) x.machine
+      (by_cond (λ (t : State). length t.made ≤ length x.machine.made + 1) (may_send x.machine)
+      (make Data unit now x.machine) x.machine
       (λ _. omega (arith, length-append x.machine.made (next_made x.machine Data unit now ∷ []))) (λ _. omega arith)) in
       subst (λ (z : EndState). P (packed_up_to n now z)) (sym (packed-is now x))
-      (omega (arith, rest.0, few.sending unit now may, one), record { few = rest.1.few; small = rest.1.small })) (λ _. same)
+      (omega (arith, rest.0, few.sending unit now may, one), record { few = rest.1.few; small = rest.1.small }))
+      (λ _. same)
 
   grows-sends : (x : EndState) → Sized side x → Grows 32 0 x (sends now x)
   grows-sends x h =
@@ -324,7 +356,8 @@ module _ (laws : Laws) (side : Side) (now : ℕ) where
 
   grows-goes_on : (i : Input) (x : EndState) → IsTypedInput i → Sized side x → Grows 365 27 x (goes_on now i x)
   grows-goes_on i x t h =
-      by_cond (Grows 365 27 x) (is_shut x) x (sends now (input_step now i x)) (λ _. grows-more 0 365 0 27 x x (omega arith) (omega arith) (grows-same x)) (λ _.
+      by_cond (Grows 365 27 x) (is_shut x) x (sends now (input_step now i x))
+      (λ _. grows-more 0 365 0 27 x x (omega arith) (omega arith) (grows-same x)) (λ _.
       let y = with_input i x in
       let ps = parts_passed i x.red in
       let p = passing i x.red in
@@ -334,7 +367,8 @@ module _ (laws : Laws) (side : Side) (now : ℕ) where
       let through = grows-parts ps y (red-keeps laws i x.red t h.whole.machined.waits).0 begun in
       let z = input_step now i x in
       let zero : Grows 0 0 x y = record { made = omega arith; takes = takes-same x.session y.session refl } in
-      grows-more (0 + (37 * length ps + 32)) 365 (0 + (3 * length ps + 0)) 27 x (sends now z) (omega arith) (omega arith)
+      grows-more (0 + (37 * length ps + 32)) 365 (0 + (3 * length ps + 0)) 27 x (sends now z) (omega arith)
+      (omega arith)
       (grows-then 0 (37 * length ps + 32) 0 (3 * length ps + 0) x y (sends now z) zero
       (grows-then (37 * length ps) 32 (3 * length ps) 0 y z (sends now z) through.0 (grows-sends z through.1))))
 
@@ -344,29 +378,36 @@ module _ (laws : Laws) (side : Side) (now : ℕ) where
       let few = few-made laws.few side m x read h in
       let y = with_machine (move m x.machine) x in
       let one : Grows 36 0 x y = record { made = few.made; takes = takes-same x.session y.session refl } in
-      grows-more (36 + 0) 36 (0 + 0) 0 x (moved m x) (omega arith) (omega arith) (grows-then 36 0 0 0 x y (moved m x) one (grows-settle y))
+      grows-more (36 + 0) 36 (0 + 0) 0 x (moved m x) (omega arith) (omega arith)
+      (grows-then 36 0 0 0 x y (moved m x) one (grows-settle y))
 
-  grows-on : (m : Move) (i : Input) (x y : EndState) → y ≡ moved m x → IsRead m → IsTypedInput i → Sized side x → Sized side y
+  grows-on : (m : Move) (i : Input) (x y : EndState) → y ≡ moved m x → IsRead m → IsTypedInput i → Sized side x
+      → Sized side y
       → Grows 401 27 x (goes_on now i y)
   grows-on m i x y is read t h after =
       grows-more (36 + 365) 401 (0 + 27) 27 x (goes_on now i y) (omega arith) (omega arith)
-      (grows-then 36 365 0 27 x y (goes_on now i y) (subst (Grows 36 0 x) (sym is) (grows-moved m x read h)) (grows-goes_on i y t after))
+      (grows-then 36 365 0 27 x y (goes_on now i y) (subst (Grows 36 0 x) (sym is) (grows-moved m x read h))
+      (grows-goes_on i y t after))
 
   -- an event of the session that is no arrival
-  grows-meets : (e : SessionEvent) (x : EndState) → taken_by e x.session.history.state ≡ [] → Sized side (with_session (process_event e x.session) x)
+  grows-meets : (e : SessionEvent) (x : EndState) → taken_by e x.session.history.state ≡ []
+      → Sized side (with_session (process_event e x.session) x)
       → Grows 401 27 x (sends now (with_session (process_event e x.session) x))
   grows-meets e x none after =
       let y = with_session (process_event e x.session) x in
       let zero : Grows 0 0 x y = record {
         made = omega arith;
-        takes = takes-same x.session y.session (ap (λ (is : List Item). x.session.history.taken ++ is) none ∙ append-nil x.session.history.taken);
+        takes = takes-same x.session y.session (ap (λ (is : List Item). x.session.history.taken ++ is) none
+            ∙ append-nil x.session.history.taken);
       } in
-      grows-more (0 + 32) 401 (0 + 0) 27 x (sends now y) (omega arith) (omega arith) (grows-then 0 32 0 0 x y (sends now y) zero (grows-sends y after))
+      grows-more (0 + 32) 401 (0 + 0) 27 x (sends now y) (omega arith) (omega arith)
+      (grows-then 0 32 0 0 x y (sends now y) zero (grows-sends y after))
 
 grows-time : (n j : ℕ) (now : ℕ) (x y : EndState) → Grows n j x y → Grows n j x (record y { time = now })
 grows-time n j now x y g = record { made = g.made; takes = g.takes }
 
-pub grows-call : Laws → (side : Side) (c : Call) (x : EndState) → IsTypedCall c → Sized side x → Grows 401 27 x (call c x)
+pub grows-call : Laws → (side : Side) (c : Call) (x : EndState) → IsTypedCall c → Sized side x
+    → Grows 401 27 x (call c x)
 grows-call laws side (Close now) x t h =
     subst (λ (y : EndState). Grows 401 27 x (record y { time = now })) (sym (closed-step-is now x))
     (grows-time 401 27 now x (moved (Leaves ClosedByUser Unspecified now) x)
@@ -375,7 +416,8 @@ grows-call laws side (Close now) x t h =
 grows-call laws side (Put kind payload now) x t h =
     subst (λ (y : EndState). Grows 401 27 x (record (sends now y) { time = now })) (sym (queued-is kind payload x))
     (grows-time 401 27 now x (sends now (put_into kind payload x))
-    (grows-meets laws side now (Puts kind payload (length x.session.waiting)) x refl ((sized-keeps laws side now).puts kind payload x t h)))
+    (grows-meets laws side now (Puts kind payload (length x.session.waiting)) x refl
+    ((sized-keeps laws side now).puts kind payload x t h)))
 grows-call laws side (InitDone now) x t h =
     subst (λ (y : EndState). Grows 401 27 x (record (sends now y) { time = now })) (sym (finished-is x))
     (grows-time 401 27 now x (sends now (put_done x))
@@ -397,9 +439,11 @@ grows-call laws side (Deliver channel octets now) x t h =
 
 pub sized-call : Laws → (side : Side) (c : Call) (x : EndState) → IsTypedCall c → Sized side x → Sized side (call c x)
 sized-call laws side c x t h =
-    call-keeps c OctetsUp (Sized side) x (sized-keeps laws side (time_of c)) t (octets-call laws c x t h.whole.machined.waits) h
+    call-keeps c OctetsUp (Sized side) x (sized-keeps laws side (time_of c)) t
+    (octets-call laws c x t h.whole.machined.waits) h
 
-pub sized-new : (side : Side) (s : EndSettings) (first now : ℕ) → are_fit side s ≡ true → Sized side (new_end side s first now)
+pub sized-new : (side : Side) (s : EndSettings) (first now : ℕ) → are_fit side s ≡ true
+    → Sized side (new_end side s first now)
 sized-new Il s first now fit = record { whole = new-whole Il s first now fit; q = refl; few = omega arith; small = tt }
 sized-new Fe s first now fit = record { whole = new-whole Fe s first now fit; q = refl; few = omega arith; small = tt }
 
@@ -412,11 +456,13 @@ abbrev pub AllSized : World → Type 0
 AllSized w = AtOpened (Sized Il) (present Il w) × AtOpened (Sized Fe) (present Fe w)
 
 module _ (laws : Laws) where
-  sized-il : (c : Call) (ils : List EndState) → IsTyped (Calls Il c) → AtOpened (Sized Il) (latest ils) → AtOpened (Sized Il) (latest (call_il c ils))
+  sized-il : (c : Call) (ils : List EndState) → IsTyped (Calls Il c) → AtOpened (Sized Il) (latest ils)
+      → AtOpened (Sized Il) (latest (call_il c ils))
   sized-il c [] t h = tt
   sized-il c (x ∷ before) t h = sized-call laws Il c x (typed-call Il c t) h
 
-  sized-fe : (c : Call) (ils : List EndState) (fes : List JoinedEnd) → IsTyped (Calls Fe c) → AtOpened (Sized Fe) (latest (ends_of fes))
+  sized-fe : (c : Call) (ils : List EndState) (fes : List JoinedEnd) → IsTyped (Calls Fe c)
+      → AtOpened (Sized Fe) (latest (ends_of fes))
       → AtOpened (Sized Fe) (latest (ends_of (call_fe c ils fes)))
   sized-fe c ils [] t h = tt
   sized-fe c ils (f ∷ before) t h = sized-call laws Fe c f.end (typed-call Fe c t) h
@@ -436,7 +482,8 @@ module _ (laws : Laws) where
 
   -- the PDUs of an end have texts, which are not long
   short-code : (rule : CodeRule) → code_octets rule.length ≤ 16
-  short-code rule = elim rule.length as (λ (n : CodeLength). code_octets n ≤ 16) [ Zero ↦ omega arith | Eight ↦ omega arith | Sixteen ↦ omega arith ]
+  short-code rule = elim rule.length as (λ (n : CodeLength). code_octets n ≤ 16)
+      [ Zero ↦ omega arith | Eight ↦ omega arith | Sixteen ↦ omega arith ]
 
   small-texts : (s : EndSettings) (ms : List Made) → HaveTexts ms → AllByRecursion (IsSmallPdu s) ms
   small-texts s [] h = tt
@@ -451,7 +498,9 @@ module _ (laws : Laws) where
         channels = some-channels side x.settings h.whole.spoken.fit;
         pdus = g.made;
         takes = g.takes.few;
-        small_pdus = small-texts y.settings y.machine.made (machined-texts laws.texts side y after.whole.spoken.fit after.whole.machined);
+        small_pdus =
+            small-texts y.settings y.machine.made (machined-texts laws.texts side y after.whole.spoken.fit
+            after.whole.machined);
         small_items = after.small;
       }
 
@@ -464,7 +513,8 @@ module _ (laws : Laws) where
   few-more-holds es typed Il c t = few-opened Il c (present Il (run es start)) t (sized-run es start typed (tt, tt)).0
   few-more-holds es typed Fe c t = few-opened Fe c (present Fe (run es start)) t (sized-run es start typed (tt, tt)).1
 
-  few-deferred : (side : Side) (x : Option EndState) → AtOpened (Sized side) x → AtOpened (λ y. length y.red.waiting ≤ y.settings.q) x
+  few-deferred : (side : Side) (x : Option EndState) → AtOpened (Sized side) x
+      → AtOpened (λ y. length y.red.waiting ≤ y.settings.q) x
   few-deferred side x h = grind (arith, nat_tests)
 
   pub queue-holds : QueueLaw

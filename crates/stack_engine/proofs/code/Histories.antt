@@ -29,7 +29,8 @@ use Rattle.stack_engine.specs.declared.event.Call.TheVariants as call
 use Rattle.stack_engine.specs.declared.event.Action.TheVariants as doing
 use Rattle.stack_engine.specs.declared.history.Deed.TheVariants as deed
 
-by-seen : (x : EndState) (peer : Option EndState) (dead : ℕ) (r : Result Part RedFault) → ((not (is_shut x) && breaks_by x peer dead r) ≡ false)
+by-seen : (x : EndState) (peer : Option EndState) (dead : ℕ) (r : Result Part RedFault)
+    → ((not (is_shut x) && breaks_by x peer dead r) ≡ false)
     ↔ AllByRecursion (λ (p : Part). IsGenuine peer dead x p.1) (part_received r)
 by-seen x peer dead r = grind (arith, nat_tests)
 
@@ -41,10 +42,12 @@ pub breaks : BreaksLaw
 breaks Il channel octets now w = at (present Il w) (present Fe w) w.dead_fe channel octets now
 breaks Fe channel octets now w = at (present Fe w) (present Il w) w.dead_il channel octets now
 
-range-more : (o more : List ℕ) (from to : ℕ) → from ≤ to → to ≤ length o → slice_range (o ++ more) from to ≡ slice_range o from to
+range-more : (o more : List ℕ) (from to : ℕ) → from ≤ to → to ≤ length o
+    → slice_range (o ++ more) from to ≡ slice_range o from to
 range-more o more from to up within = grind (arith, length-drop from o, drop-append-le, take-append-le)
 
-texts-more : {T : Type 0} (o more : List ℕ) (ks : List (Kept T)) → AreInside o ks → texts_in (o ++ more) ks ≡ texts_in o ks
+texts-more : {T : Type 0} (o more : List ℕ) (ks : List (Kept T)) → AreInside o ks
+    → texts_in (o ++ more) ks ≡ texts_in o ks
 texts-more o more [] h = refl
 texts-more o more (k ∷ ks) h = grind (arith, range-more, h.0.0, h.0.1, texts-more o more ks h.1)
 
@@ -52,7 +55,8 @@ range-seam : (o more : List ℕ) → slice_range (o ++ more) (length o) (length 
 range-seam o more = grind (arith, length-append o more, drop-append_seam o more, take-length more)
 
 -- a text added after the others, in the bytes after theirs
-pub texts-add : {T : Type 0} (o more : List ℕ) (ks : List (Kept T)) (k : Kept T) → AreInside o ks → k.from ≡ length o → k.to ≡ length (o ++ more)
+pub texts-add : {T : Type 0} (o more : List ℕ) (ks : List (Kept T)) (k : Kept T) → AreInside o ks → k.from ≡ length o
+    → k.to ≡ length (o ++ more)
     → texts_in (o ++ more) (ks ++ k ∷ []) ≡ texts_in o ks ++ (k.head, more) ∷ []
 texts-add o more ks k h from to = grind (arith, map-append, texts-more, range-seam)
 
@@ -63,7 +67,8 @@ or-true : (a : Bool) → (a || true) ≡ true
 or-true a = grind (arith, nat_tests)
 
 -- what is not found after one place is not found after a later one
-pub none-later : {A : Type 0} (P : A → Bool) (a b : ℕ) (xs : List A) → a ≤ b → list_any P (drop a xs) ≡ false → list_any P (drop b xs) ≡ false
+pub none-later : {A : Type 0} (P : A → Bool) (a b : ℕ) (xs : List A) → a ≤ b → list_any P (drop a xs) ≡ false
+    → list_any P (drop b xs) ≡ false
 none-later P zero zero xs le h = h
 none-later P (suc a) zero xs le h = absurd (omega arith)
 none-later P zero (suc b) [] le h = h
@@ -72,17 +77,21 @@ none-later P zero (suc b) (x ∷ xs) le h = none-later P zero b xs (omega arith)
 none-later P (suc a) (suc b) (x ∷ xs) le h = none-later P a b xs (omega arith) h
 
 -- the element at a place is found from before it
-pub found-here : {A : Type 0} (P : A → Bool) (a n : ℕ) (xs : List A) (d : A) → a ≤ n → n < length xs → P (get_or xs n d) ≡ true → list_any P (drop a xs) ≡ true
+pub found-here : {A : Type 0} (P : A → Bool) (a n : ℕ) (xs : List A) (d : A) → a ≤ n → n < length xs
+    → P (get_or xs n d) ≡ true → list_any P (drop a xs) ≡ true
 found-here P a n [] d le lt h = absurd (omega arith)
 found-here P zero zero (x ∷ xs) d le lt h = ap (λ b. b || list_any P xs) h
-found-here P zero (suc n) (x ∷ xs) d le lt h = ap (λ b. P x || b) (found-here P zero n xs d (omega arith) (omega arith) h) ∙ or-true (P x)
+found-here P zero (suc n) (x ∷ xs) d le lt h =
+    ap (λ b. P x || b) (found-here P zero n xs d (omega arith) (omega arith) h) ∙ or-true (P x)
 found-here P (suc a) zero (x ∷ xs) d le lt h = absurd (omega arith)
 found-here P (suc a) (suc n) (x ∷ xs) d le lt h = found-here P a n xs d (omega arith) (omega arith) h
 
 -- all small telegrams for which there is room are kept
-pub takes-all : (is : List Item) (s t : Shelf ℕ) → FoldsTo TakesItem s is t → AllByRecursion IsSmallItem is → length is ≤ sure_items s → t.texts ≡ s.texts ++ is
+pub takes-all : (is : List Item) (s t : Shelf ℕ) → FoldsTo TakesItem s is t → AllByRecursion IsSmallItem is
+    → length is ≤ sure_items s → t.texts ≡ s.texts ++ is
 takes-all [] s t h small room = ap (λ (u : Shelf ℕ). u.texts) (sym h) ∙ sym (append-nil s.texts)
-takes-all (i ∷ is) s t (u, one, rest) small room = grind (arith, one small.0 (omega arith), takes-all is u t rest small.1, append_assoc)
+takes-all (i ∷ is) s t (u, one, rest) small room =
+    grind (arith, one small.0 (omega arith), takes-all is u t rest small.1, append_assoc)
 
 -- a sending on channel 1
 abbrev IsFirst : SentDatagram → Type 0
@@ -95,7 +104,8 @@ firsts (x ∷ xs) = if x.0 == 1 then x ∷ firsts xs else firsts xs
 abbrev IsShort : SentDatagram → Type 0
 IsShort x = length x.1 ≤ RED_PDU_MAX
 
-among : (xs : List SentDatagram) (x : SentDatagram) (ys : List SentDatagram) → AllByRecursion IsFirst ((xs ++ x ∷ []) ++ ys) → IsFirst x
+among : (xs : List SentDatagram) (x : SentDatagram) (ys : List SentDatagram)
+    → AllByRecursion IsFirst ((xs ++ x ∷ []) ++ ys) → IsFirst x
 among [] x ys h = h.0
 among (y ∷ xs) x ys h = among xs x ys h.1
 
@@ -108,28 +118,34 @@ no-step b h = grind (arith, nat_tests)
 other-channel : (n : ℕ) → (n == 1) ≡ false → (1 == n) ≡ false
 other-channel n h = grind (arith, nat_tests)
 
-gains-one : (x : SentDatagram) (xs : List SentDatagram) (t j : ChannelHistory) (a b : List SentDatagram) (went : Bool) (c : Bool) → (x.0 == 1) ≡ c → Sends went t x j → t.sent ≡ Some a
+gains-one : (x : SentDatagram) (xs : List SentDatagram) (t j : ChannelHistory) (a b : List SentDatagram) (went : Bool)
+    (c : Bool) → (x.0 == 1) ≡ c → Sends went t x j → t.sent ≡ Some a
     → AllByRecursion IsFirst b → IsShort x → length (if c then x ∷ firsts xs else firsts xs) ≤ t.room 1
     → ((before : List SentDatagram) → j.sent ≡ Some before → length (firsts xs) ≤ j.room 1 → b ≡ before ++ firsts xs)
     → b ≡ a ++ (if c then x ∷ firsts xs else firsts xs)
 gains-one x xs t j a b true true is s before first short room ih =
     let left : t.room 1 ≤ j.room 1 + (if 1 == x.0 then 1 else 0) = s.left 1 in
-    ih (a ++ x ∷ []) (s.sent ∙ ap (option_map (λ ys. ys ++ x ∷ [])) before) (omega (arith, left, one-step (1 == x.0))) ∙ append_assoc a (x ∷ []) (firsts xs)
+    ih (a ++ x ∷ []) (s.sent ∙ ap (option_map (λ ys. ys ++ x ∷ [])) before) (omega (arith, left, one-step (1 == x.0)))
+    ∙ append_assoc a (x ∷ []) (firsts xs)
 gains-one x xs t j a b false true is s before first short room ih = grind (arith, nat_tests, s.sure)
 gains-one x xs t j a b true false is s before first short room ih =
     let left : t.room 1 ≤ j.room 1 + (if 1 == x.0 then 1 else 0) = s.left 1 in
     let none = no-step (1 == x.0) (other-channel x.0 is) in
-    let e : b ≡ (a ++ x ∷ []) ++ firsts xs = ih (a ++ x ∷ []) (s.sent ∙ ap (option_map (λ ys. ys ++ x ∷ [])) before) (omega (arith, left, none)) in
+    let e : b ≡ (a ++ x ∷ []) ++ firsts xs = ih (a ++ x ∷ []) (s.sent ∙ ap (option_map (λ ys. ys ++ x ∷ [])) before)
+    (omega (arith, left, none)) in
     let on-one : x.0 ≡ 1 = among a x (firsts xs) (subst (AllByRecursion IsFirst) e first) in
     absurd (false≢true (sym is ∙ ap (λ n. n == 1) on-one))
-gains-one x xs t j a b false false is s before first short room ih = grind (arith, nat_tests, s.left 1, s.sent, ih, append-nil)
+gains-one x xs t j a b false false is s before first short room ih =
+    grind (arith, nat_tests, s.left 1, s.sent, ih, append-nil)
 
 -- If the list afterwards holds only sends on channel 1, and there is room for these, it gained exactly them.
-gains : (xs : List SentDatagram) (t u : ChannelHistory) (a b : List SentDatagram) → FoldsTo SendsOne t xs u → t.sent ≡ Some a → u.sent ≡ Some b → AllByRecursion IsFirst b
+gains : (xs : List SentDatagram) (t u : ChannelHistory) (a b : List SentDatagram) → FoldsTo SendsOne t xs u
+    → t.sent ≡ Some a → u.sent ≡ Some b → AllByRecursion IsFirst b
     → AllByRecursion IsShort xs → length (firsts xs) ≤ t.room 1 → b ≡ a ++ firsts xs
 gains [] t u a b h before after first short room = grind (arith, append-nil)
 gains (x ∷ xs) t u a b (j, one, rest) before after first short room =
-    gains-one x xs t j a b one.0 (x.0 == 1) refl one.1 before first short.0 room (λ c sent left. gains xs j u c b rest sent after first short.1 left)
+    gains-one x xs t j a b one.0 (x.0 == 1) refl one.1 before first short.0 room
+    (λ c sent left. gains xs j u c b rest sent after first short.1 left)
 
 -- of the copies of a datagram the one on channel 1
 firsts-append : (xs ys : List SentDatagram) → firsts (xs ++ ys) ≡ firsts xs ++ firsts ys
@@ -141,18 +157,22 @@ firsts-on zero octets h = absurd (omega arith)
 firsts-on (suc zero) octets h = refl
 firsts-on (suc (suc n)) octets h = grind (arith, nat_tests, firsts-append, firsts-on (suc n) octets)
 
-firsts-sendings : (s : EndSettings) (index : ℕ) (ms : List Made) → 1 ≤ s.channels → firsts (sendings s index ms) ≡ map on_first (datagrams_of s index ms)
+firsts-sendings : (s : EndSettings) (index : ℕ) (ms : List Made) → 1 ≤ s.channels
+    → firsts (sendings s index ms) ≡ map on_first (datagrams_of s index ms)
 firsts-sendings s index [] h = refl
 firsts-sendings s index (m ∷ ms) h = grind (arith, firsts-append, firsts-on, firsts-sendings s (index + 1) ms h)
 
 -- a datagram is not longer than its part with the header
 short-on : (n : ℕ) (octets : List ℕ) → length octets ≤ RED_PDU_MAX → AllByRecursion IsShort (on_channels n octets)
 short-on zero octets h = tt
-short-on (suc n) octets h = all-append IsShort (on_channels n octets) ((suc n, octets) ∷ []) (short-on n octets h) (h, tt)
+short-on (suc n) octets h =
+    all-append IsShort (on_channels n octets) ((suc n, octets) ∷ []) (short-on n octets h) (h, tt)
 
-short-sendings : (s : EndSettings) (index : ℕ) (ms : List Made) → AllByRecursion (IsSmallPdu s) ms → AllByRecursion IsShort (sendings s index ms)
+short-sendings : (s : EndSettings) (index : ℕ) (ms : List Made) → AllByRecursion (IsSmallPdu s) ms
+    → AllByRecursion IsShort (sendings s index ms)
 short-sendings s index [] h = tt
-short-sendings s index (m ∷ ms) h = grind (arith, nat_tests, all-append, short-on, h.0, h.1, short-sendings s (index + 1) ms h.1)
+short-sendings s index (m ∷ ms) h =
+    grind (arith, nat_tests, all-append, short-on, h.0, h.1, short-sendings s (index + 1) ms h.1)
 
 firsts-only : (ds : List (List ℕ)) → AllByRecursion IsFirst (map on_first ds)
 firsts-only [] = tt
@@ -167,8 +187,10 @@ datagrams-length s index [] = refl
 datagrams-length s index (m ∷ ms) = ap suc (datagrams-length s (index + 1) ms)
 
 -- A keeper with room for all of them keeps each PDU sent.
-pub keeps-all : (s : EndSettings) (index : ℕ) (ms : List Made) (k l : KeeperValue) → FoldsTo SendsOne (told_of k) (sendings s index ms) (told_of l)
-    → 1 ≤ s.channels → AllByRecursion (IsSmallPdu s) ms → length ms ≤ sure_room k → l.datagrams ≡ k.datagrams ++ datagrams_of s index ms
+pub keeps-all : (s : EndSettings) (index : ℕ) (ms : List Made) (k l : KeeperValue)
+    → FoldsTo SendsOne (told_of k) (sendings s index ms) (told_of l)
+    → 1 ≤ s.channels → AllByRecursion (IsSmallPdu s) ms → length ms ≤ sure_room k
+    → l.datagrams ≡ k.datagrams ++ datagrams_of s index ms
 keeps-all s index ms k l h channels small room =
     let few : length (firsts (sendings s index ms)) ≤ sure_room k = omega (
       arith,
@@ -177,19 +199,24 @@ keeps-all s index ms k l h channels small room =
       datagrams-length s index ms,
     ) in
     let e : map on_first l.datagrams ≡ map on_first k.datagrams ++ firsts (sendings s index ms) =
-    gains (sendings s index ms) (told_of k) (told_of l) (map on_first k.datagrams) (map on_first l.datagrams) h refl refl (firsts-only l.datagrams)
+    gains (sendings s index ms) (told_of k) (told_of l) (map on_first k.datagrams) (map on_first l.datagrams) h refl
+    refl (firsts-only l.datagrams)
     (short-sendings s index ms small) few in
     let f : map on_first l.datagrams ≡ map on_first (k.datagrams ++ datagrams_of s index ms) =
-    e ∙ ap (λ zs. map on_first k.datagrams ++ zs) (firsts-sendings s index ms channels) ∙ sym (map-append on_first k.datagrams (datagrams_of s index ms)) in
-    sym (octets-of l.datagrams) ∙ ap (map (λ (x : SentDatagram). x.1)) f ∙ octets-of (k.datagrams ++ datagrams_of s index ms)
+    e ∙ ap (λ zs. map on_first k.datagrams ++ zs) (firsts-sendings s index ms channels)
+    ∙ sym (map-append on_first k.datagrams (datagrams_of s index ms)) in
+    sym (octets-of l.datagrams) ∙ ap (map (λ (x : SentDatagram). x.1)) f
+    ∙ octets-of (k.datagrams ++ datagrams_of s index ms)
 
-pub datagrams-append : (s : EndSettings) (index : ℕ) (ms ns : List Made) → datagrams_of s index (ms ++ ns) ≡ datagrams_of s index ms ++ datagrams_of s
+pub datagrams-append : (s : EndSettings) (index : ℕ) (ms ns : List Made)
+    → datagrams_of s index (ms ++ ns) ≡ datagrams_of s index ms ++ datagrams_of s
     (index + length ms) ns
 datagrams-append s index [] ns = let e : index ≡ index + 0 = omega arith in ap (λ (i : ℕ). datagrams_of s i ns) e
 datagrams-append s index (m ∷ ms) ns = grind (arith, datagrams-append s (index + 1) ms ns)
 
 -- a datagram has these bytes after its header if its PDU has them
-pub has-part-made : (s : EndSettings) (index : ℕ) (octets : List ℕ) (dead : ℕ) (ms : List Made) → has_part octets (drop dead (datagrams_of s index ms))
+pub has-part-made : (s : EndSettings) (index : ℕ) (octets : List ℕ) (dead : ℕ) (ms : List Made)
+    → has_part octets (drop dead (datagrams_of s index ms))
     ≡ has_made (rule_of s) octets (drop dead ms)
 has-part-made s index octets zero [] = refl
 has-part-made s index octets zero (m ∷ ms) = grind (arith, has-part-made s (index + 1) octets zero ms)
@@ -197,31 +224,45 @@ has-part-made s index octets (suc dead) [] = refl
 has-part-made s index octets (suc dead) (m ∷ ms) = has-part-made s (index + 1) octets dead ms
 
 -- the PDUs of a call were kept
-kept-more : {A : Type 0} (i j : Incarnation A) (x y : EndState) (t : Turn Inside) → most_pdus ≤ sure_room (channels_of i.end) → IncarnationRepresents i x → FewMore x y
+kept-more : {A : Type 0} (i j : Incarnation A) (x y : EndState) (t : Turn Inside)
+    → most_pdus ≤ sure_room (channels_of i.end) → IncarnationRepresents i x → FewMore x y
     → GrowsBy t x y → FoldsTo SendsOne (told_of (channels_of i.end)) t.sent (told_of (channels_of j.end))
     → (channels_of j.end).datagrams ≡ datagrams_of y.settings 0 y.machine.made
 kept-more i j x y t room h few grew sent =
     let s = x.settings in
     let more = grew.more in
     let start = length x.machine.made in
-    let texts : AllByRecursion (IsSmallPdu s) y.machine.made = subst (λ (q : EndSettings). AllByRecursion (IsSmallPdu q) y.machine.made) grew.settings
+    let texts : AllByRecursion (IsSmallPdu s) y.machine.made = subst
+    (λ (q : EndSettings). AllByRecursion (IsSmallPdu q) y.machine.made) grew.settings
     few.small_pdus in
-    let small : AllByRecursion (IsSmallPdu s) more = (all-parts (IsSmallPdu s) x.machine.made more (subst (AllByRecursion (IsSmallPdu s)) grew.made texts)).1 in
-    let count : length more ≤ most_pdus = omega (arith, few.pdus, ap (λ (ms : List Made). length ms) grew.made, length-append x.machine.made more) in
-    let out = subst (λ xs. FoldsTo SendsOne (told_of (channels_of i.end)) xs (told_of (channels_of j.end))) grew.sent sent in
-    let gained = keeps-all s start more (channels_of i.end) (channels_of j.end) out few.channels small (omega (arith, count, room)) in
+    let small : AllByRecursion (IsSmallPdu s)
+    more =
+    (all-parts (IsSmallPdu s) x.machine.made more (subst (AllByRecursion (IsSmallPdu s)) grew.made texts)).1 in
+    let count : length more ≤ most_pdus = omega (
+      arith,
+      few.pdus,
+      ap (λ (ms : List Made). length ms) grew.made,
+      length-append x.machine.made more,
+    ) in
+    let out = subst (λ xs. FoldsTo SendsOne (told_of (channels_of i.end)) xs (told_of (channels_of j.end))) grew.sent
+    sent in
+    let gained = keeps-all s start more (channels_of i.end) (channels_of j.end) out few.channels small
+    (omega (arith, count, room)) in
     gained ∙ (ap (λ (ds : List (List ℕ)). ds ++ datagrams_of s start more) h.kept
     ∙ (ap (λ (n : ℕ). datagrams_of s 0 x.machine.made ++ datagrams_of s n more) (sym (zero-add start))
     ∙ (sym (datagrams-append s 0 x.machine.made more)
-    ∙ (ap (datagrams_of s 0) (sym grew.made) ∙ ap (λ (q : EndSettings). datagrams_of q 0 y.machine.made) (sym grew.settings)))))
+    ∙ (ap (datagrams_of s 0) (sym grew.made)
+    ∙ ap (λ (q : EndSettings). datagrams_of q 0 y.machine.made) (sym grew.settings)))))
 
 -- a call in which nothing is delivered
-pub alone-turns : {A : Type 0} (c : Call) (v w : EndValue KeeperValue A) (taken : Shelf ℕ) → EndTakesTurnAlone told_of (turn c) v w
+pub alone-turns : {A : Type 0} (c : Call) (v w : EndValue KeeperValue A) (taken : Shelf ℕ)
+    → EndTakesTurnAlone told_of (turn c) v w
     → EndTakesTurn told_of TakesItem (turn c) v taken w taken
 alone-turns c v w taken h = grind (arith, nat_tests, h.left, h.none, h.sent)
 
 -- the end refuses what its state does
-pub refusal-is : {A : Type 0} (c : Call) (i : Incarnation A) (x : EndState) → IncarnationRepresents i x → inc_refusal c i ≡ session_refusal c x
+pub refusal-is : {A : Type 0} (c : Call) (i : Incarnation A) (x : EndState) → IncarnationRepresents i x
+    → inc_refusal c i ≡ session_refusal c x
 refusal-is c i x h = grind (arith, nat_tests)
 
 map-none : {X Y : Type 0} (f : X → Y) (o : Option X) → option_map f o ≡ None → o ≡ None
@@ -231,15 +272,22 @@ map-none f o h = grind (arith, nat_tests)
 put-in : (c : Call) (x : EndState) → session_refusal c x ≡ None → puts_in c ≡ put_in_by c x
 put-in c x h = grind (arith, nat_tests, map-none)
 
-pub turned-stands : {A : Type 0} (c : Call) (i j : Incarnation A) (x : EndState) → HasRoom i → IncarnationTakesTurn c i j → inc_refusal c i ≡ None
-    → LeadsByTurn (turn c (inside i.end)) x (call c x) → IncarnationRepresents i x → FewMore x (call c x) → IncarnationRepresents j (call c x)
+pub turned-stands : {A : Type 0} (c : Call) (i j : Incarnation A) (x : EndState) → HasRoom i
+    → IncarnationTakesTurn c i j → inc_refusal c i ≡ None
+    → LeadsByTurn (turn c (inside i.end)) x (call c x) → IncarnationRepresents i x → FewMore x (call c x)
+    → IncarnationRepresents j (call c x)
 turned-stands c i j x room t part_received turned h few =
     let y = call c x in
     let grew = turned.grew in
     let more = (turn c (inside i.end)).taken in
     let small : AllByRecursion IsSmallItem more = (all-parts IsSmallItem x.session.history.taken more
     (subst (AllByRecursion IsSmallItem) grew.taken few.small_items)).1 in
-    let count : length more ≤ most_taken = omega (arith, few.takes, ap (λ (is : List Item). length is) grew.taken, length-append x.session.history.taken more)
+    let count : length more ≤ most_taken = omega (
+      arith,
+      few.takes,
+      ap (λ (is : List Item). length is) grew.taken,
+      length-append x.session.history.taken more,
+    )
     in
     record {
       end = record { both = subst (λ (v : Inside). LayersRepresent v y) (sym t.end.left) turned.stands; time = t.time };
@@ -248,20 +296,26 @@ turned-stands c i j x room t part_received turned h few =
       put =
           t.put
           ∙ (ap (λ (is : List Item). is ++ puts_in c) h.put
-          ∙ (ap (λ (is : List Item). x.session.history.put ++ is) (put-in c x (sym (refusal-is c i x h) ∙ part_received)) ∙ sym (call-put c x)));
-      taken = takes-all more i.taken j.taken t.end.taken small (omega (arith, count, room.1)) ∙ (ap (λ (is : List Item). is ++ more) h.taken ∙ sym grew.taken);
+          ∙ (ap (λ (is : List Item). x.session.history.put ++ is)
+          (put-in c x (sym (refusal-is c i x h) ∙ part_received)) ∙ sym (call-put c x)));
+      taken = takes-all more i.taken j.taken t.end.taken small (omega (arith, count, room.1))
+          ∙ (ap (λ (is : List Item). is ++ more) h.taken ∙ sym grew.taken);
     }
 
 -- when it is opened
-pub opened-stands : {A : Type 0} (side : Side) (s : EndSettings) (first now : ℕ) (k : KeeperValue) (i : Incarnation A) → k.datagrams ≡ [] → most_pdus ≤ sure_room k
+pub opened-stands : {A : Type 0} (side : Side) (s : EndSettings) (first now : ℕ) (k : KeeperValue) (i : Incarnation A)
+    → k.datagrams ≡ [] → most_pdus ≤ sure_room k
     → FewFirst (new_end side s first now)
-    → EndRepresents told_of i.end (new_end side s first now) → FoldsTo SendsOne (told_of k) (sent_at_opening (new_end side s first now))
+    → EndRepresents told_of i.end (new_end side s first now)
+    → FoldsTo SendsOne (told_of k) (sent_at_opening (new_end side s first now))
     (told_of (channels_of i.end))
-    → i.put.texts ≡ [] → i.taken.texts ≡ [] → settings_of i.config ≡ s → IncarnationRepresents i (new_end side s first now)
+    → i.put.texts ≡ [] → i.taken.texts ≡ [] → settings_of i.config ≡ s
+    → IncarnationRepresents i (new_end side s first now)
 opened-stands side s first now k i none room few stands sent put taken config =
     grind (arith, nat_tests, keeps-all, few.channels, few.pdus, few.small_pdus, few.takes)
 
-pub joins-opened : {A : Type 0} (o p : Openings A) (opened : Incarnation A) (xs : List EndState) → SideRepresents o xs → o.present ≡ None → p.present ≡ Some opened
+pub joins-opened : {A : Type 0} (o p : Openings A) (opened : Incarnation A) (xs : List EndState) → SideRepresents o xs
+    → o.present ≡ None → p.present ≡ Some opened
     → p.before.items ≡ o.before.items → opened.joined ≡ None
     → joins_of p ≡ None ∷ joins_of o
 joins-opened {A} o p opened xs h old new before none =
@@ -276,7 +330,8 @@ joins-opened {A} o p opened xs h old new before none =
     none-stands [] h = refl
     none-stands (i ∷ is) h = absurd h
 
-    no-before : (q : Option (Incarnation A)) (is : List (Past A)) (xs : List EndState) → q ≡ None → PresentRepresents q xs → EarlierRepresent is (rest_of xs)
+    no-before : (q : Option (Incarnation A)) (is : List (Past A)) (xs : List EndState) → q ≡ None
+        → PresentRepresents q xs → EarlierRepresent is (rest_of xs)
         → is ≡ []
     no-before None is [] e h k = none-stands is k
     no-before None is (x ∷ xs) e h k = absurd h
@@ -292,13 +347,17 @@ call-time c now = grind (arith, nat_tests)
 abbrev pub Admits : Result (Unit {0}) ApplyFault → Option Refusal → Type 0
 Admits r why = MatchResult r (λ _. IsOfSession why) (λ fault. NamesRefusal fault why)
 
-fits-opening : (r : Result (Unit {0}) ApplyFault) (why : Option Refusal) → MatchResult r (λ _. why ≡ None) (λ fault. NamesRefusal fault why) → Admits r why
+fits-opening : (r : Result (Unit {0}) ApplyFault) (why : Option Refusal)
+    → MatchResult r (λ _. why ≡ None) (λ fault. NamesRefusal fault why) → Admits r why
 fits-opening (Ok u) why h = subst IsOfSession (sym h) tt
 fits-opening (Err fault) why h = h
 
-pub admits-opening : (e : CodeEvent) (config : EndConfig) (first : ℕ) (r : Result (Unit {0}) ApplyFault) (w : World) → e.doing ≡ doing.Open config first
-    → MatchResult r (λ _. open_refusal (side_of e.side) (settings_of config) e.time (latest (ends_at (side_of e.side) w)) ≡ None)
-    (λ fault. NamesRefusal fault (open_refusal (side_of e.side) (settings_of config) e.time (latest (ends_at (side_of e.side) w))))
+pub admits-opening : (e : CodeEvent) (config : EndConfig) (first : ℕ) (r : Result (Unit {0}) ApplyFault) (w : World)
+    → e.doing ≡ doing.Open config first
+    → MatchResult r (λ _. open_refusal (side_of e.side) (settings_of config) e.time
+    (latest (ends_at (side_of e.side) w)) ≡ None)
+    (λ fault. NamesRefusal fault (open_refusal (side_of e.side) (settings_of config) e.time
+    (latest (ends_at (side_of e.side) w))))
     → Admits r (refusal (event_of e) w)
 admits-opening e config first r w is h = grind (arith, nat_tests, fits-opening, present-latest)
 
@@ -316,17 +375,22 @@ get-seam : {X : Type 0} (xs : List X) (y : X) → slice_get (xs ++ y ∷ []) (le
 get-seam [] y = refl
 get-seam (x ∷ xs) y = get-seam xs y
 
-deed-kept : (cs more : List EndConfig) (side : Side) (now : ℕ) (d : Deed) (octets : List ℕ) → IsPlaced (length cs) d → deed_event (cs ++ more) side now d octets
+deed-kept : (cs more : List EndConfig) (side : Side) (now : ℕ) (d : Deed) (octets : List ℕ) → IsPlaced (length cs) d
+    → deed_event (cs ++ more) side now d octets
     ≡ deed_event cs side now d octets
 deed-kept cs more side now d octets h = grind (arith, nat_tests, get-front)
 
-events-kept : (cs more : List EndConfig) (es : List (Entry × List ℕ)) → AreWithin (length cs) es → events_in (cs ++ more) es ≡ events_in cs es
+events-kept : (cs more : List EndConfig) (es : List (Entry × List ℕ)) → AreWithin (length cs) es
+    → events_in (cs ++ more) es ≡ events_in cs es
 events-kept cs more [] h = refl
-events-kept cs more (e ∷ es) h = grind (arith, deed-kept cs more (side_of e.0.side) e.0.time e.0.doing e.1 h.0, events-kept cs more es h.1)
+events-kept cs more (e ∷ es) h =
+    grind (arith, deed-kept cs more (side_of e.0.side) e.0.time e.0.doing e.1 h.0, events-kept cs more es h.1)
 
-pub opening-added : (cs : List EndConfig) (c : EndConfig) (es : List (Entry × List ℕ)) (e : Entry) (octets : List ℕ) (first : ℕ) → AreWithin (length cs) es
+pub opening-added : (cs : List EndConfig) (c : EndConfig) (es : List (Entry × List ℕ)) (e : Entry) (octets : List ℕ)
+    (first : ℕ) → AreWithin (length cs) es
     → e.doing ≡ deed.Open (length cs) first
-    → events_in (cs ++ c ∷ []) (es ++ (e, octets) ∷ []) ≡ events_in cs es ++ Open (side_of e.side) (settings_of c) first e.time ∷ []
+    → events_in (cs ++ c ∷ []) (es ++ (e, octets) ∷ []) ≡ events_in cs es ++ Open (side_of e.side) (settings_of c) first
+    e.time ∷ []
 opening-added cs c es e octets first h is = grind (arith, map-append, events-kept, get-seam)
 
 pub run-push : (es : List Event) (e : Event) (w : World) → run (es ++ e ∷ []) w ≡ apply_event (run es w) e
@@ -337,7 +401,8 @@ few-at : FewMoreLaw → (es : List Event) → AreTyped es → (e : Event) → Is
 few-at law es typed (Open side s first now) t = tt
 few-at law es typed (Calls side c) t = law es typed side c t
 
-pub grown-stands : {A : Type 0} (s t : Sides A) (es : List Event) (e : Event) → FewMoreLaw → AreTyped es → IsTyped e → refusal e (run es start) ≡ None
+pub grown-stands : {A : Type 0} (s t : Sides A) (es : List Event) (e : Event) → FewMoreLaw → AreTyped es → IsTyped e
+    → refusal e (run es start) ≡ None
     → SidesTakeEvent e s t
     → SidesRepresent s (run es start) → SidesRepresent t (run (es ++ e ∷ []) start)
 grown-stands s t es e few typed is none does h = grind (arith, nat_tests, few-at, run-push)
@@ -354,7 +419,8 @@ run-accepted : (es : List Event) (w : World) → run (accepted_of es w) w ≡ ru
 run-accepted [] w = refl
 run-accepted (e ∷ es) w = grind (arith, run-accepted es (apply_event w e))
 
-accepted-append : (es fs : List Event) (w : World) → accepted_of (es ++ fs) w ≡ accepted_of es w ++ accepted_of fs (run es w)
+accepted-append : (es fs : List Event) (w : World)
+    → accepted_of (es ++ fs) w ≡ accepted_of es w ++ accepted_of fs (run es w)
 accepted-append [] fs w = refl
 accepted-append (e ∷ es) fs w = grind (arith, accepted-append es fs (apply_event w e))
 
@@ -363,39 +429,50 @@ ran-world : (old es mid : List Event) → RunsTo old es mid → run mid start �
 ran-world old es mid h = grind (arith, nat_tests, run-accepted, run-append)
 
 -- one event more
-ran-more : (old es mid : List Event) (e : Event) → RunsTo old es mid → (b : Bool) → is_none (refusal e (run mid start)) ≡ b
+ran-more : (old es mid : List Event) (e : Event) → RunsTo old es mid → (b : Bool)
+    → is_none (refusal e (run mid start)) ≡ b
     → RunsTo old (es ++ e ∷ []) (mid ++ (if b then e ∷ [] else []))
 ran-more old es mid e h b is =
     let w : World = run old start in
-    let at : is_none (refusal e (run es w)) ≡ b = ap (λ (v : World). is_none (refusal e v)) (sym (ran-world old es mid h)) ∙ is in
-    let last : accepted_of (e ∷ []) (run es w) ≡ (if b then e ∷ [] else []) = ap (λ (c : Bool). if c then e ∷ [] else []) at in
+    let at : is_none (refusal e (run es w)) ≡ b = ap (λ (v : World). is_none (refusal e v))
+    (sym (ran-world old es mid h)) ∙ is in
+    let last : accepted_of (e ∷ []) (run es w)
+    ≡ (if b then e ∷ [] else []) = ap (λ (c : Bool). if c then e ∷ [] else []) at in
     ap (λ (ds : List Event). ds ++ (if b then e ∷ [] else [])) h
     ∙ (append_assoc old (accepted_of es w) (if b then e ∷ [] else [])
-    ∙ (ap (λ (ds : List Event). old ++ (accepted_of es w ++ ds)) (sym last) ∙ ap (λ (ds : List Event). old ++ ds) (sym (accepted-append es (e ∷ []) w))))
+    ∙ (ap (λ (ds : List Event). old ++ (accepted_of es w ++ ds)) (sym last)
+    ∙ ap (λ (ds : List Event). old ++ ds) (sym (accepted-append es (e ∷ []) w))))
 
 -- the events up to a place, and the one there
-events-more : (items : List CodeEvent) (i : ℕ) (x : CodeEvent) → i < length items → x ≡ get_or items i x → take (suc i) (events_of items)
+events-more : (items : List CodeEvent) (i : ℕ) (x : CodeEvent) → i < length items → x ≡ get_or items i x
+    → take (suc i) (events_of items)
     ≡ take i (events_of items) ++ event_of x ∷ []
 events-more [] i x lt is = absurd (omega arith)
 events-more (y ∷ items) zero x lt is = ap (λ z. event_of z ∷ []) (sym is)
-events-more (y ∷ items) (suc i) x lt is = ap (λ (es : List Event). event_of y ∷ es) (events-more items i x (omega arith) is)
+events-more (y ∷ items) (suc i) x lt is =
+    ap (λ (es : List Event). event_of y ∷ es) (events-more items i x (omega arith) is)
 
-pub ran-accepted : (old mid new : List Event) (items : List CodeEvent) (i : ℕ) (x : CodeEvent) → i < length items → x ≡ get_or items i x
+pub ran-accepted : (old mid new : List Event) (items : List CodeEvent) (i : ℕ) (x : CodeEvent) → i < length items
+    → x ≡ get_or items i x
     → RunsTo old (take i (events_of items)) mid
-    → refusal (event_of x) (run mid start) ≡ None → new ≡ mid ++ event_of x ∷ [] → RunsTo old (take (i + 1) (events_of items)) new
+    → refusal (event_of x) (run mid start) ≡ None → new ≡ mid ++ event_of x ∷ []
+    → RunsTo old (take (i + 1) (events_of items)) new
 ran-accepted old mid new items i x lt is h none e =
     rw (add-one, events-more items i x lt is)
     (e ∙ ran-more old (take i (events_of items)) mid (event_of x) h true (ap (λ (r : Option Refusal). is_none r) none))
 
-pub ran-refused : (old mid new : List Event) (items : List CodeEvent) (i : ℕ) (x : CodeEvent) (fault : ApplyFault) → i < length items → x ≡ get_or items i x
+pub ran-refused : (old mid new : List Event) (items : List CodeEvent) (i : ℕ) (x : CodeEvent) (fault : ApplyFault)
+    → i < length items → x ≡ get_or items i x
     → RunsTo old (take i (events_of items)) mid
-    → is_memory fault ≡ false → NamesRefusal fault (refusal (event_of x) (run mid start)) → new ≡ mid → RunsTo old (take (i + 1) (events_of items)) new
+    → is_memory fault ≡ false → NamesRefusal fault (refusal (event_of x) (run mid start)) → new ≡ mid
+    → RunsTo old (take (i + 1) (events_of items)) new
 ran-refused old mid new items i x fault lt is h other why e =
     rw (add-one, events-more items i x lt is)
     (e ∙ (sym (append-nil mid) ∙ ran-more old (take i (events_of items)) mid (event_of x) h false
     (named fault (refusal (event_of x) (run mid start)) other why)))
   where
-    named : (fault : ApplyFault) (r : Option Refusal) → is_memory fault ≡ false → NamesRefusal fault r → is_none r ≡ false
+    named : (fault : ApplyFault) (r : Option Refusal) → is_memory fault ≡ false → NamesRefusal fault r
+        → is_none r ≡ false
     named code.Memory r other why = cc
     named _ r other why = ap (λ (q : Option Refusal). is_none q) why
 
@@ -406,9 +483,11 @@ events-split [] i x lt is = absurd (omega arith)
 events-split (y ∷ items) zero x lt is = (events_of items, ap (λ z. event_of z ∷ events_of items) (sym is))
 events-split (y ∷ items) (suc i) x lt is = grind (arith, nat_tests, events-split items i x (omega arith) is)
 
-pub ran-before : (old mid new : List Event) (items : List CodeEvent) (i : ℕ) (x : CodeEvent) (fault : ApplyFault) → i < length items → x ≡ get_or items i x
+pub ran-before : (old mid new : List Event) (items : List CodeEvent) (i : ℕ) (x : CodeEvent) (fault : ApplyFault)
+    → i < length items → x ≡ get_or items i x
     → RunsTo old (take i (events_of items)) mid
-    → is_memory fault ≡ true → NamesRefusal fault (refusal (event_of x) (run mid start)) → new ≡ mid → RunsToFault old (events_of items) new
+    → is_memory fault ≡ true → NamesRefusal fault (refusal (event_of x) (run mid start)) → new ≡ mid
+    → RunsToFault old (events_of items) new
 ran-before old mid new items i x fault lt is h memory why e =
     let split = events-split items i x lt is in (
       take i (events_of items),
@@ -416,7 +495,8 @@ ran-before old mid new items i x fault lt is h memory why e =
       split.0,
       split.1,
       e ∙ h,
-      subst (λ (es : List Event). IsOfSession (refusal (event_of x) (run es start))) (sym e) (untested fault (refusal (event_of x) (run mid start)) memory why),
+      subst (λ (es : List Event). IsOfSession (refusal (event_of x) (run es start))) (sym e)
+          (untested fault (refusal (event_of x) (run mid start)) memory why),
     )
   where
     untested : (fault : ApplyFault) (r : Option Refusal) → is_memory fault ≡ true → NamesRefusal fault r → IsOfSession r
@@ -427,14 +507,17 @@ ran-before old mid new items i x fault lt is h memory why e =
 abbrev pub latest_first : {A : Type 0} → Openings A → List (Past A)
 latest_first o = present_list o.present ++ reverse o.before.items
 
-turned : {A : Type 0} (p : Option (Incarnation A)) (before : List (Past A)) → reverse (present_list p ++ reverse before) ≡ before ++ present_list p
+turned : {A : Type 0} (p : Option (Incarnation A)) (before : List (Past A))
+    → reverse (present_list p ++ reverse before) ≡ before ++ present_list p
 turned p before = grind (arith, nat_tests, reverse-append, reverse-reverse)
 
 -- without its end an incarnation is kept as an earlier one
-pub past-stands : {A : Type 0} (i : Incarnation A) (x : EndState) → IncarnationRepresents i x → PastRepresents (past_of i) x
+pub past-stands : {A : Type 0} (i : Incarnation A) (x : EndState) → IncarnationRepresents i x
+    → PastRepresents (past_of i) x
 past-stands i x h = record { kept = h.kept; put = h.put; taken = h.taken }
 
-all-stand : {A : Type 0} (p : Option (Incarnation A)) (before : List (Past A)) (xs : List EndState) → PresentRepresents p xs
+all-stand : {A : Type 0} (p : Option (Incarnation A)) (before : List (Past A)) (xs : List EndState)
+    → PresentRepresents p xs
     → EarlierRepresent before (rest_of xs) → EarlierRepresent (present_list p ++ before) xs
 all-stand None before [] h k = k
 all-stand None before (x ∷ xs) h k = absurd h
@@ -448,16 +531,25 @@ map-reverse f (x ∷ xs) =
     ∙ (map-append f (reverse xs) (x ∷ [])
     ∙ (ap (λ ys. ys ++ f x ∷ []) (map-reverse f xs) ∙ sym (reverse-append (f x ∷ []) (map f xs))))
 
-il-entries : {A : Type 0} (is : List (Past A)) (xs : List EndState) → EarlierRepresent is xs → map il_entry xs ≡ map (entry_of None) is
+il-entries : {A : Type 0} (is : List (Past A)) (xs : List EndState) → EarlierRepresent is xs
+    → map il_entry xs ≡ map (entry_of None) is
 il-entries [] [] h = refl
 il-entries [] (x ∷ xs) h = absurd h
 il-entries (i ∷ is) [] h = absurd h
 il-entries (i ∷ is) (x ∷ xs) h = grind (arith, h.0.put, h.0.taken, il-entries is xs h.1)
 
-pub il-report : {A : Type 0} (o : Openings A) (xs : List EndState) → SideRepresents o xs → reverse (map il_entry xs) ≡ map (entry_of None) (incarnations_of o)
-il-report o xs h = grind (arith, il-entries (latest_first o) xs (all-stand o.present (reverse o.before.items) xs h.present h.before), map-reverse, turned)
+pub il-report : {A : Type 0} (o : Openings A) (xs : List EndState) → SideRepresents o xs
+    → reverse (map il_entry xs) ≡ map (entry_of None) (incarnations_of o)
+il-report o xs h =
+    grind (
+      arith,
+      il-entries (latest_first o) xs (all-stand o.present (reverse o.before.items) xs h.present h.before),
+      map-reverse,
+      turned,
+    )
 
-fe-entries : {A : Type 0} (is : List (Past A)) (fs : List JoinedEnd) → EarlierRepresent is (ends_of fs) → map joined_of is ≡ joins_in fs
+fe-entries : {A : Type 0} (is : List (Past A)) (fs : List JoinedEnd) → EarlierRepresent is (ends_of fs)
+    → map joined_of is ≡ joins_in fs
     → map fe_entry fs ≡ map joined_entry is
 fe-entries [] [] h j = refl
 fe-entries [] (f ∷ fs) h j = absurd h
@@ -468,12 +560,14 @@ none-before : {A : Type 0} (before : List (Past A)) → EarlierRepresent before 
 none-before [] h = refl
 none-before (i ∷ is) h = absurd h
 
-joins-all : {A : Type 0} (p : Option (Incarnation A)) (before : List (Past A)) (fs : List JoinedEnd) → PresentRepresents p (ends_of fs)
+joins-all : {A : Type 0} (p : Option (Incarnation A)) (before : List (Past A)) (fs : List JoinedEnd)
+    → PresentRepresents p (ends_of fs)
     → EarlierRepresent before (rest_of (ends_of fs))
     → joins_with p (map joined_of before) ≡ joins_in fs → map joined_of (present_list p ++ before) ≡ joins_in fs
 joins-all p before fs h k l = grind (arith, nat_tests, none-before)
 
-pub fe-report : {A : Type 0} (o : Openings A) (fs : List JoinedEnd) → SideRepresents o (ends_of fs) → joins_of o ≡ joins_in fs
+pub fe-report : {A : Type 0} (o : Openings A) (fs : List JoinedEnd) → SideRepresents o (ends_of fs)
+    → joins_of o ≡ joins_in fs
     → reverse (map fe_entry fs) ≡ map joined_entry (incarnations_of o)
 fe-report o fs h j =
     let before = reverse o.before.items in
@@ -482,16 +576,20 @@ fe-report o fs h j =
     ∙ (sym (map-reverse joined_entry (latest_first o)) ∙ ap (map joined_entry) (turned o.present o.before.items))
 
 -- how many there are, and one of them
-pub count-by : {A : Type 0} (f : Past A → ReportEntry) (o : Openings A) (es : List ReportEntry) → es ≡ map f (incarnations_of o)
+pub count-by : {A : Type 0} (f : Past A → ReportEntry) (o : Openings A) (es : List ReportEntry)
+    → es ≡ map f (incarnations_of o)
     → length (incarnations_of o) ≡ length es
 count-by f o es e = sym (ap (λ (ds : List ReportEntry). length ds) e ∙ length-map (incarnations_of o) f)
 
-pub entry-by : {A : Type 0} (f : Past A → ReportEntry) (o : Openings A) (es : List ReportEntry) (place : ℕ) → es ≡ map f (incarnations_of o)
+pub entry-by : {A : Type 0} (f : Past A → ReportEntry) (o : Openings A) (es : List ReportEntry) (place : ℕ)
+    → es ≡ map f (incarnations_of o)
     → option_map f (slice_get (incarnations_of o) place) ≡ slice_get es place
-entry-by f o es place e = sym (ap (λ (ds : List ReportEntry). slice_get ds place) e ∙ slice_get-map f (incarnations_of o) place)
+entry-by f o es place e =
+    sym (ap (λ (ds : List ReportEntry). slice_get ds place) e ∙ slice_get-map f (incarnations_of o) place)
 
 -- a place that is not the present one's is that of an earlier one, or of none
-pub not-present : {A : Type 0} (xs : List (Past A)) (p : Option (Incarnation A)) (n : ℕ) → n ≢ length xs → slice_get (xs ++ present_list p) n
+pub not-present : {A : Type 0} (xs : List (Past A)) (p : Option (Incarnation A)) (n : ℕ) → n ≢ length xs
+    → slice_get (xs ++ present_list p) n
     ≡ slice_get xs n
 not-present [] None n h = refl
 not-present [] (Some i) zero h = absurd (h refl)
@@ -500,7 +598,8 @@ not-present (x ∷ xs) p zero h = refl
 not-present (x ∷ xs) p (suc n) h = not-present xs p n (λ e. h (ap suc e))
 
 -- the place after the earlier ones is the present one's
-pub at-present : {A : Type 0} (xs : List (Past A)) (p : Option (Incarnation A)) → slice_get (xs ++ present_list p) (length xs) ≡ option_map past_of p
+pub at-present : {A : Type 0} (xs : List (Past A)) (p : Option (Incarnation A))
+    → slice_get (xs ++ present_list p) (length xs) ≡ option_map past_of p
 at-present [] None = refl
 at-present [] (Some i) = refl
 at-present (x ∷ xs) p = at-present xs p
@@ -509,14 +608,17 @@ at-present (x ∷ xs) p = at-present xs p
 abbrev pub unjoined : ReportEntry → ReportEntry
 unjoined e = record { put = e.put; taken = e.taken; joined = None }
 
-pub alone-entry : {A : Type 0} (r : Option (CodeEntry A)) (q : Option (Past A)) → option_map seen_entry r ≡ option_map joined_entry q
+pub alone-entry : {A : Type 0} (r : Option (CodeEntry A)) (q : Option (Past A))
+    → option_map seen_entry r ≡ option_map joined_entry q
     → option_map unjoined (option_map seen_entry r) ≡ option_map (entry_of None) q
 alone-entry r None h = ap (option_map unjoined) h
 alone-entry r (Some p) h = ap (option_map unjoined) h
 
 -- the end that was present becomes the latest of the earlier ones
-pub opened-side : {A : Type 0} (o p : Openings A) (i opened : Incarnation A) (past : Past A) (x : EndState) (xs : List EndState) → o.present ≡ Some i
-    → SideRepresents o xs → p.present ≡ Some opened → p.before.items ≡ o.before.items ++ past ∷ [] → ((y : EndState) → IncarnationRepresents i y → PastRepresents past y)
+pub opened-side : {A : Type 0} (o p : Openings A) (i opened : Incarnation A) (past : Past A) (x : EndState)
+    (xs : List EndState) → o.present ≡ Some i
+    → SideRepresents o xs → p.present ≡ Some opened → p.before.items ≡ o.before.items ++ past ∷ []
+    → ((y : EndState) → IncarnationRepresents i y → PastRepresents past y)
     → IncarnationRepresents opened x → SideRepresents p (x ∷ xs)
 opened-side o p i opened past x [] e h now before keeps one = absurd (subst (λ q. PresentRepresents q []) e h.present)
 opened-side o p i opened past x (y ∷ ys) e h now before keeps one = record {
@@ -529,11 +631,14 @@ opened-side o p i opened past x (y ∷ ys) e h now before keeps one = record {
 -- the search goes on among the first `number` incarnations
 abbrev pub IsLeft : {A : Type 0} → List ℕ → List (Past A) → ℕ → Type 0
 IsLeft octets incs number =
-    (xs : List EndState) → EarlierRepresent (reverse incs) xs → (ys : List EndState) × EarlierRepresent (reverse (take number incs)) ys
+    (xs : List EndState) → EarlierRepresent (reverse incs) xs → (ys : List EndState)
+    × EarlierRepresent (reverse (take number incs)) ys
     × (latest_maker octets xs ≡ latest_maker octets ys)
 
-one-back : {X : Type 0} (xs : List X) (n : ℕ) (x : X) → n < length xs → x ≡ get_or xs n x → reverse (take (suc n) xs) ≡ x ∷ reverse (take n xs)
-one-back xs n x lt is = ap reverse (take-suc xs n x lt ∙ ap (λ y. take n xs ++ y ∷ []) (sym is)) ∙ reverse-append (take n xs) (x ∷ [])
+one-back : {X : Type 0} (xs : List X) (n : ℕ) (x : X) → n < length xs → x ≡ get_or xs n x
+    → reverse (take (suc n) xs) ≡ x ∷ reverse (take n xs)
+one-back xs n x lt is = ap reverse (take-suc xs n x lt ∙ ap (λ y. take n xs ++ y ∷ []) (sym is))
+    ∙ reverse-append (take n xs) (x ∷ [])
 
 stand-length : {A : Type 0} (is : List (Past A)) (xs : List EndState) → EarlierRepresent is xs → length is ≡ length xs
 stand-length [] [] h = refl
@@ -546,25 +651,33 @@ MadeBy made octets p = (x : EndState) → PastRepresents p x → has_made (rule_
 
 -- the same of the present incarnation
 abbrev pub MadeNow : {A : Type 0} → Bool → List ℕ → Incarnation A → Type 0
-MadeNow made octets i = (x : EndState) → IncarnationRepresents i x → has_made (rule_of x.settings) octets x.machine.made ≡ made
+MadeNow made octets i =
+    (x : EndState) → IncarnationRepresents i x → has_made (rule_of x.settings) octets x.machine.made ≡ made
 
 pub all-left : {A : Type 0} (octets : List ℕ) (incs : List (Past A)) (n : ℕ) → take n incs ≡ incs → IsLeft octets incs n
 all-left octets incs n all = λ xs h. (xs, subst (λ is. EarlierRepresent (reverse is) xs) (sym all) h, refl)
 
-pub go-back : {A : Type 0} (octets : List ℕ) (incs : List (Past A)) (n : ℕ) (i : Past A) → n < length incs → i ≡ get_or incs n i
+pub go-back : {A : Type 0} (octets : List ℕ) (incs : List (Past A)) (n : ℕ) (i : Past A) → n < length incs
+    → i ≡ get_or incs n i
     → MadeBy false octets i → IsLeft octets incs (suc n) → IsLeft octets incs n
 go-back {A} octets incs n i lt is made left = λ xs h. behind xs (left xs h)
   where
-    behind : (xs : List EndState) → ((ys : List EndState) × EarlierRepresent (reverse (take (suc n) incs)) ys × (latest_maker octets xs ≡ latest_maker octets ys))
-        → ((ys : List EndState) × EarlierRepresent (reverse (take n incs)) ys × (latest_maker octets xs ≡ latest_maker octets ys))
+    behind : (xs : List EndState) → ((ys : List EndState) × EarlierRepresent (reverse (take (suc n) incs)) ys
+        × (latest_maker octets xs ≡ latest_maker octets ys))
+        → ((ys : List EndState) × EarlierRepresent (reverse (take n incs)) ys
+        × (latest_maker octets xs ≡ latest_maker octets ys))
     behind xs (ys, stands, same) = split ys (subst (λ is. EarlierRepresent is ys) (one-back incs n i lt is) stands) same
       where
-        split : (ys : List EndState) → EarlierRepresent (i ∷ reverse (take n incs)) ys → latest_maker octets xs ≡ latest_maker octets ys
-            → ((zs : List EndState) × EarlierRepresent (reverse (take n incs)) zs × (latest_maker octets xs ≡ latest_maker octets zs))
+        split : (ys : List EndState) → EarlierRepresent (i ∷ reverse (take n incs)) ys
+            → latest_maker octets xs ≡ latest_maker octets ys
+            → ((zs : List EndState) × EarlierRepresent (reverse (take n incs)) zs
+            × (latest_maker octets xs ≡ latest_maker octets zs))
         split [] h same = absurd h
-        split (y ∷ ys) h same = (ys, h.1, same ∙ ap (λ (b : Bool). if b then Some (length ys + 1) else latest_maker octets ys) (made y h.0))
+        split (y ∷ ys) h same =
+            (ys, h.1, same ∙ ap (λ (b : Bool). if b then Some (length ys + 1) else latest_maker octets ys) (made y h.0))
 
-pub found : {A : Type 0} (octets : List ℕ) (incs : List (Past A)) (n : ℕ) (i : Past A) → n < length incs → i ≡ get_or incs n i
+pub found : {A : Type 0} (octets : List ℕ) (incs : List (Past A)) (n : ℕ) (i : Past A) → n < length incs
+    → i ≡ get_or incs n i
     → MadeBy true octets i → IsLeft octets incs (suc n)
     → (xs : List EndState) → EarlierRepresent (reverse incs) xs → latest_maker octets xs ≡ Some (suc n)
 found {A} octets incs n i lt is made left xs h = behind (left xs h)
@@ -572,40 +685,50 @@ found {A} octets incs n i lt is made left xs h = behind (left xs h)
     count : length (reverse (take n incs)) ≡ n
     count = omega (arith, length-reverse (take n incs), length-take n incs, lt)
 
-    behind : ((ys : List EndState) × EarlierRepresent (reverse (take (suc n) incs)) ys × (latest_maker octets xs ≡ latest_maker octets ys))
+    behind : ((ys : List EndState) × EarlierRepresent (reverse (take (suc n) incs)) ys
+        × (latest_maker octets xs ≡ latest_maker octets ys))
         → latest_maker octets xs ≡ Some (suc n)
     behind (ys, stands, same) = split ys (subst (λ is. EarlierRepresent is ys) (one-back incs n i lt is) stands) same
       where
-        split : (ys : List EndState) → EarlierRepresent (i ∷ reverse (take n incs)) ys → latest_maker octets xs ≡ latest_maker octets ys
+        split : (ys : List EndState) → EarlierRepresent (i ∷ reverse (take n incs)) ys
+            → latest_maker octets xs ≡ latest_maker octets ys
             → latest_maker octets xs ≡ Some (suc n)
         split [] h same = absurd h
         split (y ∷ ys) h same =
             let number : length ys + 1 ≡ suc n = omega (arith, stand-length (reverse (take n incs)) ys h.1, count) in
-            same ∙ (ap (λ (b : Bool). if b then Some (length ys + 1) else latest_maker octets ys) (made y h.0) ∙ ap Some number)
+            same ∙ (ap (λ (b : Bool). if b then Some (length ys + 1) else latest_maker octets ys) (made y h.0)
+            ∙ ap Some number)
 
-pub none-left : {A : Type 0} (octets : List ℕ) (incs : List (Past A)) → IsLeft octets incs 0 → (xs : List EndState) → EarlierRepresent (reverse incs) xs
+pub none-left : {A : Type 0} (octets : List ℕ) (incs : List (Past A)) → IsLeft octets incs 0 → (xs : List EndState)
+    → EarlierRepresent (reverse incs) xs
     → latest_maker octets xs ≡ None
 none-left {A} octets incs left xs h = behind (left xs h)
   where
-    go : (ys : List EndState) → EarlierRepresent {A = A} [] ys → latest_maker octets xs ≡ latest_maker octets ys → latest_maker octets xs ≡ None
+    go : (ys : List EndState) → EarlierRepresent {A = A} [] ys → latest_maker octets xs ≡ latest_maker octets ys
+        → latest_maker octets xs ≡ None
     go [] stands same = same
     go (y ∷ ys) stands same = absurd stands
 
-    behind : ((ys : List EndState) × EarlierRepresent {A = A} [] ys × (latest_maker octets xs ≡ latest_maker octets ys)) → latest_maker octets xs ≡ None
+    behind : ((ys : List EndState) × EarlierRepresent {A = A} [] ys × (latest_maker octets xs ≡ latest_maker octets ys))
+        → latest_maker octets xs ≡ None
     behind (ys, stands, same) = go ys stands same
 
 -- the present incarnation made it, or not
-pub present-made : {A : Type 0} (o : Openings A) (i : Incarnation A) (octets : List ℕ) (xs : List EndState) → o.present ≡ Some i → MadeNow true octets i
+pub present-made : {A : Type 0} (o : Openings A) (i : Incarnation A) (octets : List ℕ) (xs : List EndState)
+    → o.present ≡ Some i → MadeNow true octets i
     → SideRepresents o xs
     → Some (length o.before.items + 1) ≡ latest_maker octets xs
 present-made o i octets xs h k l = grind (arith, nat_tests, length-reverse, stand-length)
 
-pub present-not : {A : Type 0} (o : Openings A) (i : Incarnation A) (octets : List ℕ) (r : Option ℕ) → o.present ≡ Some i → MadeNow false octets i
-    → ((ys : List EndState) → EarlierRepresent (reverse o.before.items) ys → r ≡ latest_maker octets ys) → (xs : List EndState) → SideRepresents o xs
+pub present-not : {A : Type 0} (o : Openings A) (i : Incarnation A) (octets : List ℕ) (r : Option ℕ)
+    → o.present ≡ Some i → MadeNow false octets i
+    → ((ys : List EndState) → EarlierRepresent (reverse o.before.items) ys → r ≡ latest_maker octets ys)
+    → (xs : List EndState) → SideRepresents o xs
     → r ≡ latest_maker octets xs
 present-not o i octets r h k l xs q = grind (arith, nat_tests)
 
-live-same : (x : EndState) (peer : Option EndState) (dead : ℕ) (part : List ℕ) → live_in (code_octets (rule_of x.settings).length) peer dead part
+live-same : (x : EndState) (peer : Option EndState) (dead : ℕ) (part : List ℕ)
+    → live_in (code_octets (rule_of x.settings).length) peer dead part
     ≡ is_live x peer dead part
 live-same x peer dead part = grind (arith, nat_tests)
 
@@ -614,7 +737,8 @@ pub breaks-part : (x peer : Option EndState) (dead : ℕ) (datagram : List ℕ) 
 unfolding decoded
 breaks-part x peer dead datagram p h = grind (arith, nat_tests, live-same)
 
-pub breaks-none : (x peer : Option EndState) (dead : ℕ) (datagram : List ℕ) (fault : RedFault) → red_seen datagram ≡ Err fault
+pub breaks-none : (x peer : Option EndState) (dead : ℕ) (datagram : List ℕ) (fault : RedFault)
+    → red_seen datagram ≡ Err fault
     → false ≡ breaks_at x peer dead datagram
 unfolding decoded
 breaks-none x peer dead datagram fault h = grind (arith, nat_tests)

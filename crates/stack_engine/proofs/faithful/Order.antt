@@ -27,49 +27,60 @@ abbrev pub Numbered : CodeRule → List Made → ℕ → List Part → Type 0
 Numbered rule ms n [] = Unit {0}
 Numbered rule ms n (p ∷ ps) = IsNth rule ms n p.1 × Numbered rule ms (suc n) ps
 
-numbered-append : (r : CodeRule) (ms : List Made) (n : ℕ) (ps qs : List Part) → Numbered r ms n ps → Numbered r ms (n + length ps) qs
+numbered-append : (r : CodeRule) (ms : List Made) (n : ℕ) (ps qs : List Part) → Numbered r ms n ps
+    → Numbered r ms (n + length ps) qs
     → Numbered r ms n (ps ++ qs)
 numbered-append r ms n [] qs h k = subst (λ i. Numbered r ms i qs) (omega arith) k
-numbered-append r ms n (p ∷ ps) qs h k = (h.0, numbered-append r ms (suc n) ps qs h.1 (subst (λ i. Numbered r ms i qs) (omega arith) k))
+numbered-append r ms n (p ∷ ps) qs h k =
+    (h.0, numbered-append r ms (suc n) ps qs h.1 (subst (λ i. Numbered r ms i qs) (omega arith) k))
 
-pub numbered-behind : (r : CodeRule) (ms : List Made) (n : ℕ) (ps qs : List Part) → Numbered r ms n (ps ++ qs) → Numbered r ms (n + length ps) qs
+pub numbered-behind : (r : CodeRule) (ms : List Made) (n : ℕ) (ps qs : List Part) → Numbered r ms n (ps ++ qs)
+    → Numbered r ms (n + length ps) qs
 numbered-behind r ms n [] qs h = subst (λ i. Numbered r ms i qs) (omega arith) h
-numbered-behind r ms n (p ∷ ps) qs h = subst (λ i. Numbered r ms i qs) (omega arith) (numbered-behind r ms (suc n) ps qs h.1)
+numbered-behind r ms n (p ∷ ps) qs h =
+    subst (λ i. Numbered r ms i qs) (omega arith) (numbered-behind r ms (suc n) ps qs h.1)
 
 -- what arrived carries the PDU under its number
 abbrev pub Carry : CodeRule → List Made → Part → Type 0
 Carry r ms p = IsNth r ms p.0 p.1
 
-pub found : (r : CodeRule) (ms : List Made) (k : ℕ) (arrived : List Part) → has_number k arrived ≡ true → AllByRecursion (Carry r ms) arrived
+pub found : (r : CodeRule) (ms : List Made) (k : ℕ) (arrived : List Part) → has_number k arrived ≡ true
+    → AllByRecursion (Carry r ms) arrived
     → IsNth r ms k (unwrap_or (part_under k arrived) [])
 found r ms k [] has h = cc
 found r ms k (p ∷ ps) has h =
-    by_test (λ b. (p.0 == k) ≡ b → (b || has_number k ps) ≡ true → IsNth r ms k (unwrap_or (cond b (Some p.1) (part_under k ps)) [])) (p.0 == k)
+    by_test (λ b. (p.0 == k) ≡ b → (b || has_number k ps) ≡ true
+    → IsNth r ms k (unwrap_or (cond b (Some p.1) (part_under k ps)) [])) (p.0 == k)
     (λ is _ _. subst (λ n. IsNth r ms n p.1) (eqb-true p.0 k is) h.0) (λ _ _ more. found r ms k ps more h.1) refl has
 
 pub length-first : (m : ℕ) (arrived : List Part) → length (first_parts m arrived) ≡ m
 length-first zero arrived = refl
 length-first (suc m) arrived = grind (arith, length-first m arrived, length-append)
 
-first-numbered : (r : CodeRule) (ms : List Made) (m : ℕ) (arrived : List Part) → ((k : ℕ) → k < m → has_number k arrived ≡ true)
+first-numbered : (r : CodeRule) (ms : List Made) (m : ℕ) (arrived : List Part)
+    → ((k : ℕ) → k < m → has_number k arrived ≡ true)
     → AllByRecursion (Carry r ms) arrived → Numbered r ms 0 (first_parts m arrived)
 first-numbered r ms zero arrived has h = tt
 first-numbered r ms (suc m) arrived has h =
     numbered-append r ms 0 (first_parts m arrived) ((m, unwrap_or (part_under m arrived) []) ∷ [])
     (first-numbered r ms m arrived (λ k lt. has k (omega (arith, lt))) h) (
-      subst (λ i. IsNth r ms i (unwrap_or (part_under m arrived) [])) (let e = length-first m arrived in omega (arith, e))
+      subst (λ i. IsNth r ms i (unwrap_or (part_under m arrived) []))
+          (let e = length-first m arrived in omega (arith, e))
           (found r ms m arrived (has m (omega arith)) h),
       tt,
     )
 
 pub arrivals-push : (is : List Input) (i : Input) → arrivals (is ++ i ∷ []) ≡ arrivals is ++ arrivals_of i
 arrivals-push [] i = append-nil (arrivals_of i)
-arrivals-push (j ∷ is) i = ap (λ ps. arrivals_of j ++ ps) (arrivals-push is i) ∙ sym (append_assoc (arrivals_of j) (arrivals is) (arrivals_of i))
+arrivals-push (j ∷ is) i = ap (λ ps. arrivals_of j ++ ps) (arrivals-push is i)
+    ∙ sym (append_assoc (arrivals_of j) (arrivals is) (arrivals_of i))
 
 -- The parts that go up at one input more are numbered on.
-pub red-numbered : Masking → FirstMissingLaw → OneMoreLaw → (r : CodeRule) (ms : List Made) (q t_seq : ℕ) (is : List Input) (i : Input)
+pub red-numbered : Masking → FirstMissingLaw → OneMoreLaw
+    → (r : CodeRule) (ms : List Made) (q t_seq : ℕ) (is : List Input) (i : Input)
     → QNear q [] (is ++ i ∷ []) → NoDeadlineFalls t_seq no_wait (is ++ i ∷ [])
-    → AllByRecursion (Carry r ms) (arrivals (is ++ i ∷ [])) → Numbered r ms (length (parts_passed_along is (red_opened q t_seq)))
+    → AllByRecursion (Carry r ms) (arrivals (is ++ i ∷ []))
+    → Numbered r ms (length (parts_passed_along is (red_opened q t_seq)))
     (parts_passed i (after_along is (red_opened q t_seq)))
 red-numbered masking missing more r ms q t_seq is i near timely carry =
     let r0 = red_opened q t_seq in
@@ -79,23 +90,27 @@ red-numbered masking missing more r ms q t_seq is i near timely carry =
     (first-numbered r ms (first_missing all) all (missing all).0.all_below carry)
     in
     subst (λ n. Numbered r ms n (parts_passed i (after_along is r0))) (omega arith)
-    (numbered-behind r ms 0 (parts_passed_along is r0) (parts_passed i (after_along is r0)) (subst (λ ps. Numbered r ms 0 ps) (more is i r0).1 whole))
+    (numbered-behind r ms 0 (parts_passed_along is r0) (parts_passed i (after_along is r0))
+    (subst (λ ps. Numbered r ms 0 ps) (more is i r0).1 whole))
 
 -- prefixes of a list of inputs are near, too
 pub near-front : (q : ℕ) (before : List Part) (is js : List Input) → QNear q before (is ++ js) → QNear q before is
 near-front q before [] js h = tt
 near-front q before (i ∷ is) js h = (h.0, near-front q (before ++ arrivals_of i) is js h.1)
 
-pub timely-front : (t_seq : ℕ) (w : Wait) (is js : List Input) → NoDeadlineFalls t_seq w (is ++ js) → NoDeadlineFalls t_seq w is
+pub timely-front : (t_seq : ℕ) (w : Wait) (is js : List Input) → NoDeadlineFalls t_seq w (is ++ js)
+    → NoDeadlineFalls t_seq w is
 timely-front t_seq w [] js h = tt
 timely-front t_seq w (i ∷ is) js h = (h.0, timely-front t_seq (wait_after i w) is js h.1)
 
 -- a PDU made bears the end's identifiers
-pub bear-nth : (s : Settings) (ms : List Made) (n : ℕ) (m : Made) (later : List Made) → AreFrom s ms → drop n ms ≡ m ∷ later
+pub bear-nth : (s : Settings) (ms : List Made) (n : ℕ) (m : Made) (later : List Made) → AreFrom s ms
+    → drop n ms ≡ m ∷ later
     → (m.pdu.receiver ≡ s.peer) × (m.pdu.sender ≡ s.own)
 bear-nth s [] zero m later h e = cc
 bear-nth s [] (suc n) m later h e = cc
-bear-nth s (x ∷ ms) zero m later h e = let is : x ≡ m = cc in subst (λ (y : Made). (y.pdu.receiver ≡ s.peer) × (y.pdu.sender ≡ s.own)) is h.0
+bear-nth s (x ∷ ms) zero m later h e = let is : x ≡ m =
+    cc in subst (λ (y : Made). (y.pdu.receiver ≡ s.peer) × (y.pdu.sender ≡ s.own)) is h.0
 bear-nth s (x ∷ ms) (suc n) m later h e = bear-nth s ms n m later h.1 e
 
 -- Worlds of machines that a list of events in order leads to, with how many PDUs came to each.
@@ -117,7 +132,8 @@ closed_by _ c = c
 closed-more : (e : M.Event) (c : Bool) → cond c true (is_close e) ≡ closed_by e c
 closed-more e c = grind (arith, nat_tests)
 
-pub ordered : EventsLaw → (c : Bool) (il fe : ℕ) (m : M.World) (e : M.Event) → M.GenuineEvent m e → M.TimelyEvent m e → InOrderEvent il fe m e
+pub ordered : EventsLaw → (c : Bool) (il fe : ℕ) (m : M.World) (e : M.Event) → M.GenuineEvent m e → M.TimelyEvent m e
+    → InOrderEvent il fe m e
     → Ordered c il fe m → Ordered (closed_by e c) (heard_by_il e il) (heard_by_fe e fe) (M.apply_event m e)
 ordered law c il fe m e g t o h =
     let one = law h.events e in
@@ -128,7 +144,8 @@ ordered law c il fe m e g t o h =
       in_order =
           one.in_order 0 0 M.start h.in_order
           (subst (λ n. InOrderEvent n (all_heard_by_fe h.events 0) (M.run h.events M.start) e) (sym h.heard_il)
-          (subst (λ n. InOrderEvent il n (M.run h.events M.start) e) (sym h.heard_fe) (subst (λ w. InOrderEvent il fe w e) (sym h.leads) o)));
+          (subst (λ n. InOrderEvent il n (M.run h.events M.start) e) (sym h.heard_fe)
+          (subst (λ w. InOrderEvent il fe w e) (sym h.leads) o)));
       closes = one.closes ∙ closed-more e (has_close h.events) ∙ ap (closed_by e) h.closes;
       heard_il = one.il_heard 0 ∙ ap (heard_by_il e) h.heard_il;
       heard_fe = one.fe_heard 0 ∙ ap (heard_by_fe e) h.heard_fe;
@@ -176,20 +193,29 @@ abbrev pub next_joined : Side → State → State → Option ℕ → M.World →
 next_joined Il s t q m = q
 next_joined Fe s t q m = joined_after s t q m
 
-pub side-moves : EventsLaw → (side : Side) (m : M.World) (s : State) (q : Option ℕ) (c : Bool) (clock n k : ℕ) (mv : Move) → clock ≤ move_time mv
+pub side-moves : EventsLaw → (side : Side) (m : M.World) (s : State) (q : Option ℕ) (c : Bool) (clock n k : ℕ)
+    (mv : Move) → clock ≤ move_time mv
     → GenuineMove s (drop (peer_dead side m) (peer_made side m)) mv → OrderedMove side m n s mv
     → OrderedBy side c n k (at_side side s q clock m) → OrderedBy side (closed_more mv c) (heard_more mv n) k
     (at_side side (move mv s) (next_joined side s (move mv s) q m) (move_time mv) m)
 side-moves law Il m s q c clock n k (Guards now) t g o h = ordered law c n k (il_at s clock m) (Guard Il now) tt t o h
-side-moves law Il m s q c clock n k (Hears p now) t g o h = ordered law c n k (il_at s clock m) (Arrive Il p now) g t o h
-side-moves law Il m s q c clock n k (Ticks now) t g o h = ordered law c n k (il_at s clock m) (TickMachine Il now) tt t o h
-side-moves law Il m s q c clock n k (Sends unit now) t g o h = ordered law c n k (il_at s clock m) (Send Il unit now) tt t tt h
-side-moves law Il m s q c clock n k (Leaves reason detail now) t g o h = ordered law c n k (il_at s clock m) (Close Il reason detail now) tt t tt h
+side-moves law Il m s q c clock n k (Hears p now) t g o h =
+    ordered law c n k (il_at s clock m) (Arrive Il p now) g t o h
+side-moves law Il m s q c clock n k (Ticks now) t g o h =
+    ordered law c n k (il_at s clock m) (TickMachine Il now) tt t o h
+side-moves law Il m s q c clock n k (Sends unit now) t g o h =
+    ordered law c n k (il_at s clock m) (Send Il unit now) tt t tt h
+side-moves law Il m s q c clock n k (Leaves reason detail now) t g o h =
+    ordered law c n k (il_at s clock m) (Close Il reason detail now) tt t tt h
 side-moves law Fe m s q c clock n k (Guards now) t g o h = ordered law c k n (fe_at s q clock m) (Guard Fe now) tt t o h
-side-moves law Fe m s q c clock n k (Hears p now) t g o h = ordered law c k n (fe_at s q clock m) (Arrive Fe p now) g t o h
-side-moves law Fe m s q c clock n k (Ticks now) t g o h = ordered law c k n (fe_at s q clock m) (TickMachine Fe now) tt t o h
-side-moves law Fe m s q c clock n k (Sends unit now) t g o h = ordered law c k n (fe_at s q clock m) (Send Fe unit now) tt t tt h
-side-moves law Fe m s q c clock n k (Leaves reason detail now) t g o h = ordered law c k n (fe_at s q clock m) (Close Fe reason detail now) tt t tt h
+side-moves law Fe m s q c clock n k (Hears p now) t g o h =
+    ordered law c k n (fe_at s q clock m) (Arrive Fe p now) g t o h
+side-moves law Fe m s q c clock n k (Ticks now) t g o h =
+    ordered law c k n (fe_at s q clock m) (TickMachine Fe now) tt t o h
+side-moves law Fe m s q c clock n k (Sends unit now) t g o h =
+    ordered law c k n (fe_at s q clock m) (Send Fe unit now) tt t tt h
+side-moves law Fe m s q c clock n k (Leaves reason detail now) t g o h =
+    ordered law c k n (fe_at s q clock m) (Close Fe reason detail now) tt t tt h
 
 -- the peer's PDU with this index, as the end reads it
 pub record Next (side : Side) (m : M.World) (s : EndSettings) (n : ℕ) (octets : List ℕ) : Type 0 where
@@ -202,7 +228,8 @@ pub record Next (side : Side) (m : M.World) (s : EndSettings) (n : ℕ) (octets 
   pub opened : WasOpened side m
 
 -- the end during a call: the inputs `ins` and `n` parts were processed
-pub record OrdEnd (side : Side) (m : M.World) (k : ℕ) (s : EndSettings) (now : ℕ) (peer_fails : Type 0) (ins : List Input) (n : ℕ) (y : EndState) : Type 0 where
+pub record OrdEnd (side : Side) (m : M.World) (k : ℕ) (s : EndSettings) (now : ℕ) (peer_fails : Type 0)
+    (ins : List Input) (n : ℕ) (y : EndState) : Type 0 where
   pub whole : Whole side y
   pub closed : Bool
   pub fails : closed ≡ true → Fails y ⊎ peer_fails
@@ -218,10 +245,12 @@ pub record OrdEnd (side : Side) (m : M.World) (k : ℕ) (s : EndSettings) (now :
 abbrev pub Faithfully : Option EndState → ℕ → ℕ → EndState → List ℕ → Type 0
 Faithfully peer dead now y octets = GuardHolds y.machine now × Comes peer dead y octets
 
-module _ (laws : Laws) (side : Side) (m : M.World) (k : ℕ) (s : EndSettings) (now : ℕ) (peer : Option EndState) (dead : ℕ) (F : Type 0)
+module _ (laws : Laws) (side : Side) (m : M.World) (k : ℕ) (s : EndSettings) (now : ℕ) (peer : Option EndState)
+    (dead : ℕ) (F : Type 0)
     (texts : TextsOf peer)
     (live : drop dead (made_of peer) ≡ drop (peer_dead side m) (peer_made side m))
-    (r : CodeRule) (ms : List Made) (next : (n : ℕ) (octets : List ℕ) → IsNth r ms n octets → Next side m s n octets) where
+    (r : CodeRule) (ms : List Made) (next : (n : ℕ) (octets : List ℕ) → IsNth r ms n octets
+    → Next side m s n octets) where
   abbrev pub P : List Input → ℕ → EndState → Type 0
   P = OrdEnd side m k s now F
 
@@ -229,17 +258,21 @@ module _ (laws : Laws) (side : Side) (m : M.World) (k : ℕ) (s : EndSettings) (
   kw = whole-keeps laws side now
 
   -- only the machine
-  p-move : (ins : List Input) (n : ℕ) (mv : Move) (x y : EndState) → move_time mv ≡ now → heard_more mv n ≡ n → ((c : Bool) → closed_more mv c ≡ c)
+  p-move : (ins : List Input) (n : ℕ) (mv : Move) (x y : EndState) → move_time mv ≡ now → heard_more mv n ≡ n
+      → ((c : Bool) → closed_more mv c ≡ c)
       → GenuineMove x.machine (drop (peer_dead side m) (peer_made side m)) mv → OrderedMove side m n x.machine mv
-      → Whole side y → y.machine ≡ move mv x.machine → y.session.history.ended_in ≡ x.session.history.ended_in → y.settings ≡ x.settings
+      → Whole side y → y.machine ≡ move mv x.machine → y.session.history.ended_in ≡ x.session.history.ended_in
+      → y.settings ≡ x.settings
       → y.inputs ≡ x.inputs → y.red ≡ x.red → P ins n x → P ins n y
   p-move ins n mv x y t same closed-same g o whole e ended set ins-same red h =
       let j = next_joined side x.machine (move mv x.machine) h.joined m in
       let there : OrderedBy side h.closed n k (at_side side (move mv x.machine) j now m) =
       subst (λ b. OrderedBy side b n k (at_side side (move mv x.machine) j now m)) (closed-same h.closed)
       (subst (λ i. OrderedBy side (closed_more mv h.closed) i k (at_side side (move mv x.machine) j now m)) same
-      (subst (λ c. OrderedBy side (closed_more mv h.closed) (heard_more mv n) k (at_side side (move mv x.machine) j c m)) t
-      (side-moves laws.events side m x.machine h.joined h.closed h.clock n k mv (subst (λ c. h.clock ≤ c) (sym t) h.within) g o h.ordered)))
+      (subst (λ c. OrderedBy side (closed_more mv h.closed) (heard_more mv n) k
+      (at_side side (move mv x.machine) j c m)) t
+      (side-moves laws.events side m x.machine h.joined h.closed h.clock n k mv
+      (subst (λ c. h.clock ≤ c) (sym t) h.within) g o h.ordered)))
       in
       record {
         whole = whole;
@@ -255,12 +288,15 @@ module _ (laws : Laws) (side : Side) (m : M.World) (k : ℕ) (s : EndSettings) (
       }
 
   p-same : (ins : List Input) (n : ℕ) (x y : EndState) → Whole side y → y.machine ≡ x.machine
-      → y.session.history.ended_in ≡ x.session.history.ended_in → y.settings ≡ x.settings → y.inputs ≡ x.inputs → y.red ≡ x.red → P ins n x → P ins n y
+      → y.session.history.ended_in ≡ x.session.history.ended_in → y.settings ≡ x.settings → y.inputs ≡ x.inputs
+      → y.red ≡ x.red → P ins n x → P ins n y
   p-same ins n x y whole e ended set ins-same red h =
       record {
         whole = whole;
         closed = h.closed;
-        fails = λ is. ⊎_elim (λ f. inl (fails-more x y [] (ap (λ (t : State). t.taken) e ∙ sym (append-nil x.machine.taken)) ended f)) (λ f. inr f)
+        fails =
+            λ is. ⊎_elim (λ f. inl (fails-more x y [] (ap (λ (t : State). t.taken) e ∙ sym (append-nil x.machine.taken))
+            ended f)) (λ f. inr f)
             (h.fails is);
         joined = h.joined;
         clock = h.clock;
@@ -274,11 +310,14 @@ module _ (laws : Laws) (side : Side) (m : M.World) (k : ℕ) (s : EndSettings) (
   p-settle : (ins : List Input) (n : ℕ) (y : EndState) → P ins n y → P ins n (settle y)
   p-settle ins n y h =
       by_cond (P ins n) (is_shut y) (with_session (process_event Closes y.session) y) y
-      (λ shut. p-same ins n y (with_session (process_event Closes y.session) y) (kw.ends y shut h.whole) refl refl refl refl refl h) (λ _. h)
+      (λ shut. p-same ins n y (with_session (process_event Closes y.session) y) (kw.ends y shut h.whole) refl refl refl
+      refl refl h) (λ _. h)
 
   -- the end may disconnect after it has processed a part
-  p-left : (ins : List Input) (n : ℕ) (why : Option Leaving) (y : EndState) (c : Bool) (j : Option ℕ) → (c ≡ true → Fails y ⊎ F)
-      → ((w : Leaving) → why ≡ Some w → Fails y) → OrderedBy side c n k (at_side side y.machine j now m) → y.settings ≡ s → y.inputs ≡ ins
+  p-left : (ins : List Input) (n : ℕ) (why : Option Leaving) (y : EndState) (c : Bool) (j : Option ℕ)
+      → (c ≡ true → Fails y ⊎ F)
+      → ((w : Leaving) → why ≡ Some w → Fails y) → OrderedBy side c n k (at_side side y.machine j now m)
+      → y.settings ≡ s → y.inputs ≡ ins
       → y.red ≡ after_along ins (red_opened s.q s.t_seq) → Whole side (leaves now why y) → P ins n (leaves now why y)
   p-left ins n None y c j fails bad o set came red whole =
       record {
@@ -309,7 +348,8 @@ module _ (laws : Laws) (side : Side) (m : M.World) (k : ℕ) (s : EndSettings) (
       }
 
   -- a part that is the next PDU
-  p-answered : (ins : List Input) (n : ℕ) (octets : List ℕ) (x : EndState) → Faithfully peer dead now x octets → IsNth r ms n octets → P ins n x
+  p-answered : (ins : List Input) (n : ℕ) (octets : List ℕ) (x : EndState) → Faithfully peer dead now x octets
+      → IsNth r ms n octets → P ins n x
       → Whole side (heard now octets x) → P ins (n + 1) (heard now octets x)
   p-answered ins n octets x q nth h whole =
       let a : Next side m s n octets = next n octets nth in
@@ -318,8 +358,10 @@ module _ (laws : Laws) (side : Side) (m : M.World) (k : ℕ) (s : EndSettings) (
       let same : x.machine.settings ≡ connection_of side s = h.whole.machined.same ∙ ap (connection_of side) h.set in
       let rule : x.machine.settings.rule ≡ rule_of s = ap (λ (c : Settings). c.rule) same ∙ rule-same side s in
       let seen : seen_by x.machine octets ≡ Ok a.made.pdu = ap (λ (c : CodeRule). safe_seen c octets) rule ∙ a.seen in
-      let own : a.made.pdu.receiver ≡ x.machine.settings.own = a.receiver ∙ sym (ap (λ (c : Settings). c.own) same ∙ own-same side s) in
-      let its : a.made.pdu.sender ≡ x.machine.settings.peer = a.sender ∙ sym (ap (λ (c : Settings). c.peer) same ∙ peer-same side s) in
+      let own : a.made.pdu.receiver ≡ x.machine.settings.own = a.receiver
+      ∙ sym (ap (λ (c : Settings). c.own) same ∙ own-same side s) in
+      let its : a.made.pdu.sender ≡ x.machine.settings.peer = a.sender
+      ∙ sym (ap (λ (c : Settings). c.peer) same ∙ peer-same side s) in
       let ours : is_stranger x.machine a.made.pdu ≡ false =
       ap (λ b. cond (b && (a.made.pdu.sender == x.machine.settings.peer)) false true)
       (ap (λ i. i == x.machine.settings.own) own ∙ eqb-same x.machine.settings.own)
@@ -336,21 +378,27 @@ module _ (laws : Laws) (side : Side) (m : M.World) (k : ℕ) (s : EndSettings) (
       (a.opened, record { made = a.made; later = a.later; at = a.there; is = refl; ours = ours; holds = q.0 }) h.ordered
       in
       let fate = fates laws now octets x h.whole.heeds in
-      p-left ins (n + 1) (judge_units (handed_up x s1) x.session).leaving y h.closed j (λ is. ⊎_elim (λ f. inl (fate.still f)) (λ f. inr f) (h.fails is))
+      p-left ins (n + 1) (judge_units (handed_up x s1) x.session).leaving y h.closed j
+      (λ is. ⊎_elim (λ f. inl (fate.still f)) (λ f. inr f) (h.fails is))
       fate.leaves
-      (subst (λ d. OrderedBy side h.closed (n + 1) k (at_side side (move (heard_as d now) x.machine) j now m)) (sym seen) there) h.set h.came h.red whole
+      (subst (λ d. OrderedBy side h.closed (n + 1) k (at_side side (move (heard_as d now) x.machine) j now m))
+      (sym seen) there) h.set h.came h.red whole
 
-  p-part : (ins : List Input) (n : ℕ) (octets : List ℕ) (x : EndState) → Faithfully peer dead now x octets → IsNth r ms n octets → P ins n x
+  p-part : (ins : List Input) (n : ℕ) (octets : List ℕ) (x : EndState) → Faithfully peer dead now x octets
+      → IsNth r ms n octets → P ins n x
       → P ins (n + 1) (part_step now octets x)
-  p-part ins n octets x q nth h = subst (P ins (n + 1)) (sym (part-is now octets x)) (p-settle ins (n + 1) (heard now octets x)
+  p-part ins n octets x q nth h =
+      subst (P ins (n + 1)) (sym (part-is now octets x)) (p-settle ins (n + 1) (heard now octets x)
       (p-answered ins n octets x q nth h (kw.hears octets x q.1.0 h.whole)))
 
-  p-parts : (ins : List Input) (n : ℕ) (ps : List Part) (x : EndState) → AtParts (Faithfully peer dead now) now ps x → Numbered r ms n ps → P ins n x
+  p-parts : (ins : List Input) (n : ℕ) (ps : List Part) (x : EndState) → AtParts (Faithfully peer dead now) now ps x
+      → Numbered r ms n ps → P ins n x
       → P ins (n + length ps) (parts_step now ps x)
   p-parts ins n [] x q num h = subst (λ i. P ins i x) (omega arith) h
   p-parts ins n (p ∷ ps) x q num h =
       subst (λ i. P ins i (parts_step now ps (part_step now p.1 x))) (omega arith)
-      (p-parts ins (n + 1) ps (part_step now p.1 x) q.1 (subst (λ i. Numbered r ms i ps) (omega arith) num.1) (p-part ins n p.1 x q.0 num.0 h))
+      (p-parts ins (n + 1) ps (part_step now p.1 x) q.1 (subst (λ i. Numbered r ms i ps) (omega arith) num.1)
+      (p-part ins n p.1 x q.0 num.0 h))
 
   p-packed : (ins : List Input) (n fuel : ℕ) (x : EndState) → P ins n x → P ins n (packed_up_to fuel now x)
   p-packed ins n zero x h = h
@@ -359,12 +407,14 @@ module _ (laws : Laws) (side : Side) (m : M.World) (k : ℕ) (s : EndSettings) (
       let may = may-pack x can in
       subst (λ (z : EndState). P ins n (packed_up_to fuel now z)) (sym (packed-is now x))
       (p-packed ins n fuel (packed now x)
-      (p-move ins n (Sends (unit_text (take x.settings.n_maxpacket x.session.waiting)) now) x (packed now x) refl refl (λ c. refl) tt tt
+      (p-move ins n (Sends (unit_text (take x.settings.n_maxpacket x.session.waiting)) now) x (packed now x) refl refl
+      (λ c. refl) tt tt
       (kw.sends x may.0 may.1 h.whole) refl refl refl refl refl h)))
       (λ _. h)
 
   -- one input more
-  p-input : (ins : List Input) (n : ℕ) (i : Input) (x : EndState) → IsTypedInput i → P ins n x → P (ins ++ i ∷ []) n (with_input i x)
+  p-input : (ins : List Input) (n : ℕ) (i : Input) (x : EndState) → IsTypedInput i → P ins n x
+      → P (ins ++ i ∷ []) n (with_input i x)
   p-input ins n i x t h =
       record {
         whole = kw.inputs i x t h.whole;
@@ -390,13 +440,17 @@ module _ (laws : Laws) (side : Side) (m : M.World) (k : ℕ) (s : EndSettings) (
     pub carry : AllByRecursion (Carry r ms) (arrivals ins)
 
   abbrev pub Numbers : List Input → Input → Type 0
-  Numbers ins i = Numbered r ms (passed ins) (parts_passed i (after_along ins (red_opened s.q s.t_seq))) × AllByRecursion (Carry r ms) (arrivals (ins ++ i ∷ []))
+  Numbers ins i = Numbered r ms (passed ins) (parts_passed i (after_along ins (red_opened s.q s.t_seq)))
+      × AllByRecursion (Carry r ms) (arrivals (ins ++ i ∷ []))
 
-  passed-push : (ins : List Input) (i : Input) → passed ins + length (parts_passed i (after_along ins (red_opened s.q s.t_seq))) ≡ passed (ins ++ i ∷ [])
+  passed-push : (ins : List Input) (i : Input)
+      → passed ins + length (parts_passed i (after_along ins (red_opened s.q s.t_seq))) ≡ passed (ins ++ i ∷ [])
   passed-push ins i = grind (arith, (laws.more ins i (red_opened s.q s.t_seq)).1, length-append)
 
-  p-goes_on : (ins : List Input) (i : Input) (x : EndState) → IsTypedInput i → AtInput (Faithfully peer dead now) now i x
-      → (is_shut x ≡ false → Numbers ins i) → AllByRecursion (Carry r ms) (arrivals ins) → P ins (passed ins) x → Left (goes_on now i x)
+  p-goes_on : (ins : List Input) (i : Input) (x : EndState) → IsTypedInput i
+      → AtInput (Faithfully peer dead now) now i x
+      → (is_shut x ≡ false → Numbers ins i) → AllByRecursion (Carry r ms) (arrivals ins) → P ins (passed ins) x
+      → Left (goes_on now i x)
   p-goes_on ins i x t q num carry h =
       by_test (λ b. is_shut x ≡ b → Left (cond b x (sends now (input_step now i x)))) (is_shut x)
       (λ _ _. record { ins = ins; there = h; carry = carry })
@@ -405,7 +459,8 @@ module _ (laws : Laws) (side : Side) (m : M.World) (k : ℕ) (s : EndSettings) (
       let ps = parts_passed i x.red in
       let same : ps ≡ parts_passed i (after_along ins (red_opened s.q s.t_seq)) = ap (parts_passed i) h.red in
       let heard-all : P (ins ++ i ∷ []) (passed ins + length ps) y =
-      p-parts (ins ++ i ∷ []) (passed ins) ps (with_input i x) (q on) (subst (λ l. Numbered r ms (passed ins) l) (sym same) (num on).0)
+      p-parts (ins ++ i ∷ []) (passed ins) ps (with_input i x) (q on)
+      (subst (λ l. Numbered r ms (passed ins) l) (sym same) (num on).0)
       (p-input ins (passed ins) i x t h)
       in
       record {
@@ -422,7 +477,8 @@ module _ (laws : Laws) (side : Side) (m : M.World) (k : ℕ) (s : EndSettings) (
       record {
         ins = h.ins;
         carry = h.carry;
-        there = p-same h.ins (passed h.ins) x (record x { time = now }) (kw.times x h.there.whole) refl refl refl refl refl h.there;
+        there = p-same h.ins (passed h.ins) x (record x { time = now }) (kw.times x h.there.whole) refl refl refl refl
+            refl h.there;
       }
 
   -- what a call requires of the numbers of its parts
@@ -432,16 +488,19 @@ module _ (laws : Laws) (side : Side) (m : M.World) (k : ℕ) (s : EndSettings) (
       is_shut x ≡ false → is_shut (guard_step t x) ≡ false → Numbers ins (Datagram octets t)
   Counts ins c x = Unit {0}
 
-  pub ord-put : (kind : ℕ) (payload : List ℕ) (ins : List Input) (x : EndState) → kind < 256 ^ 2 → AllByRecursion (Carry r ms) (arrivals ins)
+  pub ord-put : (kind : ℕ) (payload : List ℕ) (ins : List Input) (x : EndState) → kind < 256 ^ 2
+      → AllByRecursion (Carry r ms) (arrivals ins)
       → P ins (passed ins) x → Left (call (Put kind payload now) x)
   ord-put kind payload ins x fits carry h =
       let y : EndState = step (queue_turn kind payload) x in
       let queued : P ins (passed ins) y = subst (P ins (passed ins)) (sym (queued-is kind payload x))
-      (p-same ins (passed ins) x (put_into kind payload x) (kw.puts kind payload x fits h.whole) refl refl refl refl refl h) in
+      (p-same ins (passed ins) x (put_into kind payload x) (kw.puts kind payload x fits h.whole) refl refl refl refl
+      refl h) in
       p-timed (sends now y)
       (record { ins = ins; carry = carry; there = p-packed ins (passed ins) (length y.session.waiting) y queued })
 
-  pub ord-done : (ins : List Input) (x : EndState) → AllByRecursion (Carry r ms) (arrivals ins) → P ins (passed ins) x → Left (call (InitDone now) x)
+  pub ord-done : (ins : List Input) (x : EndState) → AllByRecursion (Carry r ms) (arrivals ins) → P ins (passed ins) x
+      → Left (call (InitDone now) x)
   ord-done ins x carry h =
       let y : EndState = step finish_turn x in
       let queued : P ins (passed ins) y = subst (P ins (passed ins)) (sym (finished-is x))
@@ -449,7 +508,8 @@ module _ (laws : Laws) (side : Side) (m : M.World) (k : ℕ) (s : EndSettings) (
       p-timed (sends now y)
       (record { ins = ins; carry = carry; there = p-packed ins (passed ins) (length y.session.waiting) y queued })
 
-  pub ord-tick : (ins : List Input) (x : EndState) → GuardHolds x.machine now → AtCall (Faithfully peer dead now) (Tick now) x → Counts ins (Tick now) x
+  pub ord-tick : (ins : List Input) (x : EndState) → GuardHolds x.machine now
+      → AtCall (Faithfully peer dead now) (Tick now) x → Counts ins (Tick now) x
       → AllByRecursion (Carry r ms) (arrivals ins) → P ins (passed ins) x → Left (call (Tick now) x)
   ord-tick ins x g q num carry h =
       p-timed (did (Tick now) x)
@@ -457,12 +517,15 @@ module _ (laws : Laws) (side : Side) (m : M.World) (k : ℕ) (s : EndSettings) (
       (λ _ _. record { ins = ins; there = h; carry = carry })
       (λ on _.
       p-goes_on ins (RedTick now) (tick_step now x) tt (q on) (num on) carry
-      (subst (P ins (passed ins)) (sym (ticked-is now x)) (p-settle ins (passed ins) (with_machine (tick now x.machine) x)
-      (p-move ins (passed ins) (Ticks now) x (with_machine (tick now x.machine) x) refl refl (λ c. refl) tt g (kw.ticks x h.whole) refl
+      (subst (P ins (passed ins)) (sym (ticked-is now x))
+      (p-settle ins (passed ins) (with_machine (tick now x.machine) x)
+      (p-move ins (passed ins) (Ticks now) x (with_machine (tick now x.machine) x) refl refl (λ c. refl) tt g
+      (kw.ticks x h.whole) refl
       refl refl refl refl h))))
       refl)
 
-  pub ord-deliver : (channel : ℕ) (octets : List ℕ) (ins : List Input) (x : EndState) → IsTypedInput (Datagram octets now) → GuardHolds x.machine now
+  pub ord-deliver : (channel : ℕ) (octets : List ℕ) (ins : List Input) (x : EndState)
+      → IsTypedInput (Datagram octets now) → GuardHolds x.machine now
       → AtCall (Faithfully peer dead now) (Deliver channel octets now) x
       → Counts ins (Deliver channel octets now) x → AllByRecursion (Carry r ms) (arrivals ins) → P ins (passed ins) x
       → Left (call (Deliver channel octets now) x)
@@ -472,7 +535,9 @@ module _ (laws : Laws) (side : Side) (m : M.World) (k : ℕ) (s : EndSettings) (
       (λ _ _. record { ins = ins; there = h; carry = carry })
       (λ on _.
       p-goes_on ins (Datagram octets now) (guard_step now x) typed (q on) (num on) carry
-      (subst (P ins (passed ins)) (sym (guarded-is now x)) (p-settle ins (passed ins) (with_machine (guard now x.machine) x)
-      (p-move ins (passed ins) (Guards now) x (with_machine (guard now x.machine) x) refl refl (λ c. refl) tt g (kw.guards x h.whole) refl
+      (subst (P ins (passed ins)) (sym (guarded-is now x))
+      (p-settle ins (passed ins) (with_machine (guard now x.machine) x)
+      (p-move ins (passed ins) (Guards now) x (with_machine (guard now x.machine) x) refl refl (λ c. refl) tt g
+      (kw.guards x h.whole) refl
       refl refl refl refl h))))
       refl)

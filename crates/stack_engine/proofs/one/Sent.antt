@@ -1,4 +1,5 @@
--- What one end keeps, call by call, of what it says: the messages that wait, the units that were sent, and the telegrams in them.
+-- What one end keeps, call by call, of what it says: the messages that wait, the units that were sent, and the
+-- telegrams in them.
 use Rattle.stack_engine.proofs.Words.{[], added_by, Addressing, All-from_recursion, AllByRecursion, answered, ap, append-nil, append_assoc, are_fit, AreOctets}
 use Rattle.stack_engine.proofs.Words.{AreSettings, arith, arrive_octets, Arrives, AskedLaw, AtCall, AtInput, AtParts, new_history, BegunLaw, Bool, by_cond, by_test}
 use Rattle.stack_engine.proofs.Words.{Call, call, Close, Closed, ClosedByUser, Closes, code_octets, CodeLength, CodeRule, comes_up, Completes, cond}
@@ -32,7 +33,8 @@ ReadLaw = (ms : List (List ℕ)) (octets : List ℕ) → UnitText ms octets → 
 abbrev pub CompleteLaw : Type 0
 CompleteLaw = (p : Pdu) (rule : CodeRule) (octets : List ℕ) → SafeText p rule octets → safe_seen rule octets ≡ Ok p
 
--- The laws of the layers below, each by what it says: of units and their messages, of sessions, of machines, of texts, of the redundancy layer.
+-- The laws of the layers below, each by what it says: of units and their messages, of sessions, of machines, of texts,
+-- of the redundancy layer.
 pub record Laws : Type 0 where
   pub read : ReadLaw
   pub message : MessageLaw
@@ -107,10 +109,12 @@ goes-of now Q P k = record { ends = k.ends; hears = k.hears; sends = k.sends }
 
 module _ (now : ℕ) (Q : EndState → List ℕ → Type 0) (P : EndState → Type 0) (k : Goes now Q P) where
   pub keep-settle : (x : EndState) → P x → P (settle x)
-  keep-settle x h = by_cond P (is_shut x) (with_session (process_event Closes x.session) x) x (λ shut. k.ends x shut h) (λ _. h)
+  keep-settle x h =
+      by_cond P (is_shut x) (with_session (process_event Closes x.session) x) x (λ shut. k.ends x shut h) (λ _. h)
 
   pub keep-part : (octets : List ℕ) (x : EndState) → Q x octets → P x → P (part_step now octets x)
-  keep-part octets x q h = subst P (sym (part-is now octets x)) (keep-settle (heard now octets x) (k.hears octets x q h))
+  keep-part octets x q h =
+      subst P (sym (part-is now octets x)) (keep-settle (heard now octets x) (k.hears octets x q h))
 
   pub keep-parts : (ps : List Part) (x : EndState) → AtParts Q now ps x → P x → P (parts_step now ps x)
   keep-parts [] x q h = h
@@ -131,8 +135,11 @@ module _ (now : ℕ) (Q : EndState → List ℕ → Type 0) (P : EndState → Ty
   pub keep-ticked : (x : EndState) → P (with_machine (tick now x.machine) x) → P (tick_step now x)
   keep-ticked x h = subst P (sym (ticked-is now x)) (keep-settle (with_machine (tick now x.machine) x) h)
 
-  pub keep-closed : (x : EndState) → P (with_machine (leave ClosedByUser Unspecified now x.machine) x) → P (step (close_turn now) x)
-  keep-closed x h = subst P (sym (closed-step-is now x)) (keep-settle (with_machine (leave ClosedByUser Unspecified now x.machine) x) h)
+  pub keep-closed : (x : EndState) → P (with_machine (leave ClosedByUser Unspecified now x.machine) x)
+      → P (step (close_turn now) x)
+  keep-closed x h =
+      subst P (sym (closed-step-is now x)) (keep-settle (with_machine (leave ClosedByUser Unspecified now x.machine) x)
+      h)
 
   pub keep-goes_on : (i : Input) (x : EndState) → AtInput Q now i x → P (with_input i x) → P x → P (goes_on now i x)
   keep-goes_on i x q came h =
@@ -149,9 +156,11 @@ any-parts now [] x = tt
 any-parts now (p ∷ ps) x = (tt, any-parts now ps (part_step now p.1 x))
 
 -- the call's own time
-pub call-keeps : (c : Call) (Q : EndState → List ℕ → Type 0) (P : EndState → Type 0) (x : EndState) → Keeps (time_of c) Q P → IsTypedCall c → AtCall Q c x → P x
+pub call-keeps : (c : Call) (Q : EndState → List ℕ → Type 0) (P : EndState → Type 0) (x : EndState)
+    → Keeps (time_of c) Q P → IsTypedCall c → AtCall Q c x → P x
     → P (call c x)
-call-keeps (Close now) Q P x k t q h = k.times (did (Close now) x) (keep-closed now Q P (goes-of now Q P k) x (k.closes x h))
+call-keeps (Close now) Q P x k t q h =
+    k.times (did (Close now) x) (keep-closed now Q P (goes-of now Q P k) x (k.closes x h))
 call-keeps (Put kind payload now) Q P x k t q h =
     let y : EndState = step (queue_turn kind payload) x in
     let queued = subst P (sym (queued-is kind payload x)) (k.puts kind payload x t h) in
@@ -164,7 +173,8 @@ call-keeps (Tick now) Q P x k t q h =
     k.times (did (Tick now) x)
     (by_cond P (is_shut x) x (goes_on now (RedTick now) (tick_step now x)) (λ _. h) (λ open-still.
     let y = keep-ticked now Q P (goes-of now Q P k) x (k.ticks x h) in
-    keep-goes_on now Q P (goes-of now Q P k) (RedTick now) (tick_step now x) (q open-still) (k.inputs (RedTick now) (tick_step now x) tt y) y))
+    keep-goes_on now Q P (goes-of now Q P k) (RedTick now) (tick_step now x) (q open-still)
+    (k.inputs (RedTick now) (tick_step now x) tt y) y))
 call-keeps (Deliver channel octets now) Q P x k t q h =
     k.times (did (Deliver channel octets now) x)
     (by_cond P (is_shut x) x (goes_on now (Datagram octets now) (guard_step now x)) (λ _. h) (λ open-still.
@@ -173,8 +183,10 @@ call-keeps (Deliver channel octets now) Q P x k t q h =
     (k.inputs (Datagram octets now) (guard_step now x) t y) y))
 
 -- what an end that may disconnect keeps
-pub leaves-same : (now : ℕ) (why : Option Leaving) (y : EndState) → ((leaves now why y).settings ≡ y.settings) × ((leaves now why y).request ≡ y.request)
-    × ((leaves now why y).inputs ≡ y.inputs) × ((leaves now why y).red ≡ y.red) × ((leaves now why y).session ≡ y.session)
+pub leaves-same : (now : ℕ) (why : Option Leaving) (y : EndState) → ((leaves now why y).settings ≡ y.settings)
+    × ((leaves now why y).request ≡ y.request)
+    × ((leaves now why y).inputs ≡ y.inputs) × ((leaves now why y).red ≡ y.red)
+    × ((leaves now why y).session ≡ y.session)
 leaves-same now why y = grind (arith, nat_tests)
 
 -- the settings, and all inputs except the one that comes
@@ -197,15 +209,18 @@ pub same-length : (m n : CodeLength) → code_octets m ≡ code_octets n → m �
 same-length m n h = grind (arith, nat_tests)
 
 -- all of two lists
-pub all-append : {X : Type 0} (P : X → Type 0) (xs ys : List X) → AllByRecursion P xs → AllByRecursion P ys → AllByRecursion P (xs ++ ys)
+pub all-append : {X : Type 0} (P : X → Type 0) (xs ys : List X) → AllByRecursion P xs → AllByRecursion P ys
+    → AllByRecursion P (xs ++ ys)
 all-append P [] ys h k = k
 all-append P (x ∷ xs) ys h k = (h.0, all-append P xs ys h.1 k)
 
-pub all-parts : {X : Type 0} (P : X → Type 0) (xs ys : List X) → AllByRecursion P (xs ++ ys) → AllByRecursion P xs × AllByRecursion P ys
+pub all-parts : {X : Type 0} (P : X → Type 0) (xs ys : List X) → AllByRecursion P (xs ++ ys)
+    → AllByRecursion P xs × AllByRecursion P ys
 all-parts P [] ys h = (tt, h)
 all-parts P (x ∷ xs) ys h = let r = all-parts P xs ys h.1 in ((h.0, r.0), r.1)
 
-pub all-map : {X : Type 0} (P Q : X → Type 0) → ((x : X) → P x → Q x) → (xs : List X) → AllByRecursion P xs → AllByRecursion Q xs
+pub all-map : {X : Type 0} (P Q : X → Type 0) → ((x : X) → P x → Q x) → (xs : List X) → AllByRecursion P xs
+    → AllByRecursion Q xs
 all-map P Q k [] h = tt
 all-map P Q k (x ∷ xs) h = (k x h.0, all-map P Q k xs h.1)
 
@@ -230,7 +245,8 @@ pub record Talk (addressing : Addressing) (role : Role) (gone : List (List ℕ))
   pub messages : AllByRecursion HasMessage d.history.queue
   pub queue : texts d.history.queue ≡ gone ++ d.waiting
 
-pub talk-meets : Laws → (a : Addressing) (r : Role) (gone : List (List ℕ)) (e : Event) (d : Dialogue) → HasKind e → Talk a r gone d → Talk a r gone (process_event e d)
+pub talk-meets : Laws → (a : Addressing) (r : Role) (gone : List (List ℕ)) (e : Event) (d : Dialogue) → HasKind e
+    → Talk a r gone d → Talk a r gone (process_event e d)
 talk-meets laws a r gone e d kind h =
     let added = added_by e d.history.state in
     record {
@@ -238,13 +254,17 @@ talk-meets laws a r gone e d kind h =
       kinds = all-append HasKind h.events (e ∷ []) h.kinds (kind, tt);
       history = ap (add_event e) h.history ∙ sym (laws.one_more.0 h.events e (new_history a r));
       settings = h.settings;
-      messages = all-append HasMessage d.history.queue added h.messages (laws.message d.history.state e h.settings kind);
-      queue = texts-append d.history.queue added ∙ ap (λ ms. ms ++ texts added) h.queue ∙ append_assoc gone d.waiting (texts added);
+      messages =
+          all-append HasMessage d.history.queue added h.messages (laws.message d.history.state e h.settings kind);
+      queue = texts-append d.history.queue added ∙ ap (λ ms. ms ++ texts added) h.queue
+          ∙ append_assoc gone d.waiting (texts added);
     }
 
 -- What the judging of each telegram keeps, the judging of units keeps.
-module _ (P : Dialogue → Type 0) (read : (seen : Result Tele TeleFault) (d : Dialogue) → P d → P (judge_read seen d).left) where
-  kept-unless : (why : Option Leaving) (first rest : Judgement) → P first.left → P rest.left → P (unless_leaving why first rest).left
+module _ (P : Dialogue → Type 0) (read : (seen : Result Tele TeleFault) (d : Dialogue) → P d
+    → P (judge_read seen d).left) where
+  kept-unless : (why : Option Leaving) (first rest : Judgement) → P first.left → P rest.left
+      → P (unless_leaving why first rest).left
   kept-unless None first rest h k = k
   kept-unless (Some why) first rest h k = h
 
@@ -266,12 +286,14 @@ module _ (P : Dialogue → Type 0) (read : (seen : Result Tele TeleFault) (d : D
       let one = kept-unpacked (unit_seen u) d h in
       kept-unless first.leaving first (judge_units us first.left) one (kept-units us first.left one)
 
-talk-read : Laws → (a : Addressing) (r : Role) (gone : List (List ℕ)) (seen : Result Tele TeleFault) (d : Dialogue) → Talk a r gone d
+talk-read : Laws → (a : Addressing) (r : Role) (gone : List (List ℕ)) (seen : Result Tele TeleFault) (d : Dialogue)
+    → Talk a r gone d
     → Talk a r gone (judge_read seen d).left
 talk-read laws a r gone (Ok t) d h = talk-meets laws a r gone (Arrives t) d tt h
 talk-read laws a r gone (Err fault) d h = h
 
-pub talk-units : Laws → (a : Addressing) (r : Role) (gone us : List (List ℕ)) (d : Dialogue) → Talk a r gone d → Talk a r gone (judge_units us d).left
+pub talk-units : Laws → (a : Addressing) (r : Role) (gone us : List (List ℕ)) (d : Dialogue) → Talk a r gone d
+    → Talk a r gone (judge_units us d).left
 talk-units laws a r gone us d h = kept-units (Talk a r gone) (talk-read laws a r gone) us d h
 
 -- What judging adds to the telegrams judged: the first of those that came, and all of them if the end goes on.
@@ -282,22 +304,29 @@ pub record Hearing (d : Dialogue) (came : List Tele) (j : Judgement) : Type 0 wh
   pub whole : j.leaving ≡ None → front ≡ came
 
 hearing-none : (d : Dialogue) → Hearing d [] (judge_nothing d)
-hearing-none d = record { front = []; judged = sym (append-nil d.history.judged); begins = ([], refl); whole = λ _. refl }
+hearing-none d =
+    record { front = []; judged = sym (append-nil d.history.judged); begins = ([], refl); whole = λ _. refl }
 
 hearing-as : (why : Leaving) (d : Dialogue) (came : List Tele) → Hearing d came (judge_as why d)
-hearing-as why d came = record { front = []; judged = sym (append-nil d.history.judged); begins = (came, refl); whole = λ e. cc }
+hearing-as why d came =
+    record { front = []; judged = sym (append-nil d.history.judged); begins = (came, refl); whole = λ e. cc }
 
 pub hearing-read : (seen : Result Tele TeleFault) (d : Dialogue) → Hearing d (found_telegram seen) (judge_read seen d)
 hearing-read (Ok t) d = record { front = t ∷ []; judged = refl; begins = ([], refl); whole = λ _. refl }
 hearing-read (Err fault) d = hearing-as _ d []
 
-hearing-then : (d : Dialogue) (came more : List Tele) (first rest : Judgement) (why : Option Leaving) → first.leaving ≡ why → Hearing d came first
+hearing-then : (d : Dialogue) (came more : List Tele) (first rest : Judgement) (why : Option Leaving)
+    → first.leaving ≡ why → Hearing d came first
     → Hearing first.left more rest → Hearing d (came ++ more) (unless_leaving why first rest)
 hearing-then d came more first rest None e h k =
     record {
       front = h.front ++ k.front;
       judged = k.judged ∙ ap (λ ts. ts ++ k.front) h.judged ∙ append_assoc d.history.judged h.front k.front;
-      begins = (k.begins.0, append_assoc h.front k.front k.begins.0 ∙ ap (λ ts. h.front ++ ts) k.begins.1 ∙ ap (λ ts. ts ++ more) (h.whole e));
+      begins = (
+        k.begins.0,
+        append_assoc h.front k.front k.begins.0 ∙ ap (λ ts. h.front ++ ts) k.begins.1
+            ∙ ap (λ ts. ts ++ more) (h.whole e),
+      );
       whole = λ none. ap (λ ts. h.front ++ ts) (k.whole none) ∙ ap (λ ts. ts ++ more) (h.whole e);
     }
 hearing-then d came more first rest (Some why) e h k =
@@ -312,10 +341,12 @@ hearing-messages : (ms : List (List ℕ)) (d : Dialogue) → Hearing d (telegram
 hearing-messages [] d = hearing-none d
 hearing-messages (m ∷ ms) d =
     let first = judge_read (tele_seen m) d in
-    hearing-then d (found_telegram (tele_seen m)) (telegrams_in ms) first (judge_messages ms first.left) first.leaving refl (hearing-read (tele_seen m) d)
+    hearing-then d (found_telegram (tele_seen m)) (telegrams_in ms) first (judge_messages ms first.left) first.leaving
+    refl (hearing-read (tele_seen m) d)
     (hearing-messages ms first.left)
 
-pub hearing-unpacked : (seen : Result (List (List ℕ)) PackFault) (d : Dialogue) → Hearing d (telegrams_in (found_messages seen)) (judge_unpacked seen d)
+pub hearing-unpacked : (seen : Result (List (List ℕ)) PackFault) (d : Dialogue)
+    → Hearing d (telegrams_in (found_messages seen)) (judge_unpacked seen d)
 hearing-unpacked (Ok ms) d = hearing-messages ms d
 hearing-unpacked (Err fault) d = hearing-as _ d []
 
@@ -324,14 +355,17 @@ hearing-units [] d = hearing-none d
 hearing-units (u ∷ us) d =
     let first = judge_unpacked (unit_seen u) d in
     let rest = judge_units us first.left in
-    subst (λ ts. Hearing d ts (unless_leaving first.leaving first rest)) (sym (telegrams-append (found_messages (unit_seen u)) (messages_in us)))
-    (hearing-then d (telegrams_in (found_messages (unit_seen u))) (telegrams_in (messages_in us)) first rest first.leaving refl
+    subst (λ ts. Hearing d ts (unless_leaving first.leaving first rest))
+    (sym (telegrams-append (found_messages (unit_seen u)) (messages_in us)))
+    (hearing-then d (telegrams_in (found_messages (unit_seen u))) (telegrams_in (messages_in us)) first rest
+    first.leaving refl
     (hearing-unpacked (unit_seen u) d) (hearing-units us first.left))
 
 -- each telegram of the queue is read from its message
 pub queue-read : (ts : List Tele) → AllByRecursion HasMessage ts → telegrams_in (texts ts) ≡ ts
 queue-read [] h = refl
-queue-read (t ∷ ts) h = ap (λ seen. found_telegram seen ++ telegrams_in (texts ts)) h.0.read ∙ ap (λ us. t ∷ us) (queue-read ts h.1)
+queue-read (t ∷ ts) h = ap (λ seen. found_telegram seen ++ telegrams_in (texts ts)) h.0.read
+    ∙ ap (λ us. t ∷ us) (queue-read ts h.1)
 
 abbrev pub AllMessages : List (List ℕ) → Type 0
 AllMessages ms = AllByRecursion IsMessage ms
@@ -348,11 +382,21 @@ pub take-some : {X : Type 0} (n : ℕ) (xs : List X) → 1 ≤ n → is_nil xs �
 take-some n xs h k = grind (arith, nat_tests, length-take)
 
 -- so long is the text of messages, by how many they are
-pub unit-size : (ms : List (List ℕ)) → AllMessages ms → (45 * length ms ≤ length (unit_text ms)) × (length (unit_text ms) ≤ 402 * length ms)
+pub unit-size : (ms : List (List ℕ)) → AllMessages ms → (45 * length ms ≤ length (unit_text ms))
+    × (length (unit_text ms) ≤ 402 * length ms)
 unit-size [] h = (omega arith, omega arith)
-unit-size (m ∷ ms) h = grind (arith, unit-size ms h.1, h.0.0, h.0.1, length-append (piece m) (unit_text ms), length-append (little_bytes 2 (length m)) m)
+unit-size (m ∷ ms) h =
+    grind (
+      arith,
+      unit-size ms h.1,
+      h.0.0,
+      h.0.1,
+      length-append (piece m) (unit_text ms),
+      length-append (little_bytes 2 (length m)) m,
+    )
 
-pub is-unit : (n : ℕ) (ms : List (List ℕ)) → 1 ≤ n → n ≤ UNIT_MESSAGES → is_nil ms ≡ false → AllMessages ms → UnitText (take n ms) (unit_text (take n ms))
+pub is-unit : (n : ℕ) (ms : List (List ℕ)) → 1 ≤ n → n ≤ UNIT_MESSAGES → is_nil ms ≡ false → AllMessages ms
+    → UnitText (take n ms) (unit_text (take n ms))
 is-unit n ms some few waits h =
     record {
       some = take-some n ms some waits;
@@ -361,7 +405,8 @@ is-unit n ms some few waits h =
       spelled = refl;
     }
 
-pub unit-sized : (n : ℕ) (ms : List (List ℕ)) → 1 ≤ n → n ≤ UNIT_MESSAGES → is_nil ms ≡ false → AllMessages ms → IsUnitSized (unit_text (take n ms))
+pub unit-sized : (n : ℕ) (ms : List (List ℕ)) → 1 ≤ n → n ≤ UNIT_MESSAGES → is_nil ms ≡ false → AllMessages ms
+    → IsUnitSized (unit_text (take n ms))
 unit-sized n ms some few waits h =
     let size = unit-size (take n ms) (all-take IsMessage n ms h) in
     let least = take-some n ms some waits in
@@ -386,7 +431,8 @@ pub closed-is : (c : ConnectionState) → is_closed c ≡ true → c ≡ Closed
 closed-is c h = grind (arith, nat_tests)
 
 -- a machine that is open after a move was open before
-pub was-open : MovesLaw → (m : Move) (s : State) → is_closed (move m s).connection ≡ false → is_closed s.connection ≡ false
+pub was-open : MovesLaw → (m : Move) (s : State) → is_closed (move m s).connection ≡ false
+    → is_closed s.connection ≡ false
 was-open law m s on = grind (arith, (law m s).closed, closed-is)
 
 -- the machine sends and takes no unit
@@ -395,7 +441,8 @@ pub record Still (s t : State) : Type 0 where
   pub taken : t.taken ≡ s.taken
   pub back : is_closed t.connection ≡ false → is_closed s.connection ≡ false
 
-pub still-by : MovesLaw → (m : Move) (s : State) → sent_by m s ≡ [] → ((more : List (List ℕ)) → IsTakenBy m more → more ≡ []) → Still s (move m s)
+pub still-by : MovesLaw → (m : Move) (s : State) → sent_by m s ≡ []
+    → ((more : List (List ℕ)) → IsTakenBy m more → more ≡ []) → Still s (move m s)
 still-by law m s none nothing =
     let one = law m s in
     record {
@@ -404,18 +451,22 @@ still-by law m s none nothing =
       back = was-open law m s;
     }
 
-pub spoken-still : (side : Side) (x : EndState) (s : State) → Still x.machine s → Spoken side x → Spoken side (with_machine s x)
-spoken-still side x s t h = grind (arith, nat_tests, h.begins, h.fit, h.talk, h.unpack, h.whole, t.back, t.sent, t.taken)
+pub spoken-still : (side : Side) (x : EndState) (s : State) → Still x.machine s → Spoken side x
+    → Spoken side (with_machine s x)
+spoken-still side x s t h =
+    grind (arith, nat_tests, h.begins, h.fit, h.talk, h.unpack, h.whole, t.back, t.sent, t.taken)
 
 -- an event of the session that brings it no telegram
 pub spoken-meets : Laws → (side : Side) (e : Event) (x : EndState) → HasKind e → handed_by e ≡ [] → Spoken side x
     → Spoken side (with_session (process_event e x.session) x)
 spoken-meets laws side e x kind quiet h =
-    let same : (process_event e x.session).history.judged ≡ x.session.history.judged = ap (λ ts. x.session.history.judged ++ ts) quiet
+    let same : (process_event e x.session).history.judged
+    ≡ x.session.history.judged = ap (λ ts. x.session.history.judged ++ ts) quiet
     ∙ append-nil x.session.history.judged in
     record {
       fit = h.fit;
-      talk = talk-meets laws x.settings.addressing (session_of side x.settings) (messages_in (units x.machine.made)) e x.session kind h.talk;
+      talk = talk-meets laws x.settings.addressing (session_of side x.settings) (messages_in (units x.machine.made)) e
+          x.session kind h.talk;
       unpack = h.unpack;
       begins = subst (λ ts. IsBeginning ts (came x.machine)) (sym same) h.begins;
       whole = λ on. same ∙ h.whole on;
@@ -429,12 +480,15 @@ pub nil-behind : {X : Type 0} (a b : List X) → a ++ b ≡ [] → b ≡ []
 nil-behind [] b e = e
 nil-behind (x ∷ a) b e = cc
 
-pub came-more : (taken more : List (List ℕ)) → telegrams_in (messages_in (taken ++ more)) ≡ telegrams_in (messages_in taken) ++ telegrams_in (messages_in more)
-came-more taken more = ap telegrams_in (messages-append taken more) ∙ telegrams-append (messages_in taken) (messages_in more)
+pub came-more : (taken more : List (List ℕ))
+    → telegrams_in (messages_in (taken ++ more)) ≡ telegrams_in (messages_in taken) ++ telegrams_in (messages_in more)
+came-more taken more =
+    ap telegrams_in (messages-append taken more) ∙ telegrams-append (messages_in taken) (messages_in more)
 
 -- if no unit is taken, no unit goes up
 pub handed-none : (x : EndState) (s : State) → s.taken ≡ x.machine.taken → handed_up x s ≡ []
-handed-none x s e = ap (drop (length x.machine.taken)) (e ∙ sym (append-nil x.machine.taken)) ∙ drop-append_seam x.machine.taken []
+handed-none x s e = ap (drop (length x.machine.taken)) (e ∙ sym (append-nil x.machine.taken))
+    ∙ drop-append_seam x.machine.taken []
 
 hears-sends : (r : Result Pdu SafeFault) (now : ℕ) (s : State) → sent_by (heard_as r now) s ≡ []
 hears-sends r now s = grind (arith, nat_tests)
@@ -452,13 +506,15 @@ hands-up law now octets x =
     let m = heard_as (seen_by x.machine octets) now in
     let s = arrive_octets octets now x.machine in
     let one = law m x.machine in
-    let more : handed_up x s ≡ one.more_taken = ap (drop (length x.machine.taken)) one.taken ∙ drop-append_seam x.machine.taken one.more_taken in
+    let more : handed_up x s ≡ one.more_taken = ap (drop (length x.machine.taken)) one.taken
+    ∙ drop-append_seam x.machine.taken one.more_taken in
     let taken : s.taken ≡ x.machine.taken ++ handed_up x s = one.taken ∙ ap (λ us. x.machine.taken ++ us) (sym more) in
     let still : is_shut x ≡ true → s ≡ x.machine = λ shut. one.closed (closed-is x.machine.connection shut) in
     record {
       taken = taken;
       all = ap (λ ts. telegrams_in (messages_in ts)) taken ∙ came-more x.machine.taken (handed_up x s);
-      sent = one.sent ∙ ap (λ us. units x.machine.made ++ us) (hears-sends (seen_by x.machine octets) now x.machine) ∙ append-nil (units x.machine.made);
+      sent = one.sent ∙ ap (λ us. units x.machine.made ++ us) (hears-sends (seen_by x.machine octets) now x.machine)
+          ∙ append-nil (units x.machine.made);
       still = still;
       nothing = λ shut. handed-none x s (ap (λ (t : State). t.taken) (still shut));
     }
@@ -472,26 +528,33 @@ pub record Nearly (side : Side) (x : EndState) : Type 0 where
 
 spoken-leaves : MovesLaw → (side : Side) (now : ℕ) (why : Option Leaving) (y : EndState) → Nearly side y
     → (why ≡ None → is_shut y ≡ false → y.session.history.judged ≡ came y.machine) → Spoken side (leaves now why y)
-spoken-leaves law side now None y h whole = record { fit = h.fit; talk = h.talk; unpack = h.unpack; begins = h.begins; whole = whole refl }
+spoken-leaves law side now None y h whole =
+    record { fit = h.fit; talk = h.talk; unpack = h.unpack; begins = h.begins; whole = whole refl }
 spoken-leaves law side now (Some why) y h whole =
-    let t : Still y.machine (leave why.0 why.1 now y.machine) = still-by law (Leaves why.0 why.1 now) y.machine refl (λ more e. e) in
+    let t : Still y.machine (leave why.0 why.1 now y.machine) = still-by law (Leaves why.0 why.1 now) y.machine refl
+    (λ more e. e) in
     record {
       fit = h.fit;
-      talk = subst (λ us. Talk y.settings.addressing (session_of side y.settings) (messages_in us) y.session) (sym t.sent) h.talk;
+      talk = subst (λ us. Talk y.settings.addressing (session_of side y.settings) (messages_in us) y.session)
+          (sym t.sent) h.talk;
       unpack = subst (λ us. AllByRecursion Unpacks us) (sym t.sent) h.unpack;
-      begins = subst (λ us. IsBeginning y.session.history.judged (telegrams_in (messages_in us))) (sym t.taken) h.begins;
+      begins =
+          subst (λ us. IsBeginning y.session.history.judged (telegrams_in (messages_in us))) (sym t.taken) h.begins;
       whole = λ on. cc;
     }
 
-pub rises-same : (b : Bool) (d : Dialogue) → ((bring_up b d).history.judged ≡ d.history.judged) × ((bring_up b d).history.taken ≡ d.history.taken)
+pub rises-same : (b : Bool) (d : Dialogue) → ((bring_up b d).history.judged ≡ d.history.judged)
+    × ((bring_up b d).history.taken ≡ d.history.taken)
     × ((bring_up b d).history.ended_in ≡ d.history.ended_in) × ((bring_up b d).history.put ≡ d.history.put)
 rises-same b d = grind (arith, nat_tests, append-nil)
 
-rises-talk : Laws → (a : Addressing) (r : Role) (gone : List (List ℕ)) (b : Bool) (d : Dialogue) → Talk a r gone d → Talk a r gone (bring_up b d)
+rises-talk : Laws → (a : Addressing) (r : Role) (gone : List (List ℕ)) (b : Bool) (d : Dialogue) → Talk a r gone d
+    → Talk a r gone (bring_up b d)
 rises-talk laws a r gone true d h = talk-meets laws a r gone GoesUp d tt h
 rises-talk laws a r gone false d h = h
 
-pub spoken-hears : Laws → (side : Side) (now : ℕ) (octets : List ℕ) (x : EndState) → Spoken side x → Spoken side (heard now octets x)
+pub spoken-hears : Laws → (side : Side) (now : ℕ) (octets : List ℕ) (x : EndState) → Spoken side x
+    → Spoken side (heard now octets x)
 spoken-hears laws side now octets x h =
     let s = arrive_octets octets now x.machine in
     let step = hands-up laws.moves now octets x in
@@ -501,7 +564,8 @@ spoken-hears laws side now octets x h =
     let up = comes_up x.machine.connection s.connection in
     let a = x.settings.addressing in
     let r = session_of side x.settings in
-    let judged : (bring_up up j.left).history.judged ≡ x.session.history.judged ++ hear.front = (rises-same up j.left).0 ∙ hear.judged in
+    let judged : (bring_up up j.left).history.judged ≡ x.session.history.judged ++ hear.front = (rises-same up j.left).0
+    ∙ hear.judged in
     let near : Nearly side (answered octets x s) =
     record {
       fit = h.fit;
@@ -515,8 +579,10 @@ spoken-hears laws side now octets x h =
           (λ shut _.
           let same : s ≡ x.machine = step.still shut in
           let front : hear.front ≡ [] =
-          nil-front hear.front hear.begins.0 (hear.begins.1 ∙ ap (λ vs. telegrams_in (messages_in vs)) (step.nothing shut)) in
-          subst (λ ts. IsBeginning ts (came s)) (sym (judged ∙ ap (λ ts. x.session.history.judged ++ ts) front ∙ append-nil x.session.history.judged))
+          nil-front hear.front hear.begins.0 (hear.begins.1
+          ∙ ap (λ vs. telegrams_in (messages_in vs)) (step.nothing shut)) in
+          subst (λ ts. IsBeginning ts (came s)) (sym (judged ∙ ap (λ ts. x.session.history.judged ++ ts) front
+          ∙ append-nil x.session.history.judged))
           (subst (λ (t : State). IsBeginning x.session.history.judged (came t)) (sym same) h.begins))
           (λ on _. (
             hear.begins.0,
@@ -531,7 +597,8 @@ spoken-hears laws side now octets x h =
     spoken-leaves laws.moves side now j.leaving (answered octets x s) near
     (λ none on.
     judged ∙ ap (λ ts. x.session.history.judged ++ ts) (hear.whole none)
-    ∙ ap (λ ts. ts ++ telegrams_in (messages_in us)) (h.whole (was-open laws.moves (heard_as (seen_by x.machine octets) now) x.machine on)) ∙ sym step.all)
+    ∙ ap (λ ts. ts ++ telegrams_in (messages_in us))
+    (h.whole (was-open laws.moves (heard_as (seen_by x.machine octets) now) x.machine on)) ∙ sym step.all)
 
 pub and-parts : (a b : Bool) → (a && b) ≡ true → (a ≡ true) × (b ≡ true)
 and-parts a b h = grind (arith, nat_tests)
@@ -543,7 +610,8 @@ pub legal-of : (side : Side) (s : EndSettings) → are_fit side s ≡ true → i
 legal-of side s h = (and-parts (is_legal s.connection) _ h).0
 
 -- an end packs one to three messages
-pub packs-some : (side : Side) (s : EndSettings) → are_fit side s ≡ true → (1 ≤ s.n_maxpacket) × (s.n_maxpacket ≤ UNIT_MESSAGES)
+pub packs-some : (side : Side) (s : EndSettings) → are_fit side s ≡ true
+    → (1 ≤ s.n_maxpacket) × (s.n_maxpacket ≤ UNIT_MESSAGES)
 packs-some side s h = grind (arith, nat_tests, limits-of side s h)
 
 texts-sized : (ts : List Tele) → AllByRecursion HasMessage ts → AllMessages (texts ts)
@@ -556,7 +624,8 @@ waits-sized side x h =
     (all-parts IsMessage (messages_in (units x.machine.made)) x.session.waiting
     (subst AllMessages h.talk.queue (texts-sized x.session.history.queue h.talk.messages))).1
 
-pub spoken-packed : Laws → (side : Side) (now : ℕ) (x : EndState) → may_send x.machine ≡ true → is_nil x.session.waiting ≡ false → Spoken side x
+pub spoken-packed : Laws → (side : Side) (now : ℕ) (x : EndState) → may_send x.machine ≡ true
+    → is_nil x.session.waiting ≡ false → Spoken side x
     → Spoken side (packed now x)
 spoken-packed laws side now x may some h =
     let n = x.settings.n_maxpacket in
@@ -564,11 +633,14 @@ spoken-packed laws side now x may some h =
     let front = take n waiting in
     let unit = unit_text front in
     let few = packs-some side x.settings h.fit in
-    let read : unit_seen unit ≡ Ok front = laws.read front unit (is-unit n waiting few.0 few.1 some (waits-sized side x h)) in
+    let read : unit_seen unit ≡ Ok front = laws.read front unit
+    (is-unit n waiting few.0 few.1 some (waits-sized side x h)) in
     let one = laws.moves (Sends unit now) x.machine in
     let s = send unit now x.machine in
-    let sent : units s.made ≡ units x.machine.made ++ unit ∷ [] = one.sent ∙ ap (λ (b : Bool). units x.machine.made ++ cond b (unit ∷ []) []) may in
-    let taken : s.taken ≡ x.machine.taken = one.taken ∙ ap (λ us. x.machine.taken ++ us) one.one_taken ∙ append-nil x.machine.taken in
+    let sent : units s.made ≡ units x.machine.made ++ unit ∷ [] = one.sent
+    ∙ ap (λ (b : Bool). units x.machine.made ++ cond b (unit ∷ []) []) may in
+    let taken : s.taken ≡ x.machine.taken = one.taken ∙ ap (λ us. x.machine.taken ++ us) one.one_taken
+    ∙ append-nil x.machine.taken in
     let gone = messages_in (units x.machine.made) in
     let gone-now : messages_in (units s.made) ≡ gone ++ front =
     ap messages_in sent ∙ messages-append (units x.machine.made) (unit ∷ [])
@@ -585,19 +657,24 @@ spoken-packed laws side now x may some h =
             settings = h.talk.settings;
             messages = h.talk.messages;
             queue =
-                h.talk.queue ∙ ap (λ ms. gone ++ ms) (sym (take-append-drop n waiting)) ∙ sym (append_assoc gone front rest)
+                h.talk.queue ∙ ap (λ ms. gone ++ ms) (sym (take-append-drop n waiting))
+                ∙ sym (append_assoc gone front rest)
                 ∙ ap (λ ms. ms ++ rest) (sym gone-now);
           };
-      unpack = subst (λ us. AllByRecursion Unpacks us) (sym sent) (all-append Unpacks (units x.machine.made) (unit ∷ []) h.unpack ((front, read), tt));
+      unpack = subst (λ us. AllByRecursion Unpacks us) (sym sent)
+          (all-append Unpacks (units x.machine.made) (unit ∷ []) h.unpack ((front, read), tt));
       begins = subst (λ us. IsBeginning x.session.history.judged (telegrams_in (messages_in us))) (sym taken) h.begins;
-      whole = λ on. h.whole (was-open laws.moves (Sends unit now) x.machine on) ∙ ap (λ us. telegrams_in (messages_in us)) (sym taken);
+      whole = λ on. h.whole (was-open laws.moves (Sends unit now) x.machine on)
+          ∙ ap (λ us. telegrams_in (messages_in us)) (sym taken);
     }
 
 abbrev pub Packs : EndState → Type 0
 Packs x = (is_nil x.session.waiting ≡ true) ⊎ (may_send x.machine ≡ false)
 
 shut-packs : (x : EndState) → is_shut x ≡ true → Packs x
-shut-packs x shut = inr (ap (λ c. in_turn c && nat_lt (length (unconfirmed x.machine)) x.machine.window) (closed-is x.machine.connection shut))
+shut-packs x shut =
+    inr (ap (λ c. in_turn c && nat_lt (length (unconfirmed x.machine)) x.machine.window)
+    (closed-is x.machine.connection shut))
 
 dropped-shorter : (n m : ℕ) (ms : List (List ℕ)) → 1 ≤ n → length ms ≤ suc m → length (drop n ms) ≤ m
 dropped-shorter n m ms some le = omega (arith, some, le, length-drop n ms)
@@ -606,7 +683,8 @@ nil-short : (ms : List (List ℕ)) → length ms ≤ 0 → is_nil ms ≡ true
 nil-short ms h = grind (arith, nat_tests)
 
 -- as many times as messages wait are enough
-packed-all : (n now : ℕ) (x : EndState) → 1 ≤ x.settings.n_maxpacket → length x.session.waiting ≤ n → Packs (packed_up_to n now x)
+packed-all : (n now : ℕ) (x : EndState) → 1 ≤ x.settings.n_maxpacket → length x.session.waiting ≤ n
+    → Packs (packed_up_to n now x)
 packed-all zero now x some le = inl (nil-short x.session.waiting le)
 packed-all (suc n) now x some le =
     let y = step (pack_turn now) x in
@@ -622,15 +700,18 @@ pub sends-packs : (now : ℕ) (x : EndState) → PacksSome x → Packs (sends no
 sends-packs now x some = packed-all (length x.session.waiting) now x some (omega arith)
 
 pub goes-packs : (now : ℕ) (i : Input) (x : EndState) → PacksSome (input_step now i x) → Packs (goes_on now i x)
-goes-packs now i x some = by_cond Packs (is_shut x) x (sends now (input_step now i x)) (λ shut. shut-packs x shut) (λ _. sends-packs now (input_step now i x) some)
+goes-packs now i x some = by_cond Packs (is_shut x) x (sends now (input_step now i x)) (λ shut. shut-packs x shut)
+    (λ _. sends-packs now (input_step now i x) some)
 
 settle-shut : (x : EndState) → is_shut x ≡ true → is_shut (settle x) ≡ true
-settle-shut x shut = by_cond (λ (y : EndState). is_shut y ≡ true) (is_shut x) (with_session (process_event Closes x.session) x) x (λ _. shut) (λ _. shut)
+settle-shut x shut = by_cond (λ (y : EndState). is_shut y ≡ true) (is_shut x)
+    (with_session (process_event Closes x.session) x) x (λ _. shut) (λ _. shut)
 
 receives-some : (now : ℕ) (i : Input) (x y : EndState) → Steady x y → PacksSome x → PacksSome (input_step now i y)
 receives-some now i x y moved-on some =
     let heard-on : Steady (with_input i y) (input_step now i y) =
-    keep-parts now AnyPart (Steady (with_input i y)) (steady-goes now (with_input i y)) (parts_passed i y.red) (with_input i y)
+    keep-parts now AnyPart (Steady (with_input i y)) (steady-goes now (with_input i y)) (parts_passed i y.red)
+    (with_input i y)
     (any-parts now (parts_passed i y.red) (with_input i y)) (record { set = refl; inputs = refl })
     in
     subst (λ (s : EndSettings). 1 ≤ s.n_maxpacket) (sym (heard-on.set ∙ moved-on.set)) some
@@ -643,7 +724,8 @@ call-packs (Put kind payload now) x some = sends-packs now (step (queue_turn kin
 call-packs (InitDone now) x some = sends-packs now (step finish_turn x) some
 call-packs (Tick now) x some =
     by_cond Packs (is_shut x) x (goes_on now (RedTick now) (tick_step now x)) (λ shut. shut-packs x shut)
-    (λ _. goes-packs now (RedTick now) (tick_step now x) (receives-some now (RedTick now) x (tick_step now x) (record { set = refl; inputs = refl }) some))
+    (λ _. goes-packs now (RedTick now) (tick_step now x)
+    (receives-some now (RedTick now) x (tick_step now x) (record { set = refl; inputs = refl }) some))
 call-packs (Deliver channel octets now) x some =
     by_cond Packs (is_shut x) x (goes_on now (Datagram octets now) (guard_step now x)) (λ shut. shut-packs x shut)
     (λ _. goes-packs now (Datagram octets now) (guard_step now x)
@@ -681,7 +763,8 @@ same-goes now x =
 
 same-on : (now : ℕ) (i : Input) (x y : EndState) → Same x y → Same x (goes_on now i y)
 same-on now i x y h =
-    keep-goes_on now AnyPart (Same x) (same-goes now x) i y (λ _. any-parts now (parts_passed i y.red) (with_input i y)) h h
+    keep-goes_on now AnyPart (Same x) (same-goes now x) i y (λ _. any-parts now (parts_passed i y.red) (with_input i y))
+    h h
 
 -- what a call puts in
 abbrev pub put_in_by : Call → EndState → List Item
@@ -689,7 +772,8 @@ put_in_by (Put kind payload now) x = put_by (Puts kind payload (length x.session
 put_in_by c x = []
 
 pub call-put : (c : Call) (x : EndState) → (call c x).session.history.put ≡ x.session.history.put ++ put_in_by c x
-call-put (Close now) x = keep-closed now AnyPart (Same x) (same-goes now x) x refl ∙ sym (append-nil x.session.history.put)
+call-put (Close now) x = keep-closed now AnyPart (Same x) (same-goes now x) x refl
+    ∙ sym (append-nil x.session.history.put)
 call-put (Put kind payload now) x =
     let y = step (queue_turn kind payload) x in
     keep-packed now AnyPart (Same y) (same-goes now y) (length y.session.waiting) y refl
@@ -702,5 +786,6 @@ call-put (Tick now) x =
     ∙ sym (append-nil x.session.history.put)
 call-put (Deliver channel octets now) x =
     by_cond (Same x) (is_shut x) x (goes_on now (Datagram octets now) (guard_step now x)) (λ _. refl)
-    (λ _. same-on now (Datagram octets now) x (guard_step now x) (keep-guarded now AnyPart (Same x) (same-goes now x) x refl))
+    (λ _. same-on now (Datagram octets now) x (guard_step now x)
+    (keep-guarded now AnyPart (Same x) (same-goes now x) x refl))
     ∙ sym (append-nil x.session.history.put)

@@ -22,7 +22,8 @@ abbrev pub all_of : {X : Type 0} → (X → Bool) → List X → Bool
 all_of t [] = true
 all_of t (x ∷ xs) = t x && all_of t xs
 
-all-of : {X : Type 0} (t : X → Bool) (P : X → Type 0) → Tells t P → (xs : List X) → all_of t xs ≡ true → AllByRecursion P xs
+all-of : {X : Type 0} (t : X → Bool) (P : X → Type 0) → Tells t P → (xs : List X) → all_of t xs ≡ true
+    → AllByRecursion P xs
 all-of t P tells [] h = tt
 all-of t P tells (x ∷ xs) h =
     let parts = and-parts (t x) (all_of t xs) h in
@@ -33,7 +34,8 @@ abbrev if_opened : (EndState → Bool) → Option EndState → Bool
 if_opened t None = true
 if_opened t (Some x) = t x
 
-at-opened : (t : EndState → Bool) (P : EndState → Type 0) → Tells t P → (x : Option EndState) → if_opened t x ≡ true → AtOpened P x
+at-opened : (t : EndState → Bool) (P : EndState → Type 0) → Tells t P → (x : Option EndState) → if_opened t x ≡ true
+    → AtOpened P x
 at-opened t P tells None h = tt
 at-opened t P tells (Some x) h = tells x h
 
@@ -78,9 +80,11 @@ genuine-part peer dead x octets h up asked = implied (is_asked_of x octets) (is_
 
 -- a timeout check that finds neither its time passed nor its limit reached does not change the machine
 abbrev leaves_by_guard : ℕ → State → Bool
-leaves_by_guard now s = is_alive s.connection && (nat_le (s.confirmed_at + s.settings.t_max) now || nat_le s.settings.pdu_limit (length s.made))
+leaves_by_guard now s = is_alive s.connection
+    && (nat_le (s.confirmed_at + s.settings.t_max) now || nat_le s.settings.pdu_limit (length s.made))
 
-guard-cases : (live late full : Bool) (a b s : State) → (live && (late || full)) ≡ false → (if live then (if late then a else if full then b else s) else s) ≡ s
+guard-cases : (live late full : Bool) (a b s : State) → (live && (late || full)) ≡ false
+    → (if live then (if late then a else if full then b else s) else s) ≡ s
 guard-cases false late full a b s h = refl
 guard-cases true false false a b s h = refl
 guard-cases true false true a b s h = cc
@@ -93,7 +97,8 @@ stays-at : (now : ℕ) → TellsUp (stays_at now) (λ x octets. GuardHolds x.mac
 stays-at now x octets h =
     let s = x.machine in
     guard-is now s
-    ∙ guard-cases (is_alive s.connection) (nat_le (s.confirmed_at + s.settings.t_max) now) (nat_le s.settings.pdu_limit (length s.made))
+    ∙ guard-cases (is_alive s.connection) (nat_le (s.confirmed_at + s.settings.t_max) now)
+    (nat_le s.settings.pdu_limit (length s.made))
     (leave Timeout Unspecified now s) (leave ProtocolError Limit now s) s (not-true (leaves_by_guard now s) h)
 
 -- what arrives carries a PDU of the peer
@@ -105,14 +110,16 @@ abbrev carries : Option EndState → Part → Bool
 carries None p = false
 carries (Some peer) p = is_carried (rule_of peer.settings) (drop p.0 peer.machine.made) p.1
 
-carried : (rule : CodeRule) (made ms : List Made) (k : ℕ) (octets : List ℕ) → drop k made ≡ ms → is_carried rule ms octets ≡ true
+carried : (rule : CodeRule) (made ms : List Made) (k : ℕ) (octets : List ℕ) → drop k made ≡ ms
+    → is_carried rule ms octets ≡ true
     → (m : Made) × (later : List Made) × (drop k made ≡ m ∷ later) × (octets ≡ upper_of rule m)
 carried rule made [] k octets at h = cc
 carried rule made (m ∷ later) k octets at h = (m, later, at, (bytes_eq-Decides octets (upper_of rule m)).0 h)
 
 carries-part : (peer : Option EndState) → Tells (carries peer) (CarriesPdu peer)
 carries-part None p h = cc
-carries-part (Some peer) p h = carried (rule_of peer.settings) peer.machine.made (drop p.0 peer.machine.made) p.0 p.1 refl h
+carries-part (Some peer) p h =
+    carried (rule_of peer.settings) peer.machine.made (drop p.0 peer.machine.made) p.0 p.1 refl h
 
 -- a call that is not a close, that brings what the peer made and is live, and at which no timeout check disconnects
 abbrev good_part : Option EndState → ℕ → ℕ → EndState → List ℕ → Bool
@@ -123,22 +130,33 @@ good_call peer dead (Close now) x = false
 good_call peer dead (Tick now) x = stays_at now x [] && at_call (good_part peer dead now) (Tick now) x
 good_call peer dead (Deliver channel octets now) x =
     (stays_at now x [] && at_call (good_part peer dead now) (Deliver channel octets now) x)
-    && (all_of (λ (p : Part). is_genuine_part peer dead x p.1) (arrivals_of (Datagram octets now)) && all_of (carries peer) (arrivals_of (Datagram octets now)))
+    && (all_of (λ (p : Part). is_genuine_part peer dead x p.1) (arrivals_of (Datagram octets now))
+    && all_of (carries peer) (arrivals_of (Datagram octets now)))
 good_call peer dead _ x = true
 
-good-call : (peer : Option EndState) (dead : ℕ) (c : Call) → Tells (good_call peer dead c) (λ x. GenuineCall peer dead c x × FaithfulCall peer c x)
+good-call : (peer : Option EndState) (dead : ℕ) (c : Call)
+    → Tells (good_call peer dead c) (λ x. GenuineCall peer dead c x × FaithfulCall peer c x)
 good-call peer dead (Close now) x h = cc
 good-call peer dead (Tick now) x h =
     let here = and-parts (stays_at now x []) (at_call (good_part peer dead now) (Tick now) x) h in (
       (tt, at-call _ _ (λ y octets k. genuine-part peer dead y octets (and-parts _ _ k).0) (Tick now) x here.1),
-      (tt, tt, (stays-at now x [] here.0, at-call _ _ (λ y octets k. stays-at now y octets (and-parts _ _ k).1) (Tick now) x here.1)),
+      (
+        tt,
+        tt,
+        (
+          stays-at now x [] here.0,
+          at-call _ _ (λ y octets k. stays-at now y octets (and-parts _ _ k).1)
+              (Tick now) x here.1,
+        ),
+      ),
     )
 good-call peer dead (Deliver channel octets now) x h =
     let c = Deliver channel octets now in
     let ps = arrivals_of (Datagram octets now) in
     let both = and-parts (stays_at now x [] && at_call (good_part peer dead now) c x) _ h in
     let here = and-parts (stays_at now x []) (at_call (good_part peer dead now) c x) both.0 in
-    let came = and-parts (all_of (λ (p : Part). is_genuine_part peer dead x p.1) ps) (all_of (carries peer) ps) both.1 in (
+    let came = and-parts (all_of (λ (p : Part). is_genuine_part peer dead x p.1) ps) (all_of (carries peer) ps) both.1
+    in (
       (
         all-of _ _ (λ p. genuine-part peer dead x p.1) ps came.0,
         at-call _ _ (λ y part_step k. genuine-part peer dead y part_step (and-parts _ _ k).0) c x here.1,
@@ -146,7 +164,11 @@ good-call peer dead (Deliver channel octets now) x h =
       (
         tt,
         all-of (carries peer) (CarriesPdu peer) (carries-part peer) ps came.1,
-        (stays-at now x [] here.0, at-call _ _ (λ y part_step k. stays-at now y part_step (and-parts _ _ k).1) c x here.1),
+        (
+          stays-at now x [] here.0,
+          at-call _ _ (λ y part_step k. stays-at now y part_step (and-parts _ _ k).1) c x
+              here.1,
+        ),
       ),
     )
 good-call peer dead _ x h = ((tt, tt), (tt, tt, tt))
@@ -170,8 +192,10 @@ genuine-event _ w h = tt
 faithful-event : (e : Event) (w : World) → opens_once e w ≡ true → is_good e w ≡ true → FaithfulEvent e w
 faithful-event (Open Il s first now) w once h = nil-is w.ils once
 faithful-event (Open Fe s first now) w once h = nil-is w.fes once
-faithful-event (Calls Il c) w once h = at-opened _ _ (λ x k. (good-call (present Fe w) w.dead_fe c x k).1) (present Il w) h
-faithful-event (Calls Fe c) w once h = at-opened _ _ (λ x k. (good-call (present Il w) w.dead_il c x k).1) (present Fe w) h
+faithful-event (Calls Il c) w once h =
+    at-opened _ _ (λ x k. (good-call (present Fe w) w.dead_fe c x k).1) (present Il w) h
+faithful-event (Calls Fe c) w once h =
+    at-opened _ _ (λ x k. (good-call (present Il w) w.dead_il c x k).1) (present Fe w) h
 
 abbrev pub are_good : List Event → World → Bool
 are_good [] w = true
@@ -191,11 +215,13 @@ genuine_call peer dead (Deliver channel octets now) x =
 genuine_call peer dead (Tick now) x = at_call (is_genuine_part peer dead) (Tick now) x
 genuine_call peer dead _ x = true
 
-genuine-call : (peer : Option EndState) (dead : ℕ) (c : Call) → Tells (genuine_call peer dead c) (GenuineCall peer dead c)
+genuine-call : (peer : Option EndState) (dead : ℕ) (c : Call)
+    → Tells (genuine_call peer dead c) (GenuineCall peer dead c)
 genuine-call peer dead (Deliver channel octets now) x h =
     let ps = arrivals_of (Datagram octets now) in
     let c = Deliver channel octets now in
-    let parts = and-parts (all_of (λ (p : Part). is_genuine_part peer dead x p.1) ps) (at_call (is_genuine_part peer dead) c x) h in
+    let parts = and-parts (all_of (λ (p : Part). is_genuine_part peer dead x p.1) ps)
+    (at_call (is_genuine_part peer dead) c x) h in
     (all-of _ _ (λ p. genuine-part peer dead x p.1) ps parts.0, at-call _ _ (genuine-part peer dead) c x parts.1)
 genuine-call peer dead (Tick now) x h = (tt, at-call _ _ (genuine-part peer dead) (Tick now) x h)
 genuine-call peer dead _ x h = (tt, tt)
@@ -243,12 +269,14 @@ all-at-most bound (p ∷ ps) h =
 
 abbrev arrives_near : ℕ → List Part → List Input → Bool
 arrives_near q before [] = true
-arrives_near q before (e ∷ es) = are_at_most (first_missing before + q) (arrivals_of e) && arrives_near q (before ++ arrivals_of e) es
+arrives_near q before (e ∷ es) =
+    are_at_most (first_missing before + q) (arrivals_of e) && arrives_near q (before ++ arrivals_of e) es
 
 all-near : (q : ℕ) (before : List Part) (es : List Input) → arrives_near q before es ≡ true → QNear q before es
 all-near q before [] h = tt
 all-near q before (e ∷ es) h =
-    let parts = and-parts (are_at_most (first_missing before + q) (arrivals_of e)) (arrives_near q (before ++ arrivals_of e) es) h in
+    let parts = and-parts (are_at_most (first_missing before + q) (arrivals_of e))
+    (arrives_near q (before ++ arrivals_of e) es) h in
     (all-at-most (first_missing before + q) (arrivals_of e) parts.0, all-near q (before ++ arrivals_of e) es parts.1)
 
 abbrev is_in_time : ℕ → ℕ → Option ℕ → Bool
@@ -261,9 +289,11 @@ in-time t_seq now (Some began) h = below now (began + t_seq) h
 
 abbrev falls_no_deadline : ℕ → Wait → List Input → Bool
 falls_no_deadline t_seq w [] = true
-falls_no_deadline t_seq w (e ∷ es) = is_in_time t_seq (moment_of e) w.began && falls_no_deadline t_seq (wait_after e w) es
+falls_no_deadline t_seq w (e ∷ es) =
+    is_in_time t_seq (moment_of e) w.began && falls_no_deadline t_seq (wait_after e w) es
 
-no-deadline : (t_seq : ℕ) (w : Wait) (es : List Input) → falls_no_deadline t_seq w es ≡ true → NoDeadlineFalls t_seq w es
+no-deadline : (t_seq : ℕ) (w : Wait) (es : List Input) → falls_no_deadline t_seq w es ≡ true
+    → NoDeadlineFalls t_seq w es
 no-deadline t_seq w [] h = tt
 no-deadline t_seq w (e ∷ es) h =
     let parts = and-parts (is_in_time t_seq (moment_of e) w.began) (falls_no_deadline t_seq (wait_after e w) es) h in
@@ -274,7 +304,8 @@ is_near x = arrives_near x.settings.q [] x.inputs && falls_no_deadline x.setting
 
 near : Tells is_near IsNear
 near x h =
-    let parts = and-parts (arrives_near x.settings.q [] x.inputs) (falls_no_deadline x.settings.t_seq no_wait x.inputs) h in
+    let parts = and-parts (arrives_near x.settings.q [] x.inputs) (falls_no_deadline x.settings.t_seq no_wait x.inputs)
+    h in
     (all-near x.settings.q [] x.inputs parts.0, no-deadline x.settings.t_seq no_wait x.inputs parts.1)
 
 -- the numbers below n have arrived
@@ -288,7 +319,8 @@ all-below (suc n) k parts h under =
     let both = and-parts (has_number n parts) (has_all n parts) h in
     elim (cases_lt k n) [
       | inl less ↦ all-below n k parts both.1 less
-      | inr least ↦ let last : n ≡ k = omega (arith, under, least) in subst (λ (i : ℕ). has_number i parts ≡ true) last both.0
+      | inr least ↦ let last : n ≡ k =
+          omega (arith, under, least) in subst (λ (i : ℕ). has_number i parts ≡ true) last both.0
     ]
 
 -- the second end's PDUs have all come to the first
@@ -301,12 +333,14 @@ all-arrived x peer h k under = all-below (length peer.machine.made) k (arrivals 
 -- numbers and names are crossed, and the version is one that the field element takes
 abbrev is_crossed : EndState → EndState → Bool
 is_crossed x peer =
-    (x.settings.connection.own == peer.settings.connection.peer) && bytes_eq x.settings.addressing.own peer.settings.addressing.peer
+    (x.settings.connection.own == peer.settings.connection.peer)
+    && bytes_eq x.settings.addressing.own peer.settings.addressing.peer
 
 abbrev is_match : EndState → EndState → Bool
 is_match il fe =
     (il.settings.addressing.protocol == fe.settings.addressing.protocol)
-    && (list_any (λ v. v == first_version il.settings.versions) fe.settings.versions && (is_crossed il fe && is_crossed fe il))
+    && (list_any (λ v. v == first_version il.settings.versions) fe.settings.versions
+    && (is_crossed il fe && is_crossed fe il))
 
 -- both ends have this rule of the code
 abbrev pub HasRule : CodeRule → EndState → Type 0
@@ -338,7 +372,8 @@ is_whole (Some il) (Some fe) =
     (has_come il fe && has_come fe il) && (is_match il fe && (not (is_nil (taken_at il)) && not (is_nil (taken_at fe))))
 is_whole _ _ = false
 
-arrived : (rule : CodeRule) (il fe : Option EndState) → AtOpened (HasRule rule) il → AtOpened (HasRule rule) fe → is_whole il fe ≡ true → OfBothOpened Arrived il fe
+arrived : (rule : CodeRule) (il fe : Option EndState) → AtOpened (HasRule rule) il → AtOpened (HasRule rule) fe
+    → is_whole il fe ≡ true → OfBothOpened Arrived il fe
 arrived rule None fe il_rule fe_rule h = cc
 arrived rule (Some il) None il_rule fe_rule h = cc
 arrived rule (Some il) (Some fe) il_rule fe_rule h =
@@ -354,14 +389,16 @@ arrived rule (Some il) (Some fe) il_rule fe_rule h =
       commands = some-taken fe took.1;
     }
 
-same-rule : (rule : CodeRule) (il fe : Option EndState) → AtOpened (HasRule rule) il → AtOpened (HasRule rule) fe → OfBoth SameRule il fe
+same-rule : (rule : CodeRule) (il fe : Option EndState) → AtOpened (HasRule rule) il → AtOpened (HasRule rule) fe
+    → OfBoth SameRule il fe
 same-rule rule None fe h k = tt
 same-rule rule (Some il) None h k = tt
 same-rule rule (Some il) (Some fe) h k = h ∙ sym k
 
 -- each event is genuine and faithful, and at the end all has arrived
 abbrev pub is_course : List Event → World → Bool
-is_course [] w = (if_opened is_near (present Il w) && if_opened is_near (present Fe w)) && is_whole (present Il w) (present Fe w)
+is_course [] w =
+    (if_opened is_near (present Il w) && if_opened is_near (present Fe w)) && is_whole (present Il w) (present Fe w)
 is_course (e ∷ es) w = (is_good e w && opens_once e w) && is_course es (apply_event w e)
 
 pub record Told (es : List Event) (w : World) : Type 0 where
@@ -413,7 +450,8 @@ pub all-typed : (es : List Event) → all_of is_typed es ≡ true → AreTyped e
 all-typed es h = all-of is_typed IsTyped typed es h
 
 -- what an accepted event of a faithful list is
-pub faithful-at : (before : List Event) (e : Event) (later : List Event) (w : World) → AllFaithful (before ++ e ∷ later) w → refusal e (run before w) ≡ None
+pub faithful-at : (before : List Event) (e : Event) (later : List Event) (w : World)
+    → AllFaithful (before ++ e ∷ later) w → refusal e (run before w) ≡ None
     → FaithfulEvent e (run before w)
 faithful-at [] e later w h = h.0
 faithful-at (b ∷ before) e later w h = faithful-at before e later (apply_event w b) h.1

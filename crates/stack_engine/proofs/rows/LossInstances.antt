@@ -15,7 +15,8 @@ all-arrived c d x y k below = absurd (no-number k below)
 none-missing : (c d : Course) (x y : EndState) → AllArrived (fe_with d y) (il_with c x)
 none-missing c d x y k below = absurd (no-number k below)
 
-there : (c d : Course) (x : EndState) → NothingLost (world_of_two (il_with c x) (fe_with d x)) → AllThere (il_with c x) (fe_with d x)
+there : (c d : Course) (x : EndState) → NothingLost (world_of_two (il_with c x) (fe_with d x))
+    → AllThere (il_with c x) (fe_with d x)
 there c d x h = h.all_there (λ up. all-arrived c d x x) (λ up. none-missing c d x x)
 
 not-full : 1 ≤ 0 → ⊥
@@ -41,7 +42,15 @@ steady : {A B C S X Y Z : Type 0} {x : X} {y : Y} {z : Z} → A → B → C → 
 steady match il fe = inr (refl, refl, refl)
 
 pub match-plain : (c d : Course) (x : EndState) → Match (il_with c x) (fe_with d x)
-match-plain c d x = record { rule = refl; protocol = refl; version = refl; il_identifier = refl; fe_identifier = refl; il_name = refl; fe_name = refl }
+match-plain c d x = record {
+  rule = refl;
+  protocol = refl;
+  version = refl;
+  il_identifier = refl;
+  fe_identifier = refl;
+  il_name = refl;
+  fe_name = refl;
+}
 
 pub loss-instances : (x : EndState) (m : Made) → LossInstances x m
 unfolding tele_seen
@@ -62,14 +71,47 @@ loss-instances x m =
           };
       il_asks = λ h. h.il_asks_nothing.0 refl;
       fe_asks = λ h. h.fe_asks_nothing.0 refl;
-      il_waits = ((λ h. not-full ((there waiting_course plain x h).il_waits refl (no-message [] []))), idle, refl, refl, up, up, (λ m il fe. absurd (no-item [] [] il)));
-      fe_waits = ((λ h. not-full ((there plain waiting_course x h).fe_waits refl (no-message [] []))), idle, refl, refl, up, up, (λ m il fe. absurd (no-item [] [] fe)));
+      il_waits = (
+        (λ h. not-full ((there waiting_course plain x h).il_waits refl (no-message [] []))),
+        idle,
+        refl,
+        refl,
+        up,
+        up,
+        (λ m il fe. absurd (no-item [] [] il)),
+      );
+      fe_waits = (
+        (λ h. not-full ((there plain waiting_course x h).fe_waits refl (no-message [] []))),
+        idle,
+        refl,
+        refl,
+        up,
+        up,
+        (λ m il fe. absurd (no-item [] [] fe)),
+      );
       commands = ((λ h. no-item one [] (there lost_course plain x h).commands), idle, idle, refl, up, up, steady);
       status = ((λ h. no-item one [] (there plain lost_course x h).status), idle, idle, refl, up, up, steady);
-      il_starts = ((λ h. not-up ((there not_up plain x h).il_up (match-plain not_up plain x))), idle, idle, refl, refl, up, steady);
-      fe_starts = ((λ h. not-up ((there plain not_up x h).fe_up (match-plain plain not_up x))), idle, idle, refl, refl, up, steady);
+      il_starts = (
+        (λ h. not-up ((there not_up plain x h).il_up (match-plain not_up plain x))),
+        idle,
+        idle,
+        refl,
+        refl,
+        up,
+        steady,
+      );
+      fe_starts = (
+        (λ h. not-up ((there plain not_up x h).fe_up (match-plain plain not_up x))),
+        idle,
+        idle,
+        refl,
+        refl,
+        up,
+        steady,
+      );
       il_early = (
-        (λ h. elim ((there early plain x h).in_step (match-plain early plain x) refl refl) [ inl w ↦ true-is-false w.0 | inr w ↦ not-initialising w.1 ]),
+        (λ h. elim ((there early plain x h).in_step (match-plain early plain x) refl refl)
+            [ inl w ↦ true-is-false w.0 | inr w ↦ not-initialising w.1 ]),
         idle,
         idle,
         refl,
@@ -78,7 +120,8 @@ loss-instances x m =
         up,
       );
       fe_early = (
-        (λ h. elim ((there plain early x h).in_step (match-plain plain early x) refl refl) [ inl w ↦ true-is-false w.0 | inr w ↦ not-initialising w.2 ]),
+        (λ h. elim ((there plain early x h).in_step (match-plain plain early x) refl refl)
+            [ inl w ↦ true-is-false w.0 | inr w ↦ not-initialising w.2 ]),
         idle,
         idle,
         refl,

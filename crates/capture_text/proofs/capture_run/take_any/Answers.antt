@@ -14,14 +14,16 @@ returns-clause-read g c =
     let r = state_of c.args.course.now in
     let line = c.args.line.now in
     c.take_text.ensures.read ∙ ap (with_text a r) c.without_feed.ensures
-    ∙ ap (λ b. cond b (with_long r) (with_text a r (without_end line))) (sym (not_long line c.if-line-gt-LINE_MAX.false))
+    ∙ ap (λ b. cond b (with_long r) (with_text a r (without_end line)))
+    (sym (not_long line c.if-line-gt-LINE_MAX.false))
 
 pub returns-clause-printed : goal.returns-clause-printed
 returns-clause-printed g c =
     let a = c.args.asked.now in
     let r = state_of c.args.course.now in
     let line = c.args.line.now in
-    subst (λ l. OnOk c.take_text.result (Appends (g.W.Write.contents c.args.writer.now) (g.W.Write.contents c.take_text.new.writer) l))
+    subst (λ l. OnOk c.take_text.result (Appends (g.W.Write.contents c.args.writer.now)
+    (g.W.Write.contents c.take_text.new.writer) l))
     (ap (text_printed a r) c.without_feed.ensures
     ∙ ap (λ b. cond b [] (text_printed a r (without_end line))) (sym (not_long line c.if-line-gt-LINE_MAX.false)))
     c.take_text.ensures.printed
@@ -31,7 +33,9 @@ returns-clause-told g c =
     let a = c.args.asked.now in
     let r = state_of c.args.course.now in
     let line = c.args.line.now in
-    subst (λ l. OnOk c.take_text.result (Appends (g.E.Write.contents c.args.err.now) (g.E.Write.contents c.take_text.new.err) l))
+    subst (λ l. OnOk c.take_text.result (Appends (g.E.Write.contents c.args.err.now)
+    (g.E.Write.contents c.take_text.new.err) l))
     (ap (text_fault a r) c.without_feed.ensures
-    ∙ ap (λ b. cond b (fault_text (limited_sum r.lines 1) Long) (text_fault a r (without_end line))) (sym (not_long line c.if-line-gt-LINE_MAX.false)))
+    ∙ ap (λ b. cond b (fault_text (limited_sum r.lines 1) Long) (text_fault a r (without_end line)))
+    (sym (not_long line c.if-line-gt-LINE_MAX.false)))
     c.take_text.ensures.told

@@ -5,4 +5,6 @@ use Rattle.capture_text.proofs.distributions.write_distribution_json.Goals as go
 pub returns : goal.returns
 unfolding distribution_json
 returns g c =
-    Appends-trans _ _ _ _ _ (Appends-trans _ _ _ _ _ (Appends-trans _ _ _ _ _ c.in_ok-write_text.ensures c.in_ok-write_greatest_json.ensures) c.in_ok-write_counts.ensures) c.in_ok-write_text-2.ensures
+    Appends-trans _ _ _ _ _ (Appends-trans _ _ _ _ _
+    (Appends-trans _ _ _ _ _ c.in_ok-write_text.ensures c.in_ok-write_greatest_json.ensures)
+    c.in_ok-write_counts.ensures) c.in_ok-write_text-2.ensures

@@ -25,10 +25,12 @@ pub returns-then-is_done : goal.returns-then-is_done
 returns-then-is_done g c =
     let (short, done, kept, none, read) = c.loop.invariant in
     let (part, kept', stops, read', none', ends, end) = c.in_ok-is_done.ensures.taken in
-    let all = Consumes_through 10 _ _ _ done part read none read' stops (ends c.if-is_done.true) (end c.if-is_done.true) in
+    let all = Consumes_through 10 _ _ _ done part read none read' stops (ends c.if-is_done.true) (end c.if-is_done.true)
+    in
     let whole = kept' ∙ ap (λ l. cut_line (l ++ part)) kept ∙ cut_more done part in
     record {
-      kept = if_some (g.R.Read.remaining c.args.reader.now) (λ xs. done ++ part ≡ take_through 10 xs) _ (λ xs e. whole ∙ ap cut_line e) all.0;
+      kept = if_some (g.R.Read.remaining c.args.reader.now) (λ xs. done ++ part ≡ take_through 10 xs) _ (λ xs e. whole
+          ∙ ap cut_line e) all.0;
       rest = all.1;
       fits = c.in_ok-is_done.ensures.fits;
     }

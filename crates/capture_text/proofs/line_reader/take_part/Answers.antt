@@ -25,10 +25,13 @@ returns-clause-taken g c =
     let end = c.length_through-end in
     let long = length-take-le end.result shown end.ensures.bound in
     let rested = c.fill_buf.follows.lender-at-none in
-    let filled = subst (FillKeeps _ (g.R.Read.remaining rested) (g.R.BufRead.consumable_len rested)) c.in-Ok.is c.fill_buf.follows.holds-at-none in
+    let filled = subst (FillKeeps _ (g.R.Read.remaining rested) (g.R.BufRead.consumable_len rested)) c.in-Ok.is
+    c.fill_buf.follows.holds-at-none in
     let same : c.if-end-eq0.reader ≡ rested = search rules in
-    let drops = subst (λ r. DropsConsumable (g.R.Read.remaining r) (g.R.Read.remaining c.consume.new.self) (g.R.BufRead.consumable_len r) end.result) same c.consume.ensures.bytes in
-    let moved = Consumes_shown _ _ _ _ shown end.result end.ensures.bound c.in-Ok.ensures.front c.in-Ok.ensures.end filled.0 filled.1 drops in (
+    let drops = subst (λ r. DropsConsumable (g.R.Read.remaining r) (g.R.Read.remaining c.consume.new.self)
+    (g.R.BufRead.consumable_len r) end.result) same c.consume.ensures.bytes in
+    let moved = Consumes_shown _ _ _ _ shown end.result end.ensures.bound c.in-Ok.ensures.front c.in-Ok.ensures.end
+    filled.0 filled.1 drops in (
       take end.result shown,
       c.in_ok-keep.ensures.kept,
       StopsAt-take _ _ _ end.ensures.bound end.ensures.before,
@@ -36,7 +39,8 @@ returns-clause-taken g c =
       λ more. elim c.if-end-eq0.branch [
         | then-end-eq0 w ↦ absurd (more (search rules))
         | else-end-eq0 w ↦ subst (λ k. All (λ x. x ≢ 10) (take k shown)) (omega (arith, w.if-end-eq0.false))
-            (All-more (λ x. x ≢ 10) _ (end.result - 1) 0 (omega (arith, w.if-end-eq0.false, end.ensures.bound)) end.ensures.before (λ e. more (w.is_done-is ∙ eq-eqb _ _ e)))
+            (All-more (λ x. x ≢ 10) _ (end.result - 1) 0 (omega (arith, w.if-end-eq0.false, end.ensures.bound))
+            end.ensures.before (λ e. more (w.is_done-is ∙ eq-eqb _ _ e)))
       ],
       λ done some. elim c.if-end-eq0.branch [
         | then-end-eq0 w ↦ absurd (omega (arith, w.if-end-eq0.true))

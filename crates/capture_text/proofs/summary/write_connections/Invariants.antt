@@ -6,5 +6,6 @@ use Rattle.capture_text.proofs.summary.write_connections.Given as goal
 -- The lines so far and those of the remaining connections make up all lines.
 abbrev pub invariant-loop-entry : goal.invariant-loop-entry
 invariant-loop-entry g l =
-    (end : Option (List ℕ)) → Appends (g.W.Write.contents l.writer) end (connections_text l.scale l.connections (drop l.entry-index l.connections))
+    (end : Option (List ℕ)) → Appends (g.W.Write.contents l.writer) end
+    (connections_text l.scale l.connections (drop l.entry-index l.connections))
     → Appends (g.W.Write.contents l.initial.writer) end (connections_text l.scale l.connections l.connections)

@@ -7,5 +7,6 @@ pub returns : goal.returns
 returns c =
     let s = c.args.self.now in
     c.has_versions.ensures
-    ∙ last-decides _ _ _ _ _ (sym c.is_connection.ensures ∙ c.if-not-is_connection.false) (sym c.in_limits.ensures ∙ c.if-not-in_limits.false)
+    ∙ last-decides _ _ _ _ _ (sym c.is_connection.ensures ∙ c.if-not-is_connection.false) (sym c.in_limits.ensures
+    ∙ c.if-not-in_limits.false)
     (addressed (settings_of s).addressing (omega arith) s.name.well_formed s.peer_name.well_formed) (checked s.checksum)

@@ -4,5 +4,6 @@ use Rattle.md4.proofs.block.second_four.Goals as goal
 
 pub returns : goal.returns
 returns c = λ words sums.
-    added_steps_are second_round c.args.v words c.args.row sums c.majority.ensures c.stepped-a.ensures c.majority-2.ensures
-    c.stepped-d.ensures c.majority-3.ensures c.stepped-c.ensures c.majority-4.ensures c.stepped-b.ensures
+    added_steps_are second_round c.args.v words c.args.row sums c.majority.ensures c.step_word-a.ensures
+    c.majority-2.ensures
+    c.step_word-d.ensures c.majority-3.ensures c.step_word-c.ensures c.majority-4.ensures c.step_word-b.ensures

@@ -3,7 +3,8 @@ use Rattle.pdu_text.proofs.datagram.show_upper.Goals as goal
 
 pub returns-in_ok-clean-in-Ok-clause-written : goal.returns-in_ok-clean-in-Ok-clause-written
 returns-in_ok-clean-in-Ok-clause-written g c =
-    rw (← c.in-Ok.ensures.exact) (Appends-trans _ _ _ _ _ c.in_ok-write_safe-in-Ok.ensures c.in_ok-clean-in-Ok.ensures.written)
+    rw (← c.in-Ok.ensures.exact) (Appends-trans _ _ _ _ _ c.in_ok-write_safe-in-Ok.ensures
+    c.in_ok-clean-in-Ok.ensures.written)
 
 pub returns-in_ok-write_fault-in-Err-clause-written : goal.returns-in_ok-write_fault-in-Err-clause-written
 returns-in_ok-write_fault-in-Err-clause-written g c =

@@ -10,14 +10,16 @@ returns-in-Over-clause-passed g c =
       goes = c.writes.invariant.goes;
       stops = inr (inl (
         refl,
-        step-at _ _ _ c.writes.gone c.pass_once-step.result.1 c.args.octets.now (take (length c.args.octets.now - c.writes.gone) (drop c.writes.gone c.args.octets.now))
+        step-at _ _ _ c.writes.gone c.pass_once-step.result.1 c.args.octets.now
+            (take (length c.args.octets.now - c.writes.gone) (drop c.writes.gone c.args.octets.now))
             _ _ _ _ _ _ (rest-all c.writes.gone c.args.octets.now) c.pass_once-step.ensures.passed c.in-Over.is,
       ));
     }
 
 pub returns-in-Over-clause-whole : goal.returns-in-Over-clause-whole
 returns-in-Over-clause-whole g c =
-    whole-on _ _ _ c.writes.gone c.pass_once-step.result.1 c.args.octets.now (take (length c.args.octets.now - c.writes.gone) (drop c.writes.gone c.args.octets.now))
+    whole-on _ _ _ c.writes.gone c.pass_once-step.result.1 c.args.octets.now
+    (take (length c.args.octets.now - c.writes.gone) (drop c.writes.gone c.args.octets.now))
     (rest-all c.writes.gone c.args.octets.now) c.writes.invariant.whole c.pass_once-step.ensures.whole
 
 pub returns-in-Failed-clause-passed : goal.returns-in-Failed-clause-passed
@@ -28,22 +30,27 @@ returns-in-Failed-clause-passed g c =
       goes = c.writes.invariant.goes;
       stops = inr (inr (
         refl,
-        step-at _ _ _ c.writes.gone c.pass_once-step.result.1 c.args.octets.now (take (length c.args.octets.now - c.writes.gone) (drop c.writes.gone c.args.octets.now))
+        step-at _ _ _ c.writes.gone c.pass_once-step.result.1 c.args.octets.now
+            (take (length c.args.octets.now - c.writes.gone) (drop c.writes.gone c.args.octets.now))
             _ _ _ _ _ _ (rest-all c.writes.gone c.args.octets.now) c.pass_once-step.ensures.passed c.in-Failed.is,
       ));
     }
 
 pub returns-in-Failed-clause-whole : goal.returns-in-Failed-clause-whole
 returns-in-Failed-clause-whole g c =
-    whole-on _ _ _ c.writes.gone c.pass_once-step.result.1 c.args.octets.now (take (length c.args.octets.now - c.writes.gone) (drop c.writes.gone c.args.octets.now))
+    whole-on _ _ _ c.writes.gone c.pass_once-step.result.1 c.args.octets.now
+    (take (length c.args.octets.now - c.writes.gone) (drop c.writes.gone c.args.octets.now))
     (rest-all c.writes.gone c.args.octets.now) c.writes.invariant.whole c.pass_once-step.ensures.whole
 
 pub writes-preserved : goal.writes-preserved
 writes-preserved g c =
     record {
-      goes = goes-on _ _ _ _ _ _ _ c.writes.invariant.goes (step-at _ _ _ c.writes.gone c.pass_once-step.result.1 c.args.octets.now (take (length c.args.octets.now - c.writes.gone) (drop c.writes.gone c.args.octets.now))
+      goes = goes-on _ _ _ _ _ _ _ c.writes.invariant.goes
+          (step-at _ _ _ c.writes.gone c.pass_once-step.result.1 c.args.octets.now
+          (take (length c.args.octets.now - c.writes.gone) (drop c.writes.gone c.args.octets.now))
           _ _ _ _ _ _ (rest-all c.writes.gone c.args.octets.now) c.pass_once-step.ensures.passed c.in-On.is);
-      whole = whole-on _ _ _ c.writes.gone c.pass_once-step.result.1 c.args.octets.now (take (length c.args.octets.now - c.writes.gone) (drop c.writes.gone c.args.octets.now))
+      whole = whole-on _ _ _ c.writes.gone c.pass_once-step.result.1 c.args.octets.now
+          (take (length c.args.octets.now - c.writes.gone) (drop c.writes.gone c.args.octets.now))
           (rest-all c.writes.gone c.args.octets.now) c.writes.invariant.whole c.pass_once-step.ensures.whole;
       bound = omega (arith, c.pass_once-step.ensures.bound, length-drop c.writes.gone c.args.octets.now);
     }

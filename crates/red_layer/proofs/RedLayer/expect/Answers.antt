@@ -8,7 +8,8 @@ use Rattle.red_layer.proofs.RedLayer.expect.Goals as goal
 pub invariant_of-self : goal.invariant_of-self
 invariant_of-self g c =
     let none : c.self.inside.waiting.waiting ≡ [] =
-    nil_from_length _ (sym (length-map_parts (λ part. part.items) c.self.inside.waiting.waiting) ∙ ap (λ (r : Receiver). length r.waiting) (c.self.view_is) ∙ ap length c.requires.empty) in
+    nil_from_length _ (sym (length-map_parts (λ part. part.items) c.self.inside.waiting.waiting)
+    ∙ ap (λ (r : Receiver). length r.waiting) (c.self.view_is) ∙ ap length c.requires.empty) in
     record {
       rises = rw none tt;
       below = c.self.invariant.below;

@@ -6,7 +6,8 @@ use Rattle.red_layer.proofs.RedLayer.follow_run.Goals as goal
 
 pub pass_run-self-inside-requires-clause-rises : goal.pass_run-self-inside-requires-clause-rises
 pass_run-self-inside-requires-clause-rises g c =
-    Rises-unmap (λ part. part.items) c.args.from c.self.inside.waiting.waiting (subst (λ r. Rises c.args.from r.waiting) (sym c.self.view_is) c.requires.rises)
+    Rises-unmap (λ part. part.items) c.args.from c.self.inside.waiting.waiting
+    (subst (λ r. Rises c.args.from r.waiting) (sym c.self.view_is) c.requires.rises)
 
 pub invariant_of-self : goal.invariant_of-self
 invariant_of-self g c = record {

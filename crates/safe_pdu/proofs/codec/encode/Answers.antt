@@ -8,9 +8,11 @@ use Rattle.safe_pdu.proofs.codec.encode.Goals as goal
 pub returns-clause-written : goal.returns-clause-written
 returns-clause-written c =
     let written =
-    safe_written (pdu_of c.args.pdu.now) c.args.rule.now c.put_header.new.buffer c.put_octets.new.buffer c.put_code.new.buffer c.put_header.ensures.numbers
+    safe_written (pdu_of c.args.pdu.now) c.args.rule.now c.put_header.new.buffer c.put_octets.new.buffer
+    c.put_code.new.buffer c.put_header.ensures.numbers
     c.requires.body
-    (c.put_header.ensures.front ∙ ap (λ (n : ℕ). header (28 + length c.args.pdu.now.body.now + n) (pdu_of c.args.pdu.now)) c.octets.ensures)
+    (c.put_header.ensures.front ∙ ap (λ (n : ℕ). header (28 + length c.args.pdu.now.body.now + n)
+    (pdu_of c.args.pdu.now)) c.octets.ensures)
     c.put_octets.ensures.front c.put_code.ensures.front
     in
     rw c.octets.ensures written

@@ -6,4 +6,5 @@ use Rattle.settings_file.specs.Groups.{put_seen}
 use Rattle.settings_file.proofs.lists.put_list.Given as goal
 
 abbrev pub invariant-loop-item : goal.invariant-loop-item
-invariant-loop-item l = option_map (λ ps. map put_seen l.all.items ++ ps) (puts_of (items_view (drop l.item-index l.items))) ≡ puts_of (items_view l.items)
+invariant-loop-item l = option_map (λ ps. map put_seen l.all.items ++ ps)
+    (puts_of (items_view (drop l.item-index l.items))) ≡ puts_of (items_view l.items)

@@ -1,4 +1,5 @@
--- The warnings found so far, followed by those of the other telegrams, are all warnings; the next telegram has the next number.
+-- The warnings found so far, followed by those of the other telegrams, are all warnings; the next telegram has the next
+-- number.
 use Rattle.std.proofs.Common.{◌≡◌, ◌+◌, ◌++◌, drop, map}
 use Rattle.settings_file.specs.Groups.{put_seen}
 use Rattle.settings_file.specs.Warnings.{long_payloads}

@@ -6,4 +6,6 @@ use Rattle.settings_file.specs.Readers.{octets_of}
 use Rattle.settings_file.proofs.readers.octet_list.Given as goal
 
 abbrev pub invariant-loop-item : goal.invariant-loop-item
-invariant-loop-item l = (array_vec_len l.list ≡ l.item-index) × (option_map (λ ts. l.list.items ++ ts) (octets_of (items_view (drop l.item-index l.items))) ≡ octets_of (items_view l.items))
+invariant-loop-item l = (array_vec_len l.list ≡ l.item-index)
+    × (option_map (λ ts. l.list.items ++ ts) (octets_of (items_view (drop l.item-index l.items)))
+    ≡ octets_of (items_view l.items))

@@ -7,5 +7,6 @@ use Rattle.settings_text.proofs.lists.write_later_puts.Given as goal
 -- Writing the items that are left completes all items.
 abbrev pub invariant-loop-put : goal.invariant-loop-put
 invariant-loop-put g l =
-    (end : Option (List ℕ)) → Appends (g.W.Write.contents l.writer) end (all_texts later_put (map put_seen (drop l.put-index l.puts)))
+    (end : Option (List ℕ)) → Appends (g.W.Write.contents l.writer) end
+    (all_texts later_put (map put_seen (drop l.put-index l.puts)))
     → Appends (g.W.Write.contents l.initial.writer) end (all_texts later_put (map put_seen l.puts))

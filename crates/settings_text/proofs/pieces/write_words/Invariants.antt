@@ -6,5 +6,6 @@ use Rattle.settings_text.proofs.pieces.write_words.Given as goal
 -- Writing the items that are left completes all items.
 abbrev pub invariant-loop-word : goal.invariant-loop-word
 invariant-loop-word g l =
-    (end : Option (List ℕ)) → Appends (g.W.Write.contents l.writer) end (all_texts word_text (drop l.word-index l.words))
+    (end : Option (List ℕ)) → Appends (g.W.Write.contents l.writer) end
+    (all_texts word_text (drop l.word-index l.words))
     → Appends (g.W.Write.contents l.initial.writer) end (all_texts word_text l.words)

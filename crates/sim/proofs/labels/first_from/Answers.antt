@@ -11,4 +11,5 @@ returns-then-not-is_named-clause-first g c =
 
 pub returns-clause-first : goal.returns-clause-first
 returns-clause-first g c =
-    first_left (is_named_among c.args.il.now c.args.fe.now) c.args.order.now _ (search rules) (λ within d. absurd (omega arith))
+    first_left (is_named_among c.args.il.now c.args.fe.now) c.args.order.now _ (search rules)
+    (λ within d. absurd (omega arith))

@@ -8,6 +8,7 @@ invariant-loop-message g l =
     record {
       few : FewWait l.session l.waiting;
       along :
-          Along g.T.Taker.takes (texts_of l.messages) (drop l.message-index (texts_of l.messages)) (talk l.initial.session l.initial.waiting l.initial.taker)
+          Along g.T.Taker.takes (texts_of l.messages) (drop l.message-index (texts_of l.messages))
+          (talk l.initial.session l.initial.waiting l.initial.taker)
           (talk l.session l.waiting l.taker);
     }

@@ -21,12 +21,14 @@ fit-versions side s h =
 
 pub session-requires : goal.session-requires
 session-requires g c =
-    let fit : are_fit (side_of c.args.side) (settings_of c.args.config) ≡ true = sym c.is_fit.ensures ∙ c.if-not-is_fit.false in
+    let fit : are_fit (side_of c.args.side) (settings_of c.args.config) ≡ true = sym c.is_fit.ensures
+    ∙ c.if-not-is_fit.false in
     fit-versions (side_of c.args.side) (settings_of c.args.config) fit
 
 pub returns-clause-kept : goal.returns-clause-kept
 returns-clause-kept g c =
-    let fit : are_fit (side_of c.args.side) (settings_of c.args.config) ≡ true = sym c.is_fit.ensures ∙ c.if-not-is_fit.false in
+    let fit : are_fit (side_of c.args.side) (settings_of c.args.config) ≡ true = sym c.is_fit.ensures
+    ∙ c.if-not-is_fit.false in
     let some : 1 ≤ c.args.config.n_maxpacket = grind (arith, nat_tests) in
     let most : c.args.config.n_maxpacket ≤ UNIT_MESSAGES = grind (arith, nat_tests) in
     record { reach = search rules; few = search rules; some = some; most = most }

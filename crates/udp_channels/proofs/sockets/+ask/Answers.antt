@@ -8,8 +8,10 @@ returns-in-Came-clause-asked g t c = asks-came c.args.first c.in-Some.ensures.ca
 
 pub returns-in-Nothing-clause-asked : goal.returns-in-Nothing-clause-asked
 returns-in-Nothing-clause-asked g t c =
-    asks-nothing c.args.first c.ask-in-Nothing.result c.or_nothing.result c.ask-in-Nothing.new.buffer c.ask-in-Nothing.new.list
-    c.or_nothing.ensures c.in-Some.ensures.cases.0 (search rules) c.in-Nothing.ensures.asked c.ask-in-Nothing.ensures.asked
+    asks-nothing c.args.first c.ask-in-Nothing.result c.or_nothing.result c.ask-in-Nothing.new.buffer
+    c.ask-in-Nothing.new.list
+    c.or_nothing.ensures c.in-Some.ensures.cases.0 (search rules) c.in-Nothing.ensures.asked
+    c.ask-in-Nothing.ensures.asked
 
 pub returns-in-Refused-clause-asked : goal.returns-in-Refused-clause-asked
 returns-in-Refused-clause-asked g t c =

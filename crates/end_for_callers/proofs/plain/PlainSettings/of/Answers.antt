@@ -8,8 +8,10 @@ use Rattle.end_for_callers.proofs.plain.PlainSettings.of.Goals as goal
 pub returns-clause-says : goal.returns-clause-says
 returns-clause-says c =
     let config = c.args.config.now in
-    let versions = front_row (length c.as_slice-3.result.now) (versions_in config.versions) _ _ c.fill.new.row c.fill.ensures c.as_slice.ensures (ap length c.as_slice-3.ensures) in
-    let checksum = front_row (length c.as_slice-4.result.now) (checksum_in config.checksum) _ _ c.fill-2.new.row c.fill-2.ensures c.as_slice-2.ensures (ap length c.as_slice-4.ensures) in
+    let versions = front_row (length c.as_slice-3.result.now) (versions_in config.versions) _ _ c.fill.new.row
+    c.fill.ensures c.as_slice.ensures (ap length c.as_slice-3.ensures) in
+    let checksum = front_row (length c.as_slice-4.result.now) (checksum_in config.checksum) _ _ c.fill-2.new.row
+    c.fill-2.ensures c.as_slice-2.ensures (ap length c.as_slice-4.ensures) in
     let plain : PlainSettings = record {
       size = 164;
       side = c.number_of.result;
@@ -37,7 +39,9 @@ returns-clause-says c =
       name = c.spell_name.result;
       peer_name = c.spell_name-2.result;
     } in
-    let lists = lists_row plain (owned_characters config.name) (owned_characters config.peer_name) (versions_in config.versions)
+    let lists = lists_row plain (owned_characters config.name) (owned_characters config.peer_name)
+    (versions_in config.versions)
     (checksum_in config.checksum) c.spell_name.ensures c.spell_name-2.ensures versions checksum in
-    opening_row plain c.args.side _ config.protocol config.initial_value c.number_of.ensures c.widen.ensures.value c.widen.ensures.small lists
+    opening_row plain c.args.side _ config.protocol config.initial_value c.number_of.ensures c.widen.ensures.value
+    c.widen.ensures.small lists
     c.octets_of.ensures

@@ -4,7 +4,8 @@ use Rattle.end_for_callers.proofs.queue.Queue.push.Goals as goal
 
 pub invariant_of-self : goal.invariant_of-self
 invariant_of-self g c =
-    push-keeps c.self.inside.heads c.self.inside.octets (record { tag = c.args.tag; size = length c.args.piece.now }) c.fill_from_slice-all.result c.args.piece.now
+    push-keeps c.self.inside.heads c.self.inside.octets (record { tag = c.args.tag; size = length c.args.piece.now })
+    c.fill_from_slice-all.result c.args.piece.now
     c.try_push_back.new.self c.fill_from_slice-all.new.self
     (record {
       kept = c.self.invariant;
@@ -19,7 +20,8 @@ invariant_of-self g c =
 pub returns-clause-pushed : goal.returns-clause-pushed
 returns-clause-pushed g c =
     rw (← c.self.view_is)
-    (push-view c.self.inside.heads c.self.inside.octets (record { tag = c.args.tag; size = length c.args.piece.now }) c.fill_from_slice-all.result c.args.piece.now
+    (push-view c.self.inside.heads c.self.inside.octets (record { tag = c.args.tag; size = length c.args.piece.now })
+    c.fill_from_slice-all.result c.args.piece.now
     c.try_push_back.new.self c.fill_from_slice-all.new.self
     (record {
       kept = c.self.invariant;

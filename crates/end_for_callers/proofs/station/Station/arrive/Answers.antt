@@ -16,26 +16,43 @@ pub returns-clause-does : goal.returns-clause-does
 returns-clause-does c =
     let call = Deliver c.args.channel c.args.octets.now c.args.now in
     let end = c.self.inside.end in
-    let s : StationValue = record { end = seen_end end; inbox = c.self.inside.inbox; time = c.self.inside.time; reserve = c.self.inside.reserve } in
-    let t : StationValue = record { end = seen_end c.arrive.new.self; inbox = c.arrive.new.taker; time = c.args.now; reserve = c.self.inside.reserve } in
+    let s : StationValue = record {
+      end = seen_end end;
+      inbox = c.self.inside.inbox;
+      time = c.self.inside.time;
+      reserve = c.self.inside.reserve;
+    } in
+    let t : StationValue = record {
+      end = seen_end c.arrive.new.self;
+      inbox = c.arrive.new.taker;
+      time = c.args.now;
+      reserve = c.self.inside.reserve;
+    } in
     rw (← c.self.view_is)
     (does-all call s t
-    (seen-turns (turn call) end c.set_aside.new.end c.arrive.new.self c.self.inside.inbox c.arrive.new.taker c.set_aside.ensures.same c.arrive.ensures.turns)
+    (seen-turns (turn call) end c.set_aside.new.end c.arrive.new.self c.self.inside.inbox c.arrive.new.taker
+    c.set_aside.ensures.same c.arrive.ensures.turns)
     c.arrive.ensures.time refl)
 
 pub returns-clause-room : goal.returns-clause-room
 returns-clause-room c =
     let call = Deliver c.args.channel c.args.octets.now c.args.now in
-    let count = c.channels-channels.ensures ∙ ap (λ (s : StationValue). (inside s.end).upper.count) (sym c.self.view_is) in
+    let count = c.channels-channels.ensures ∙ ap (λ (s : StationValue). (inside s.end).upper.count) (sym c.self.view_is)
+    in
     rw (← c.self.view_is)
-    (loses-none call c.self.inside.reserve c.channels-channels.result c.self.inside.end c.set_aside.new.end c.arrive.new.self count
-    c.set_aside.ensures.same c.self.invariant.3 c.set_aside.ensures.bounded c.set_aside.ensures.deferred c.set_aside.ensures.shares c.arrive.ensures.turns.sent)
+    (loses-none call c.self.inside.reserve c.channels-channels.result c.self.inside.end c.set_aside.new.end
+    c.arrive.new.self count
+    c.set_aside.ensures.same c.self.invariant.3 c.set_aside.ensures.bounded c.set_aside.ensures.deferred
+    c.set_aside.ensures.shares c.arrive.ensures.turns.sent)
 
 pub invariant_of-self : goal.invariant_of-self
 invariant_of-self c =
     let call = Deliver c.args.channel c.args.octets.now c.args.now in
     let is : inside c.arrive.new.self ≡ (turn call (inside c.self.inside.end)).left =
-    c.arrive.ensures.turns.left ∙ ap (λ (e : EndValue DatagramQueue Global). (turn call (inside e)).left) c.set_aside.ensures.same in
-    let ready = turned-ready c.self.inside.reserve call (inside c.self.inside.end) (inside c.arrive.new.self) is c.self.invariant.3 in
-    let late = (and_parts (nat_le c.args.self.now.time c.args.now) (nat_le c.args.now TIME_MAX) c.in_ok-may_hear.ensures.time).1 in
+    c.arrive.ensures.turns.left ∙ ap (λ (e : EndValue DatagramQueue Global). (turn call (inside e)).left)
+    c.set_aside.ensures.same in
+    let ready = turned-ready c.self.inside.reserve call (inside c.self.inside.end) (inside c.arrive.new.self) is
+    c.self.invariant.3 in
+    let late = (and_parts (nat_le c.args.self.now.time c.args.now) (nat_le c.args.now TIME_MAX)
+    c.in_ok-may_hear.ensures.time).1 in
     (omega (arith, c.arrive.ensures.time), leb-true c.args.now TIME_MAX late, c.self.invariant.2, ready)

@@ -17,13 +17,15 @@ returns-in-Ok-clause-sent c =
     let xs = sent_at_opening (opened_end c.args.side c.args.config.now c.args.first_sn c.args.now) in
     let after = channels_of c.in-Ok.end in
     subst (λ (o : DatagramQueue). Posted o xs after.out) c.in-Ok-Ok.ensures
-    (posted c.in-Ok-Ok.outbox.out xs after.out (folds-roomless xs (told_in c.in-Ok-Ok.outbox) (told_in after) c.in-Ok.ensures.sent))
+    (posted c.in-Ok-Ok.outbox.out xs after.out
+    (folds-roomless xs (told_in c.in-Ok-Ok.outbox) (told_in after) c.in-Ok.ensures.sent))
 
 pub invariant_of-result : goal.invariant_of-result
 invariant_of-result c =
     let settings = settings_of c.args.config.now in
     let fit : are_fit (side_of c.args.side) settings ≡ true = sym c.is_fit.ensures ∙ c.if-not-is_fit.false in
-    let ready = opened-ready (side_of c.args.side) settings c.args.first_sn c.args.now (inside c.in-Ok.end) fit c.in-Ok.ensures.stands.both in
+    let ready = opened-ready (side_of c.args.side) settings c.args.first_sn c.args.now (inside c.in-Ok.end) fit
+    c.in-Ok.ensures.stands.both in
     let few : c.reserve_of-reserve.result < 2 ^ 32 = search rules in
     let same : reserve_of settings ≡ c.reserve_of-reserve.result = omega (arith, few, c.reserve_of-reserve.ensures) in
     (search rules, search rules, few, subst (λ n. IsReady n (inside c.in-Ok.end)) same ready)

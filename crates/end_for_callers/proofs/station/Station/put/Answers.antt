@@ -13,8 +13,18 @@ pub returns-in-Ok-clause-does : goal.returns-in-Ok-clause-does
 returns-in-Ok-clause-does c =
     let call = Put c.args.kind c.args.payload.now c.args.now in
     let end = c.self.inside.end in
-    let s : StationValue = record { end = seen_end end; inbox = c.self.inside.inbox; time = c.self.inside.time; reserve = c.self.inside.reserve } in
-    let t : StationValue = record { end = seen_end c.put.new.self; inbox = c.self.inside.inbox; time = c.args.now; reserve = c.self.inside.reserve } in
+    let s : StationValue = record {
+      end = seen_end end;
+      inbox = c.self.inside.inbox;
+      time = c.self.inside.time;
+      reserve = c.self.inside.reserve;
+    } in
+    let t : StationValue = record {
+      end = seen_end c.put.new.self;
+      inbox = c.self.inside.inbox;
+      time = c.args.now;
+      reserve = c.self.inside.reserve;
+    } in
     rw (← c.self.view_is)
     (does-alone call s t
     (seen-alone (turn call) end c.set_aside.new.end c.put.new.self c.set_aside.ensures.same c.in-Ok.ensures.turns)
@@ -23,15 +33,20 @@ returns-in-Ok-clause-does c =
 pub returns-in-Ok-clause-room : goal.returns-in-Ok-clause-room
 returns-in-Ok-clause-room c =
     let call = Put c.args.kind c.args.payload.now c.args.now in
-    let count = c.channels-channels.ensures ∙ ap (λ (s : StationValue). (inside s.end).upper.count) (sym c.self.view_is) in
+    let count = c.channels-channels.ensures ∙ ap (λ (s : StationValue). (inside s.end).upper.count) (sym c.self.view_is)
+    in
     rw (← c.self.view_is)
-    (loses-none call c.self.inside.reserve c.channels-channels.result c.self.inside.end c.set_aside.new.end c.put.new.self count
-    c.set_aside.ensures.same c.self.invariant.3 c.set_aside.ensures.bounded c.set_aside.ensures.deferred c.set_aside.ensures.shares c.in-Ok.ensures.turns.sent)
+    (loses-none call c.self.inside.reserve c.channels-channels.result c.self.inside.end c.set_aside.new.end
+    c.put.new.self count
+    c.set_aside.ensures.same c.self.invariant.3 c.set_aside.ensures.bounded c.set_aside.ensures.deferred
+    c.set_aside.ensures.shares c.in-Ok.ensures.turns.sent)
 
 pub invariant_of-self : goal.invariant_of-self
 invariant_of-self c =
     let call = Put c.args.kind c.args.payload.now c.args.now in
     let is : inside c.put.new.self ≡ (turn call (inside c.self.inside.end)).left =
-    c.in-Ok.ensures.turns.left ∙ ap (λ (e : EndValue DatagramQueue Global). (turn call (inside e)).left) c.set_aside.ensures.same in
-    let ready = turned-ready c.self.inside.reserve call (inside c.self.inside.end) (inside c.put.new.self) is c.self.invariant.3 in
+    c.in-Ok.ensures.turns.left ∙ ap (λ (e : EndValue DatagramQueue Global). (turn call (inside e)).left)
+    c.set_aside.ensures.same in
+    let ready = turned-ready c.self.inside.reserve call (inside c.self.inside.end) (inside c.put.new.self) is
+    c.self.invariant.3 in
     (search rules, search rules, search rules, ready)

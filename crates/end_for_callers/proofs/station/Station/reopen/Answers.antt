@@ -13,8 +13,10 @@ returns-clause-does c =
     record {
       left = c.reopen.ensures.turns.left;
       called = c.reopen.ensures.time;
-      datagrams = subst (λ (o : DatagramQueue). Posted o xs after.out) (c.clear.ensures ∙ ap (λ (p : OutboxValue). clear_outgoing p.out) c.channels.ensures.now)
-          (posted c.clear.new.self.out xs after.out (folds-roomless xs (told_in c.clear.new.self) (told_in after) c.reopen.ensures.turns.sent));
+      datagrams = subst (λ (o : DatagramQueue). Posted o xs after.out) (c.clear.ensures
+          ∙ ap (λ (p : OutboxValue). clear_outgoing p.out) c.channels.ensures.now)
+          (posted c.clear.new.self.out xs after.out
+          (folds-roomless xs (told_in c.clear.new.self) (told_in after) c.reopen.ensures.turns.sent));
       inbox = c.forget_loss.ensures;
       time = refl;
       reserve = refl;

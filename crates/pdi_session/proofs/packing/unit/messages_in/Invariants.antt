@@ -7,7 +7,8 @@ use Rattle.pdi_session.proofs.packing.unit.messages_in.Given as goal
 -- what was read and what is still to be read make up the unit
 abbrev pub invariant-loop-rest : goal.invariant-loop-rest
 invariant-loop-rest l =
-    (after (messages_of l.messages) (pieces_seen (UNIT_MESSAGES - length l.messages.items) l.rest) ≡ pieces_seen UNIT_MESSAGES l.octets)
+    (after (messages_of l.messages) (pieces_seen (UNIT_MESSAGES - length l.messages.items) l.rest)
+    ≡ pieces_seen UNIT_MESSAGES l.octets)
     × (length l.messages.items ≤ UNIT_MESSAGES)
 
 abbrev pub decreases-loop-rest : goal.decreases-loop-rest

@@ -11,15 +11,18 @@ returns-clause-exact c = c.messages_in.ensures ∙ sym (unit_some c.args.octets.
 
 pub returns-clause-found : goal.returns-clause-found
 returns-clause-found c =
-    let seen : seen_of c.messages_in.result ≡ unit_seen c.args.octets.now = c.messages_in.ensures ∙ sym (unit_some c.args.octets.now (search rules)) in
+    let seen : seen_of c.messages_in.result ≡ unit_seen c.args.octets.now = c.messages_in.ensures
+    ∙ sym (unit_some c.args.octets.now (search rules)) in
     answer_found c.messages_in.result c.args.octets.now c.type_inv.octets seen
 
 pub returns-clause-only : goal.returns-clause-only
 returns-clause-only c = λ ms text.
-    let seen : seen_of c.messages_in.result ≡ unit_seen c.args.octets.now = c.messages_in.ensures ∙ sym (unit_some c.args.octets.now (search rules)) in
+    let seen : seen_of c.messages_in.result ≡ unit_seen c.args.octets.now = c.messages_in.ensures
+    ∙ sym (unit_some c.args.octets.now (search rules)) in
     answer_only c.messages_in.result c.args.octets.now ms seen text
 
 pub returns-clause-fault : goal.returns-clause-fault
 returns-clause-fault c =
-    let seen : seen_of c.messages_in.result ≡ unit_seen c.args.octets.now = c.messages_in.ensures ∙ sym (unit_some c.args.octets.now (search rules)) in
+    let seen : seen_of c.messages_in.result ≡ unit_seen c.args.octets.now = c.messages_in.ensures
+    ∙ sym (unit_some c.args.octets.now (search rules)) in
     answer_fault c.messages_in.result c.args.octets.now c.type_inv.octets seen

@@ -8,7 +8,8 @@ abbrev pub invariant-loop-left : goal.invariant-loop-left
 invariant-loop-left l =
     record {
       ring : IsRing l.place l.left;
-      counted : l.items + items_in (messages_from l.places l.place l.left) ≡ items_in (messages_from l.places l.fn.first l.fn.count);
+      counted : l.items + items_in (messages_from l.places l.place l.left)
+          ≡ items_in (messages_from l.places l.fn.first l.fn.count);
       few : l.items + l.left ≤ l.fn.count;
     }
 

@@ -8,6 +8,7 @@ invariant-loop-taken g l =
     record {
       room : length l.unit.items ≤ l._taken * 402;
       some : l.count ≤ l._taken + length l.waiting;
-      written : l.unit.items ++ unit_text (take (l.count - l._taken) l.waiting) ≡ unit_text (take l.count l.initial.waiting);
+      written : l.unit.items ++ unit_text (take (l.count - l._taken) l.waiting)
+          ≡ unit_text (take l.count l.initial.waiting);
       rest : drop (l.count - l._taken) l.waiting ≡ drop l.count l.initial.waiting;
     }

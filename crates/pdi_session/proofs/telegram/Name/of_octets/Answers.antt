@@ -4,4 +4,6 @@ use Rattle.pdi_session.proofs.NameLemmas.{HasCharacters-ascii}
 use Rattle.pdi_session.proofs.telegram.Name.of_octets.Goals as goal
 
 pub from_utf8_unchecked-characters-requires : goal.from_utf8_unchecked-characters-requires
-from_utf8_unchecked-characters-requires c = IsUtf8-from_ascii c.args.octets.now (HasCharacters-ascii c.args.octets.now (sym c.fit_name.ensures ∙ c.if-not-fit_name.false))
+from_utf8_unchecked-characters-requires c =
+    IsUtf8-from_ascii c.args.octets.now (HasCharacters-ascii c.args.octets.now (sym c.fit_name.ensures
+    ∙ c.if-not-fit_name.false))

@@ -27,8 +27,10 @@ returns-in_default-name_in-clause-fault c =
 pub returns-clause-found : goal.returns-clause-found
 returns-clause-found c =
     let sized : IsSized c.args.octets.now = (omega arith, omega arith) in
-    let sender = seen_spelled (sender_field c.args.octets.now) c.in-Some.sender.characters.now (search rules) c.in-Some.ensures in
-    let receiver = seen_spelled (receiver_field c.args.octets.now) c.in-Some-name_in.receiver.characters.now (search rules) c.in-Some-name_in.ensures in
+    let sender = seen_spelled (sender_field c.args.octets.now) c.in-Some.sender.characters.now (search rules)
+    c.in-Some.ensures in
+    let receiver = seen_spelled (receiver_field c.args.octets.now) c.in-Some-name_in.receiver.characters.now
+    (search rules) c.in-Some-name_in.ensures in
     tele_spelled _ c.args.octets.now c.type_inv.octets sized
     (
     record {
@@ -43,4 +45,5 @@ returns-clause-found c =
 
 pub returns-clause-only : goal.returns-clause-only
 returns-clause-only c = λ t text.
-    tele_only _ t c.args.octets.now text (search rules) c.u16_at-kind.ensures c.in-Some.ensures c.in-Some-name_in.ensures c.split_at.ensures.back
+    tele_only _ t c.args.octets.now text (search rules) c.u16_at-kind.ensures c.in-Some.ensures
+    c.in-Some-name_in.ensures c.split_at.ensures.back

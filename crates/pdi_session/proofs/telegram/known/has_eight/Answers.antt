@@ -11,5 +11,6 @@ returns c = λ same.
     c.read_u64.ensures ∙ ap (little_number 8) (take_rest c.args.one.now c.args.place) in
     let other : c.read_u64-2.result ≡ little_number 8 (drop c.args.place c.args.other.now) =
     c.read_u64-2.ensures ∙ ap (little_number 8) (take_rest c.args.other.now c.args.place) in
-    eight_alike c.args.one.now c.args.other.now c.args.place c.type_inv.one c.type_inv.other c.requires.one c.requires.other
+    eight_alike c.args.one.now c.args.other.now c.args.place c.type_inv.one c.type_inv.other c.requires.one
+    c.requires.other
     (sym one ∙ eqb-true c.read_u64.result c.read_u64-2.result same ∙ other)

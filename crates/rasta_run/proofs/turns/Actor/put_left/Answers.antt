@@ -10,11 +10,15 @@ pub returns-then-is_full-clause-puts : goal.returns-then-is_full-clause-puts
 returns-then-is_full-clause-puts g c =
     let along = c.puts.invariant.along in
     let full =
-    full-offer (λ o. g.C.Channels.told o.inner) g.T.Application.refuses c.args.now (c.puts.self.end, c.puts.self.put, c.puts.app) c.in-Some.put.now
+    full-offer (λ o. g.C.Channels.told o.inner) g.T.Application.refuses c.args.now
+    (c.puts.self.end, c.puts.self.put, c.puts.app) c.in-Some.put.now
     c.in_ok-offered.offered
-    (c.put_one.new.self.end, c.put_one.new.self.put, c.put_one.new.app) c.in_ok-offered.ensures.offers (sym c.is_full-is_full.ensures ∙ c.if-is_full.true) in
-    stops (λ o. g.C.Channels.told o.inner) g.T.Application.refuses _ _ _ _ _ _ _ _ _ _ _ _ _ _ _ along.0 along.2 along.3 c.in-Some.ensures.cases.0 full.0
-    (ap (λ a. a.left.now) c.put_one.ensures.kept) full.1 full.2 full.3 (ap (λ a. a.refused_entries) c.put_one.ensures.kept)
+    (c.put_one.new.self.end, c.put_one.new.self.put, c.put_one.new.app) c.in_ok-offered.ensures.offers
+    (sym c.is_full-is_full.ensures ∙ c.if-is_full.true) in
+    stops (λ o. g.C.Channels.told o.inner) g.T.Application.refuses _ _ _ _ _ _ _ _ _ _ _ _ _ _ _ along.0 along.2 along.3
+    c.in-Some.ensures.cases.0 full.0
+    (ap (λ a. a.left.now) c.put_one.ensures.kept) full.1 full.2 full.3
+    (ap (λ a. a.refused_entries) c.put_one.ensures.kept)
 
 pub puts-preserved : goal.puts-preserved
 puts-preserved g c =
@@ -26,6 +30,7 @@ puts-preserved g c =
             c.in_ok-offered.offered,
             sym c.is_full-is_full.ensures ∙ c.if-is_full.false,
             c.in_ok-offered.ensures.offers,
-            c.refusals_after-self.ensures ∙ ap (λ a. refusals_after c.in_ok-offered.offered a.refused_entries) c.put_one.ensures.kept,
+            c.refusals_after-self.ensures ∙ ap (λ a. refusals_after c.in_ok-offered.offered a.refused_entries)
+                c.put_one.ensures.kept,
           );
     }

@@ -5,7 +5,8 @@ use Rattle.rasta_run.proofs.turns.Actor.put_lines.Goals as goal
 
 pub returns-then-not-branch-clause-puts : goal.returns-then-not-branch-clause-puts
 returns-then-not-branch-clause-puts g c =
-    when-ready (λ o. g.C.Channels.told o.inner) g.T.Application.refuses _ _ _ _ _ _ (sym c.may_put_lines-is_ready.ensures ∙ c.if-not-is_ready.false) (
+    when-ready (λ o. g.C.Channels.told o.inner) g.T.Application.refuses _ _ _ _ _ _
+    (sym c.may_put_lines-is_ready.ensures ∙ c.if-not-is_ready.false) (
       c.lines.place,
       record {
         end = c.lines.self.end;
@@ -17,7 +18,22 @@ returns-then-not-branch-clause-puts g c =
       c.lines.invariant.along,
       inr (
         refl,
-        line-as (λ o. g.C.Channels.told o.inner) g.T.Application.refuses _ _ _ (record { end = c.lines.self.end; put = c.lines.self.put; app = c.lines.app; refused = c.lines.self.refused_lines; input = input_of c.lines.feed }) _ _ (record { end = c.put_line.new.self.end; put = c.put_line.new.self.put; app = c.put_line.new.app; refused = c.put_line.new.self.refused_lines; input = input_of c.put_line.new.feed }) c.lines.invariant.feed.1 c.if-not-branch.true
+        line-as (λ o. g.C.Channels.told o.inner) g.T.Application.refuses _ _ _
+            (record {
+              end = c.lines.self.end;
+              put = c.lines.self.put;
+              app = c.lines.app;
+              refused = c.lines.self.refused_lines;
+              input = input_of c.lines.feed;
+            }) _ _
+            (record {
+              end = c.put_line.new.self.end;
+              put = c.put_line.new.self.put;
+              app = c.put_line.new.app;
+              refused = c.put_line.new.self.refused_lines;
+              input = input_of c.put_line.new.feed;
+            })
+            c.lines.invariant.feed.1 c.if-not-branch.true
             c.in_ok-put_line.ensures.takes,
       ),
     )
@@ -27,16 +43,48 @@ lines-preserved g c =
     record {
       time = c.put_line.ensures.time;
       kept = search rules;
-      feed = (c.put_line.ensures.feed.0 ∙ c.lines.invariant.feed.0, c.put_line.ensures.feed.1 ∙ c.lines.invariant.feed.1);
+      feed =
+          (c.put_line.ensures.feed.0 ∙ c.lines.invariant.feed.0, c.put_line.ensures.feed.1 ∙ c.lines.invariant.feed.1);
       along =
-          line-more (λ o. g.C.Channels.told o.inner) g.T.Application.refuses _ _ _ _ (record { end = c.lines.self.end; put = c.lines.self.put; app = c.lines.app; refused = c.lines.self.refused_lines; input = input_of c.lines.feed }) (record { end = c.put_line.new.self.end; put = c.put_line.new.self.put; app = c.put_line.new.app; refused = c.put_line.new.self.refused_lines; input = input_of c.put_line.new.feed }) c.lines.invariant.along
-          (line-as (λ o. g.C.Channels.told o.inner) g.T.Application.refuses _ _ _ (record { end = c.lines.self.end; put = c.lines.self.put; app = c.lines.app; refused = c.lines.self.refused_lines; input = input_of c.lines.feed }) _ _ (record { end = c.put_line.new.self.end; put = c.put_line.new.self.put; app = c.put_line.new.app; refused = c.put_line.new.self.refused_lines; input = input_of c.put_line.new.feed }) c.lines.invariant.feed.1 c.if-not-branch.false
+          line-more (λ o. g.C.Channels.told o.inner) g.T.Application.refuses _ _ _ _
+          (record {
+            end = c.lines.self.end;
+            put = c.lines.self.put;
+            app = c.lines.app;
+            refused = c.lines.self.refused_lines;
+            input = input_of c.lines.feed;
+          })
+          (record {
+            end = c.put_line.new.self.end;
+            put = c.put_line.new.self.put;
+            app = c.put_line.new.app;
+            refused = c.put_line.new.self.refused_lines;
+            input = input_of c.put_line.new.feed;
+          })
+          c.lines.invariant.along
+          (line-as (λ o. g.C.Channels.told o.inner) g.T.Application.refuses _ _ _
+          (record {
+            end = c.lines.self.end;
+            put = c.lines.self.put;
+            app = c.lines.app;
+            refused = c.lines.self.refused_lines;
+            input = input_of c.lines.feed;
+          }) _ _
+          (record {
+            end = c.put_line.new.self.end;
+            put = c.put_line.new.self.put;
+            app = c.put_line.new.app;
+            refused = c.put_line.new.self.refused_lines;
+            input = input_of c.put_line.new.feed;
+          })
+          c.lines.invariant.feed.1 c.if-not-branch.false
           c.in_ok-put_line.ensures.takes);
     }
 
 pub returns-clause-puts : goal.returns-clause-puts
 returns-clause-puts g c =
-    when-ready (λ o. g.C.Channels.told o.inner) g.T.Application.refuses _ _ _ _ _ _ (sym c.may_put_lines-is_ready.ensures ∙ c.if-not-is_ready.false) (
+    when-ready (λ o. g.C.Channels.told o.inner) g.T.Application.refuses _ _ _ _ _ _
+    (sym c.may_put_lines-is_ready.ensures ∙ c.if-not-is_ready.false) (
       c.lines.place,
       record {
         end = c.lines.self.end;

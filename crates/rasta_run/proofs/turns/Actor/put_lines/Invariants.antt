@@ -17,7 +17,20 @@ invariant-lines g l =
           };
       feed : (l.feed.reader ≡ l.initial.feed.reader) × (l.feed.ended ≡ l.initial.feed.ended);
       along :
-          TakesLines (λ o. g.C.Channels.told o.inner) g.T.Application.refuses l.now (is_some l.initial.feed.ended) l.place
-          (record { end = l.initial.self.end; put = l.initial.self.put; app = l.initial.app; refused = l.initial.self.refused_lines; input = input_of l.initial.feed })
-          (record { end = l.self.end; put = l.self.put; app = l.app; refused = l.self.refused_lines; input = input_of l.feed });
+          TakesLines (λ o. g.C.Channels.told o.inner) g.T.Application.refuses l.now (is_some l.initial.feed.ended)
+          l.place
+          (record {
+            end = l.initial.self.end;
+            put = l.initial.self.put;
+            app = l.initial.app;
+            refused = l.initial.self.refused_lines;
+            input = input_of l.initial.feed;
+          })
+          (record {
+            end = l.self.end;
+            put = l.self.put;
+            app = l.app;
+            refused = l.self.refused_lines;
+            input = input_of l.feed;
+          });
     }

@@ -12,7 +12,10 @@ returns-clause-puts g c =
       app = c.put_left_if.new.app;
       deaf = c.put_left_if.new.self.deaf_turns;
       closed = c.put_left_if.new.self.was_closed;
-    }) _ _ _ c.may_put_list-puts.ensures c.in_ok-put_left_if.ensures.puts (ap (λ a. a.side) c.put_left_if.ensures.kept) c.may_complete-ends.ensures
-    c.in_ok-end_initialising_if.ensures.ends (ap (λ a. a.left.now) c.end_initialising_if.ensures.kept) (ap (λ a. a.put) c.end_initialising_if.ensures.kept)
-    (ap (λ a. a.refused_entries) c.end_initialising_if.ensures.kept) (ap (λ a. a.deaf_turns) c.end_initialising_if.ensures.kept)
+    }) _ _ _ c.may_put_list-puts.ensures c.in_ok-put_left_if.ensures.puts (ap (λ a. a.side) c.put_left_if.ensures.kept)
+    c.may_complete-ends.ensures
+    c.in_ok-end_initialising_if.ensures.ends (ap (λ a. a.left.now) c.end_initialising_if.ensures.kept)
+    (ap (λ a. a.put) c.end_initialising_if.ensures.kept)
+    (ap (λ a. a.refused_entries) c.end_initialising_if.ensures.kept)
+    (ap (λ a. a.deaf_turns) c.end_initialising_if.ensures.kept)
     (ap (λ a. a.was_closed) c.end_initialising_if.ensures.kept)

@@ -5,9 +5,16 @@ use Rattle.safe_machine.proofs.endpoint.MachineState.answer_ahead.Goals as goal
 pub reply-requires-clause-short : goal.reply-requires-clause-short
 reply-requires-clause-short g c =
     let e = ap (λ (v : View). v.ring) c.note_request.ensures ∙ ap (λ (v : View). v.ring) c.confirm_units.ensures in
-    omega (arith, ap length e, short-above (c.args.self.now.confirmed + cs_step c.args.self.now (pdu_of c.args.pdu.now)) c.args.self.now.ring, c.requires.short)
+    omega (
+      arith,
+      ap length e,
+      short-above (c.args.self.now.confirmed + cs_step c.args.self.now (pdu_of c.args.pdu.now))
+          c.args.self.now.ring,
+      c.requires.short,
+    )
 
 pub reply-requires-clause-sized : goal.reply-requires-clause-sized
 reply-requires-clause-sized g c =
     let e = ap (λ (v : View). v.ring) c.note_request.ensures ∙ ap (λ (v : View). v.ring) c.confirm_units.ensures in
-    subst AllUnits (sym e) (sized-above (c.args.self.now.confirmed + cs_step c.args.self.now (pdu_of c.args.pdu.now)) c.args.self.now.ring c.requires.sized)
+    subst AllUnits (sym e) (sized-above (c.args.self.now.confirmed + cs_step c.args.self.now (pdu_of c.args.pdu.now))
+    c.args.self.now.ring c.requires.sized)

@@ -10,7 +10,8 @@ pub send_unit-requires-clause-room : goal.send_unit-requires-clause-room
 send_unit-requires-clause-room g c =
     let v : View = c.args.self.now in
     let k = reached-sound v c.requires.reached in
-    let room_left : nat_lt (length v.ring) v.window ≡ true = (and_parts (in_turn v.connection) (nat_lt (length v.ring) v.window) c.requires.open).1 in
+    let room_left : nat_lt (length v.ring) v.window
+    ≡ true = (and_parts (in_turn v.connection) (nat_lt (length v.ring) v.window) c.requires.open).1 in
     omega (arith, ltb-true (length v.ring) v.window room_left, k.window, k.room)
 
 pub send_unit-requires-clause-above : goal.send_unit-requires-clause-above
@@ -20,5 +21,7 @@ pub returns-clause-reached : goal.returns-clause-reached
 returns-clause-reached g c =
     let v : View = c.args.self.now in
     let unit = c.args.unit.now in
-    let goes = ap (λ (b : Bool). (if b then send_unit_turn unit c.args.now v else still v).left) (sym c.requires.open) in
-    reached-turn (Sends unit c.args.now) v c.send_unit.new.self c.requires.reached c.requires.size (c.send_unit.ensures.left ∙ goes)
+    let goes = ap (λ (b : Bool). (if b then send_unit_turn unit c.args.now v else still v).left) (sym c.requires.open)
+    in
+    reached-turn (Sends unit c.args.now) v c.send_unit.new.self c.requires.reached c.requires.size
+    (c.send_unit.ensures.left ∙ goes)

@@ -7,7 +7,8 @@ pub returns-clause-confirmed : goal.returns-clause-confirmed
 returns-clause-confirmed g c turn =
     let end = c.self.inside.end in
     let now_turn : in_turn end.connection ≡ true = ap (λ (v : View). in_turn v.connection) c.self.view_is ∙ turn in
-    subst (λ (v : View). v.confirmed < v.made) c.self.view_is ((reached-sound end c.self.invariant).live (turn-live end.connection now_turn))
+    subst (λ (v : View). v.confirmed < v.made) c.self.view_is
+    ((reached-sound end c.self.invariant).live (turn-live end.connection now_turn))
 
 pub returns-clause-window : goal.returns-clause-window
 returns-clause-window g c =
@@ -19,4 +20,5 @@ returns-clause-window g c =
     )
 
 pub returns-clause-room : goal.returns-clause-room
-returns-clause-room g c = subst (λ (v : View). v.window ≤ WINDOW_MAX) c.self.view_is (reached-sound c.self.inside.end c.self.invariant).window
+returns-clause-room g c = subst (λ (v : View). v.window ≤ WINDOW_MAX) c.self.view_is
+    (reached-sound c.self.inside.end c.self.invariant).window

@@ -7,4 +7,5 @@ leave-requires g c = record { few = omega (arith, (reached-sound c.self.inside.e
 
 pub invariant_of-self : goal.invariant_of-self
 invariant_of-self g c =
-    reached-turn (LeavesNow c.args.reason c.args.detail c.args.now) c.self.inside.end c.leave.new.self c.self.invariant tt c.leave.ensures.left
+    reached-turn (LeavesNow c.args.reason c.args.detail c.args.now) c.self.inside.end c.leave.new.self c.self.invariant
+    tt c.leave.ensures.left

@@ -7,7 +7,8 @@ pub returns-then-not-is_legal-clause-bad_config : goal.returns-then-not-is_legal
 returns-then-not-is_legal-clause-bad_config g c = (λ _. sym c.if-not-is_legal.ensures, λ _. refl)
 
 pub begin-end-requires-clause-body : goal.begin-end-requires-clause-body
-begin-end-requires-clause-body g c = (own-legal (settings_of c.args.role c.args.config) (sym c.if-not-is_legal.ensures)).window
+begin-end-requires-clause-body g c =
+    (own-legal (settings_of c.args.role c.args.config) (sym c.if-not-is_legal.ensures)).window
 
 pub invariant_of-result : goal.invariant_of-result
 invariant_of-result g c =
@@ -18,7 +19,9 @@ invariant_of-result g c =
       moves = [];
       legal = sym c.if-not-is_legal.ensures;
       read = tt;
-      stands = c.begin-end.ensures.left ∙ (opening_law_holds (settings_of c.args.role c.args.config) c.args.first_sn c.args.now).stands;
+      stands =
+          c.begin-end.ensures.left ∙ (opening_law_holds (settings_of c.args.role c.args.config) c.args.first_sn
+          c.args.now).stands;
     }
 
 pub returns-in-Ok-clause-bad_config : goal.returns-in-Ok-clause-bad_config

@@ -8,7 +8,8 @@ pub reopen-requires-clause-room : goal.reopen-requires-clause-room
 reopen-requires-clause-room g c = reached-room c.self.inside.end c.self.invariant
 
 pub reopen-requires-clause-body : goal.reopen-requires-clause-body
-reopen-requires-clause-body g c = (own-legal c.self.inside.end.settings (reached-legal c.self.inside.end c.self.invariant)).window
+reopen-requires-clause-body g c =
+    (own-legal c.self.inside.end.settings (reached-legal c.self.inside.end c.self.invariant)).window
 
 pub invariant_of-self : goal.invariant_of-self
 invariant_of-self g c =

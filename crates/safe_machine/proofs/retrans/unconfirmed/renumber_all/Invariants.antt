@@ -8,7 +8,8 @@ invariant-loop-far l =
     record {
       numbers :
           take l.far (unit_values (units_from l.places l.first l.count))
-          ++ renumber_units (l.number + l.far) (octets_of (drop l.far (unit_values (units_from l.places l.first l.count))))
+          ++ renumber_units (l.number + l.far) (octets_of
+          (drop l.far (unit_values (units_from l.places l.first l.count))))
           ≡ renumber_units l.number (octets_of (unit_values (units_from l.initial.places l.first l.count)));
       long : length l.places ≡ length l.initial.places;
     }

@@ -15,7 +15,8 @@ invariant_of-self-2 g c =
           rw w.self-inside-is (record {
             within = omega (arith, longer, c.in_ok-try_reserve.ensures.len, c.self.invariant.within);
             named = more_made c.self.inside.il c.self.inside.fe _ _ c.self.inside.order.items _ label _
-                (λ j h. rw w.in_ok-add-in-Interlocking.ensures.ok (stays_named_before c.self.inside.il c.args.datagram.now j h)) (λ j h. h) (search rules) later
+                (λ j h. rw w.in_ok-add-in-Interlocking.ensures.ok
+                (stays_named_before c.self.inside.il c.args.datagram.now j h)) (λ j h. h) (search rules) later
                 c.self.invariant.named;
           })
       | in-FieldElement+in_ok-add-in-FieldElement w ↦
@@ -25,7 +26,8 @@ invariant_of-self-2 g c =
           rw w.self-inside-is (record {
             within = omega (arith, longer, c.in_ok-try_reserve.ensures.len, c.self.invariant.within);
             named = more_made c.self.inside.il c.self.inside.fe _ _ c.self.inside.order.items _ label _ (λ j h. h)
-                (λ j h. rw w.in_ok-add-in-FieldElement.ensures.ok (stays_named_before c.self.inside.fe c.args.datagram.now j h)) (search rules) later
+                (λ j h. rw w.in_ok-add-in-FieldElement.ensures.ok
+                (stays_named_before c.self.inside.fe c.args.datagram.now j h)) (search rules) later
                 c.self.invariant.named;
           })
     ]

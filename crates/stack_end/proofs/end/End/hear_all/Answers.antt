@@ -4,8 +4,12 @@ use Rattle.stack_end.proofs.end.End.hear_all.Goals as goal
 
 pub returns-in-Ok-false-clause-done : goal.returns-in-Ok-false-clause-done
 returns-in-Ok-false-clause-done g c =
-    let along = c.loop.invariant.along in
-    (along.0, (c.loop.self, c.loop.taker), along.2, inr (omega (arith, along.1), rw c.in-Ok-false.field-0-test at c.in-Ok-false.ensures.heard))
+    let along = c.loop.invariant.along in (
+      along.0,
+      (c.loop.self, c.loop.taker),
+      along.2,
+      inr (omega (arith, along.1), rw c.in-Ok-false.field-0-test at c.in-Ok-false.ensures.heard),
+    )
 
 pub returns-in-Err-clause-failed : goal.returns-in-Err-clause-failed
 returns-in-Err-clause-failed g c =

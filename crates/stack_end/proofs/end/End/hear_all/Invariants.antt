@@ -8,5 +8,6 @@ invariant-loop g l =
       time : l.self.time ≤ l.now;
       along :
           (heard : List (ℕ × List ℕ))
-          × (length heard ≡ l.counter) × FoldsTo (ProcessesDatagram g.C.Channels.told g.T.Taker.takes l.now) (l.initial.self, l.initial.taker) heard (l.self, l.taker);
+          × (length heard ≡ l.counter) × FoldsTo (ProcessesDatagram g.C.Channels.told g.T.Taker.takes l.now)
+          (l.initial.self, l.initial.taker) heard (l.self, l.taker);
     }

@@ -7,5 +7,15 @@ returns-in-Ok-Some-clause-heard g c =
     let buffer = c.ask.new.buffer in
     let asked = rw c.in-Ok-Some.field-0-is at c.in-Ok-Some.ensures.asked in (
       (c.in-Ok-Some.channel, take size buffer),
-      (size, buffer, c.ask.new.self, refl, asked, c.arrive.ensures.turns, c.arrive.ensures.time, c.arrive.ensures.received, c.arrive.ensures.recent),
+      (
+        size,
+        buffer,
+        c.ask.new.self,
+        refl,
+        asked,
+        c.arrive.ensures.turns,
+        c.arrive.ensures.time,
+        c.arrive.ensures.received,
+        c.arrive.ensures.recent,
+      ),
     )

@@ -5,7 +5,8 @@ use Rattle.stack_end.proofs.end.End.put_behind.Goals as goal
 pub returns-clause-packs : goal.returns-clause-packs
 returns-clause-packs g c =
     subst (λ (i : Inside). can_pack i.upper ≡ false) (sym c.in_ok-put.ensures.does.left)
-    (puts-empties c.args.kind c.args.payload.now c.args.now (fields_of c.self.inside.layers.upper) c.self.invariant.some)
+    (puts-empties c.args.kind c.args.payload.now c.args.now (fields_of c.self.inside.layers.upper)
+    c.self.invariant.some)
 
 pub returns-clause-kept : goal.returns-clause-kept
 returns-clause-kept g c =

@@ -10,9 +10,11 @@ returns-in_default-clause-does g c =
     let i = Datagram c.args.octets.now c.args.now in
     let v = inside_of c.args.self.now in
     let t = upper_turn (guard_turn now) v in
-    let one = went-alone takes t _ _ _ _ (above-went (guard_turn now) v _ _ _ (alone-told (guard_turn now v.upper) _ _ _ _ c.tell_change.ensures c.guard.ensures.does))
+    let one = went-alone takes t _ _ _ _ (above-went (guard_turn now) v _ _ _
+    (alone-told (guard_turn now v.upper) _ _ _ _ c.tell_change.ensures c.guard.ensures.does))
     in
-    open-went takes v (turn_then t (input_and_send_turn now i)) c.state.result _ _ _ _ _ c.state.ensures.state c.in_default.not-Closed
+    open-went takes v (turn_then t (input_and_send_turn now i)) c.state.result _ _ _ _ _ c.state.ensures.state
+    c.in_default.not-Closed
     (went-then takes t (input_and_send_turn now i) _ _ _ _ _ _ _ _ one c.deliver.ensures.does)
 
 pub returns-in_default-clause-event : goal.returns-in_default-clause-event

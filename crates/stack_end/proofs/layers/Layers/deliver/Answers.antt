@@ -11,8 +11,10 @@ returns-in_default-clause-does g c =
     let t = input_turn now i v in
     let one = receives-went takes now i v _ _ _ _ _ _ c.receive-event.ensures.layer c.receive-event.ensures.does in
     let two = went-alone takes _ _ _ _ _
-    (above-went (send_turn now) record { red = c.receive-event.new.red; upper = fields_of c.receive-event.new.self } _ _ _ c.send_waiting.ensures.does) in
-    open-went takes v (turn_then t (upper_turn (send_turn now))) c.state.result _ _ _ _ _ c.state.ensures.state c.in_default.not-Closed
+    (above-went (send_turn now) record { red = c.receive-event.new.red; upper = fields_of c.receive-event.new.self } _ _
+    _ c.send_waiting.ensures.does) in
+    open-went takes v (turn_then t (upper_turn (send_turn now))) c.state.result _ _ _ _ _ c.state.ensures.state
+    c.in_default.not-Closed
     (went-then takes t (upper_turn (send_turn now)) _ _ _ _ _ _ _ _ one two)
 
 pub returns-in_default-clause-event : goal.returns-in_default-clause-event

@@ -10,9 +10,12 @@ returns-clause-does g c =
     let v = fields_of c.args.self.now in
     let t = leave_turn c.args.now (Some (ClosedByUser, Unspecified)) v in
     let two = alone-then t end_session_turn _ _ _ _ _ c.leave.ensures.does c.settle.ensures.does in
-    let three = alone-then (turn_then t end_session_turn) (departure_turn c.own_departure.result) _ _ _ _ _ two c.depart.ensures.does in
+    let three = alone-then (turn_then t end_session_turn) (departure_turn c.own_departure.result) _ _ _ _ _ two
+    c.depart.ensures.does in
     let by_cause = λ (q : Option Departure). turn_then (turn_then t end_session_turn) (departure_turn q) in
     let cause = c.own_departure.ensures ∙ ap (λ why. own_departure why c.args.now) (c.user_leaves-why.ensures
     ∙ ap (λ q. if is_closed q then None else Some (ClosedByUser, Unspecified)) c.state.ensures.state) in
-    alone-as (by_cause c.own_departure.result) (by_cause (own_departure (if is_closed v.machine.connection then None else Some (ClosedByUser, Unspecified)) c.args.now))
+    alone-as (by_cause c.own_departure.result)
+    (by_cause (own_departure (if is_closed v.machine.connection then None else Some (ClosedByUser, Unspecified))
+    c.args.now))
     _ _ _ (ap by_cause cause) three

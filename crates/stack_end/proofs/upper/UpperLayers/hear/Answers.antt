@@ -20,7 +20,8 @@ shape_of-self-5 g c = FoldsTo-keeps (λ s. s.session.ghost_name) _ (λ s x t h. 
 
 pub returns-clause-asks : goal.returns-clause-asks
 returns-clause-asks g c =
-    (judges-units g.T.Taker.takes (λ s. talk s.session.now s.waiting.now s.taker.now) (λ s. s.asked) _ (λ s u t r. r.3) _ _ _ c.arrive-step.ensures.taken refl
+    (judges-units g.T.Taker.takes (λ s. talk s.session.now s.waiting.now s.taker.now) (λ s. s.asked) _ (λ s u t r. r.3)
+    _ _ _ c.arrive-step.ensures.taken refl
     (dialogue_of (fields_of c.args.self.now)) record { state = refl; waits = refl }).1
 
 pub returns-clause-does : goal.returns-clause-does
@@ -28,13 +29,20 @@ returns-clause-does g c =
     let takes = g.T.Taker.takes in
     let v = fields_of c.args.self.now in
     let t = machine_octets_turn c.args.octets.now c.args.now v.machine in
-    let one = machine-went (λ s. g.C.Channels.told s.channels.now) (λ s. s.numbers.now) (λ s. s.count) (λ s. s.made.now) _ (λ s pdu t r. (r.3, r.4, r.5, r.6)) t v _ _ _
+    let one = machine-went (λ s. g.C.Channels.told s.channels.now) (λ s. s.numbers.now) (λ s. s.count) (λ s. s.made.now)
+    _ (λ s pdu t r. (r.3, r.4, r.5, r.6)) t v _ _ _
     c.arrive-step.ensures.left refl refl refl c.arrive-step.ensures.made in
     let judged =
-    judges-units takes (λ s. talk s.session.now s.waiting.now s.taker.now) (λ s. s.asked) _ (λ s u t r. r.3) _ _ _ c.arrive-step.ensures.taken refl
+    judges-units takes (λ s. talk s.session.now s.waiting.now s.taker.now) (λ s. s.asked) _ (λ s u t r. r.3) _ _ _
+    c.arrive-step.ensures.taken refl
     (dialogue_of v) record { state = refl; waits = refl } in
     let dialogue = (judge_part c.args.now c.args.octets.now v).left in
-    let two = session-went takes (dialogue_of v) dialogue (record v { numbers = c.arrive-step.new.out.numbers.now; machine = c.arrive-step.new.self; made = c.arrive-step.new.out.made.now }) _ _ _
+    let two = session-went takes (dialogue_of v) dialogue
+    (record v {
+      numbers = c.arrive-step.new.out.numbers.now;
+      machine = c.arrive-step.new.self;
+      made = c.arrive-step.new.out.made.now;
+    }) _ _ _
     refl judged.0 in
     let t0 = with_units (octets_units c.args.octets.now c.args.now v.machine) (machine_turn t v) in
     let went = went-then takes t0 (session_turn dialogue) _ _ _ _ _ _ _ _

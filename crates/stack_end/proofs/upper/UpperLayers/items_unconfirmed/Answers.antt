@@ -18,6 +18,7 @@ loop-place-preserved g c =
             few = omega (arith, i.few, few, w.items-is);
           }
       | in_default w ↦
-          let past = units-past us c.loop-place.place (sym c.unit.ensures ∙ ap (option_map (λ octets. octets.now)) w.in_default.is) in
+          let past = units-past us c.loop-place.place (sym c.unit.ensures
+          ∙ ap (option_map (λ octets. octets.now)) w.in_default.is) in
           record { counted = omega (arith, i.counted, past, w.items-is); few = omega (arith, i.few, w.items-is) }
     ]

@@ -8,6 +8,7 @@ use Rattle.stack_end.proofs.upper.UpperLayers.items_unconfirmed.Given as goal
 abbrev pub invariant-loop-place : goal.invariant-loop-place
 invariant-loop-place g l =
     record {
-      counted : l.items + items_in_units (drop l.place (octets_of l.self.machine.ring)) ≡ items_in_units (octets_of l.self.machine.ring);
+      counted : l.items + items_in_units (drop l.place (octets_of l.self.machine.ring))
+          ≡ items_in_units (octets_of l.self.machine.ring);
       few : l.items ≤ UNIT_MESSAGES * l.place;
     }

@@ -16,6 +16,8 @@ pub returns-in-Some-clause-does : goal.returns-in-Some-clause-does
 returns-in-Some-clause-does g c =
     let v = fields_of c.args.self.now in
     let t = machine_leave_turn c.in-Some.reason c.in-Some.detail c.args.now v.machine in
-    let one = machine-went (λ s. g.C.Channels.told s.channels.now) (λ s. s.numbers.now) (λ s. s.count) (λ s. s.made.now) _ (λ s pdu t r. (r.3, r.4, r.5, r.6)) t v _ _ _
+    let one = machine-went (λ s. g.C.Channels.told s.channels.now) (λ s. s.numbers.now) (λ s. s.count) (λ s. s.made.now)
+    _ (λ s pdu t r. (r.3, r.4, r.5, r.6)) t v _ _ _
     c.close.ensures.left refl refl refl c.close.ensures.made in
-    alone-as (machine_turn t v) (leave_turn c.args.now c.args.asked v) _ _ _ (ap (λ (q : Option Leaving). leave_turn c.args.now q v) (sym c.in-Some.is)) one
+    alone-as (machine_turn t v) (leave_turn c.args.now c.args.asked v) _ _ _
+    (ap (λ (q : Option Leaving). leave_turn c.args.now q v) (sym c.in-Some.is)) one

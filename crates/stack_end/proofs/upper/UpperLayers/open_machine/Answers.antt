@@ -15,5 +15,6 @@ pub returns-clause-does : goal.returns-clause-does
 returns-clause-does g c =
     let v = fields_of c.args.self.now in
     let t = opening_turn v.machine.settings c.args.first_sn c.args.now in
-    machine-went (λ s. g.C.Channels.told s.channels.now) (λ s. s.numbers.now) (λ s. s.count) (λ s. s.made.now) _ (λ s pdu t r. (r.3, r.4, r.5, r.6)) t v _ _ _
+    machine-went (λ s. g.C.Channels.told s.channels.now) (λ s. s.numbers.now) (λ s. s.count) (λ s. s.made.now) _
+    (λ s pdu t r. (r.3, r.4, r.5, r.6)) t v _ _ _
     c.reopen.ensures.left refl refl refl c.reopen.ensures.made

@@ -25,31 +25,40 @@ returns-clause-does g c =
     let h1 = went-then takes t0 (note_request_turn before octets) _ _ _ _ _ _ _ _ c.hear_and_tell-step.ensures.does
     (went-alone takes _ _ _ _ _ c.note_request.ensures.does) in
     let h2 = went-then takes t1 (up_turn before) _ _ _ _ _ _ _ _ h1 (went-alone takes _ _ _ _ _ c.rise.ensures.does) in
-    let h3 = went-then takes t2 (leave_turn now why) _ _ _ _ _ _ _ _ h2 (went-alone takes _ _ _ _ _ c.leave.ensures.does) in
-    let h4 = went-then takes t3 end_session_turn _ _ _ _ _ _ _ _ h3 (went-alone takes _ _ _ _ _ c.settle.ensures.does) in
-    let h5 = went-then takes (turn_then t3 end_session_turn) (departure_turn c.part_departure.result) _ _ _ _ _ _ _ _ h4 (went-alone takes _ _ _ _ _ c.depart.ensures.does) in
+    let h3 = went-then takes t2 (leave_turn now why) _ _ _ _ _ _ _ _ h2
+    (went-alone takes _ _ _ _ _ c.leave.ensures.does) in
+    let h4 = went-then takes t3 end_session_turn _ _ _ _ _ _ _ _ h3 (went-alone takes _ _ _ _ _ c.settle.ensures.does)
+    in
+    let h5 = went-then takes (turn_then t3 end_session_turn) (departure_turn c.part_departure.result) _ _ _ _ _ _ _ _ h4
+    (went-alone takes _ _ _ _ _ c.depart.ensures.does) in
     let t5 = turn_then (turn_then t3 end_session_turn) (departure_turn c.part_departure.result) in
     let step = c.hear_and_tell-step.result.0 in
-    let long = c.waited-waited.result in
-    let h6 = went-then takes t5 (count_turn step long now) _ _ _ _ _ _ _ _ h5 (went-alone takes _ _ _ _ _ c.count.ensures.does) in
+    let long = c.waiting_time-waited.result in
+    let h6 = went-then takes t5 (count_turn step long now) _ _ _ _ _ _ _ _ h5
+    (went-alone takes _ _ _ _ _ c.count.ensures.does) in
     let told = went-told takes (turn_then t5 (count_turn step long now)) _ _ _ _ _ _ c.tell_change.ensures h6 in
     let heard = c.hear_and_tell-step.ensures in
     let answer = decoded_answer (safe_seen v.machine.settings.rule octets) now v.machine in
     let asked = (judge_part now octets v).leaving in
-    let shut : c.closes-shut.result ≡ (not (is_closed v.machine.connection) && is_closed (machine_octets_turn octets now v.machine).left.connection) =
+    let shut : c.closes-shut.result ≡ (not (is_closed v.machine.connection)
+    && is_closed (machine_octets_turn octets now v.machine).left.connection) =
     c.closes-shut.ensures ∙ ap (λ q. not (is_closed q) && is_closed c.state-after.result) c.state-before.ensures.state
     ∙ ap (λ q. not (is_closed v.machine.connection) && is_closed q)
     (c.state-after.ensures.state ∙ ap (λ (w : Fields). w.machine.connection) heard.does.left) in
     let cause : c.part_departure.result ≡ closing_departure now octets v =
-    c.part_departure.ensures ∙ ap (λ s. part_departure s c.hear_and_tell-step.result.1 c.closes-shut.result octets now) heard.answer
-    ∙ ap (λ a. part_departure answer a c.closes-shut.result octets now) heard.asks ∙ ap (λ b. part_departure answer asked b octets now) shut in
-    let by_state = λ (q : ConnectionState) (r : Option Leaving) (d : Option Departure) (s : Outcome) (n : ℕ). turn_then (turn_then (turn_then (turn_then
-    (turn_then (turn_then t0 (note_request_turn q octets)) (up_turn q)) (leave_turn now r)) end_session_turn) (departure_turn d)) (count_turn s n now) in
+    c.part_departure.ensures ∙ ap (λ s. part_departure s c.hear_and_tell-step.result.1 c.closes-shut.result octets now)
+    heard.answer
+    ∙ ap (λ a. part_departure answer a c.closes-shut.result octets now) heard.asks
+    ∙ ap (λ b. part_departure answer asked b octets now) shut in
+    let by_state = λ (q : ConnectionState) (r : Option Leaving) (d : Option Departure) (s : Outcome) (n : ℕ).
+    turn_then (turn_then (turn_then (turn_then
+    (turn_then (turn_then t0 (note_request_turn q octets)) (up_turn q)) (leave_turn now r)) end_session_turn)
+    (departure_turn d)) (count_turn s n now) in
     let is = ap (λ q. by_state q why c.part_departure.result step long) c.state-before.ensures.state
     ∙ ap (λ r. by_state v.machine.connection r c.part_departure.result step long) c.hear_and_tell-step.ensures.asks
     ∙ ap (λ d. by_state v.machine.connection asked d step long) cause
     ∙ ap (λ s. by_state v.machine.connection asked (closing_departure now octets v) s long) heard.answer
-    ∙ ap (by_state v.machine.connection asked (closing_departure now octets v) answer) c.waited-waited.ensures in
+    ∙ ap (by_state v.machine.connection asked (closing_departure now octets v) answer) c.waiting_time-waited.ensures in
     went-as takes (turn_then t5 (count_turn step long now)) (part_turn now octets v) _ _ _ _ _ is told
 
 pub returns-clause-keeps : goal.returns-clause-keeps

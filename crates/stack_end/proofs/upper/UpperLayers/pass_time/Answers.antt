@@ -6,7 +6,8 @@ pub returns-clause-does : goal.returns-clause-does
 returns-clause-does g c =
     let passed = c.tick.ensures.passed in
     let went =
-    parts-went g.T.Taker.takes (λ s. g.C.Channels.told s.upper.now.channels) (λ s. fields_of s.upper.now) (λ s. s.taker.now) (λ s. s.now) _
+    parts-went g.T.Taker.takes (λ s. g.C.Channels.told s.upper.now.channels) (λ s. fields_of s.upper.now)
+    (λ s. s.taker.now) (λ s. s.now) _
     (λ s p u r. (r.2, r.4)) c.args.now _ _ _ passed refl in
     let upper = FoldsTo-keeps (λ s. s.upper.ghost_name) _ (λ s p u r. r.0) _ _ _ passed in
     let taker = FoldsTo-keeps (λ s. s.taker.ghost_name) _ (λ s p u r. r.1) _ _ _ passed in

@@ -8,5 +8,6 @@ returns-in-Ok-clause-does g c =
     let v = fields_of c.args.self.now in
     let d = process_event (Puts c.args.kind c.args.payload.now (length v.waiting)) (dialogue_of v) in
     alone-then (session_turn d (count_accepted d v)) (send_turn c.args.now) _ _ _ _ _
-    (put-went c.args.kind c.args.payload.now v _ _ _ _ c.in-Ok.ensures.answer refl c.put.ensures.added c.saturating_add-self.ensures)
+    (put-went c.args.kind c.args.payload.now v _ _ _ _ c.in-Ok.ensures.answer refl c.put.ensures.added
+    c.saturating_add-self.ensures)
     c.send_waiting.ensures.does

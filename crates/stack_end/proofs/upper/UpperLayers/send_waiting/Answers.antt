@@ -4,12 +4,18 @@ use Rattle.stack_end.proofs.Deliveries.{sends-more, turn-fewer}
 use Rattle.stack_end.proofs.upper.UpperLayers.send_waiting.Goals as goal
 
 pub loop-packs-smaller : goal.loop-packs-smaller
-loop-packs-smaller g c = turn-fewer _ _ c.loop-packs.packs c.pack_one-packs.result c.loop-packs-test.true c.pack_one-packs.ensures.fewer
+loop-packs-smaller g c =
+    turn-fewer _ _ c.loop-packs.packs c.pack_one-packs.result c.loop-packs-test.true c.pack_one-packs.ensures.fewer
 
 pub loop-packs-init : goal.loop-packs-init
 loop-packs-init g c =
     let v = fields_of c.args.self.now in
-    record { some = c.requires.some; most = c.requires.most; keeps = keeps-none _; along = (still v, alone-still v _, refl) }
+    record {
+      some = c.requires.some;
+      most = c.requires.most;
+      keeps = keeps-none _;
+      along = (still v, alone-still v _, refl);
+    }
 
 pub loop-packs-preserved : goal.loop-packs-preserved
 loop-packs-preserved g c =
@@ -24,7 +30,8 @@ loop-packs-preserved g c =
       along = (
         turn_then t (pack_once_turn now),
         alone-then t (pack_once_turn now) _ _ _ _ _ before.along.1 one.does,
-        sends-more now t (send_turn now (fields_of c.args.self.now)) (fields_of c.loop-packs.self) c.loop-packs.packs c.pack_one-packs.result before.some
+        sends-more now t (send_turn now (fields_of c.args.self.now)) (fields_of c.loop-packs.self) c.loop-packs.packs
+            c.pack_one-packs.result before.some
             before.along.1.left c.loop-packs-test.true one.packs before.along.2,
       );
     }

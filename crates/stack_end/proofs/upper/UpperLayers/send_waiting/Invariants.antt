@@ -9,7 +9,8 @@ invariant-loop-packs g l =
       most : l.self.max ≤ UNIT_MESSAGES;
       keeps : KeepsBounds 0 l.initial.self l.self;
       along :
-          (t : Turn Fields) × CarriesOutAlone t (g.C.Channels.told l.initial.self.channels) (fields_of l.self) (g.C.Channels.told l.self.channels)
+          (t : Turn Fields) × CarriesOutAlone t (g.C.Channels.told l.initial.self.channels) (fields_of l.self)
+          (g.C.Channels.told l.self.channels)
           × (send_turn l.now v ≡ (if l.packs then turn_then t (send_turn l.now) else t));
     }
 

@@ -19,10 +19,14 @@ pub returns-clause-does : goal.returns-clause-does
 returns-clause-does g c =
     let v = fields_of c.args.self.now in
     let t = tick_turn c.args.now v.machine in
-    let one = machine-went (λ s. g.C.Channels.told s.channels.now) (λ s. s.numbers.now) (λ s. s.count) (λ s. s.made.now) _ (λ s pdu t r. (r.3, r.4, r.5, r.6)) t v _ _ _
+    let one = machine-went (λ s. g.C.Channels.told s.channels.now) (λ s. s.numbers.now) (λ s. s.count) (λ s. s.made.now)
+    _ (λ s pdu t r. (r.3, r.4, r.5, r.6)) t v _ _ _
     c.tick-why.ensures.left refl refl refl c.tick-why.ensures.made in
     let two = alone-then (machine_turn t v) end_session_turn _ _ _ _ _ one c.settle.ensures.does in
-    let three = alone-then (turn_then (machine_turn t v) end_session_turn) (departure_turn c.own_departure.result) _ _ _ _ _ two c.depart.ensures.does in
+    let three = alone-then (turn_then (machine_turn t v) end_session_turn) (departure_turn c.own_departure.result) _ _ _
+    _ _ two c.depart.ensures.does in
     let cause = c.own_departure.ensures ∙ ap (λ why. own_departure why c.args.now) c.tick-why.ensures.why in
-    let by_cause = λ (q : Option Departure). turn_then (turn_then (machine_turn t v) end_session_turn) (departure_turn q) in
-    alone-as (by_cause c.own_departure.result) (by_cause (own_departure (overdue c.args.now v.machine) c.args.now)) _ _ _ (ap by_cause cause) three
+    let by_cause = λ (q : Option Departure). turn_then (turn_then (machine_turn t v) end_session_turn)
+    (departure_turn q) in
+    alone-as (by_cause c.own_departure.result) (by_cause (own_departure (overdue c.args.now v.machine) c.args.now)) _ _
+    _ (ap by_cause cause) three

@@ -17,6 +17,7 @@ returns-in-Open g c =
           ∙ (ap (λ (ts : List (Entry × List ℕ)). events_in (configs ++ c.in-Open.config ∷ []) ts) c.add.ensures.added
           ∙ (opening-added configs c.in-Open.config entries _ [] c.in-Open.first_sn c.self.invariant
           (ap (λ n. deed.Open n c.in-Open.first_sn) (c.len.ensures ∙ size))
-          ∙ (ap (λ (d : Action). events_in configs entries ++ doing_of (side_of e.side) e.time d ∷ []) (sym c.in-Open.is)
+          ∙ (ap (λ (d : Action). events_in configs entries ++ doing_of (side_of e.side) e.time d ∷ [])
+          (sym c.in-Open.is)
           ∙ ap (λ (h : HistoryValue). h.events ++ event_of e ∷ []) c.self.view_is)));
     }

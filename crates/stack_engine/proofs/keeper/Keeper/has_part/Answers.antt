@@ -13,4 +13,5 @@ returns-then-place-dead g c =
 
 pub returns : goal.returns
 returns g c =
-    c.is_part.ensures ∙ there c.args.part.now c.args.self.now.datagrams c.args.dead c.in-Some.place c.in-Some.ensures c.if-place-dead.false (omega arith)
+    c.is_part.ensures ∙ there c.args.part.now c.args.self.now.datagrams c.args.dead c.in-Some.place c.in-Some.ensures
+    c.if-place-dead.false (omega arith)

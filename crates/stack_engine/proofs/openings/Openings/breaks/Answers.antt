@@ -5,7 +5,8 @@ use Rattle.stack_engine.proofs.openings.Openings.breaks.Goals as goal
 pub returns-in-Ok : goal.returns-in-Ok
 returns-in-Ok g c = λ xs ys h k.
     c.breaks_by.ensures xs ys h k
-    ∙ breaks-part (latest xs) (latest ys) c.args.dead c.args.datagram.now (c.in-Ok.pdu.seq, c.in-Ok.pdu.upper.now) (sym c.in-Ok.ensures.exact)
+    ∙ breaks-part (latest xs) (latest ys) c.args.dead c.args.datagram.now (c.in-Ok.pdu.seq, c.in-Ok.pdu.upper.now)
+    (sym c.in-Ok.ensures.exact)
 
 pub returns-in-Err : goal.returns-in-Err
 returns-in-Err g c = λ xs ys h k.

@@ -5,15 +5,18 @@ use Rattle.stack_engine.proofs.code.Histories.{call-time}
 use Rattle.stack_engine.proofs.openings.Openings.call.Goals as goal
 
 -- if no time refuses it, the result of the present incarnation is that of the side
-called : {A R : Type 0} (o : Option (Incarnation A)) (i : Incarnation A) (r : Result R ApplyFault) (c : Call) (xs : List EndState) → o ≡ Some i
+called : {A R : Type 0} (o : Option (Incarnation A)) (i : Incarnation A) (r : Result R ApplyFault) (c : Call)
+    (xs : List EndState) → o ≡ Some i
     → PresentRepresents o xs → IsOfSession (call_refusal c (latest xs))
-    → ((x : EndState) → IncarnationRepresents i x → MatchResult r (λ _. session_refusal c x ≡ None) (λ f. NamesRefusal f (session_refusal c x)))
+    → ((x : EndState) → IncarnationRepresents i x
+    → MatchResult r (λ _. session_refusal c x ≡ None) (λ f. NamesRefusal f (session_refusal c x)))
     → MatchResult r (λ _. call_refusal c (latest xs) ≡ None) (λ f. NamesRefusal f (call_refusal c (latest xs)))
 called None i r c xs e stands ok one = absurd cc
 called (Some j) i r c [] e stands ok one = absurd stands
 called (Some j) i r c (x ∷ before) e stands ok one =
     let same : j ≡ i = cc in
-    by_cond (λ q. IsOfSession q → MatchResult r (λ _. q ≡ None) (λ f. NamesRefusal f q)) (is_untimely x.time (time_of c)) (Some Clock) (session_refusal c x)
+    by_cond (λ q. IsOfSession q → MatchResult r (λ _. q ≡ None) (λ f. NamesRefusal f q))
+    (is_untimely x.time (time_of c)) (Some Clock) (session_refusal c x)
     (λ late bad. absurd bad) (λ on good. one x (subst (λ k. IncarnationRepresents k x) same stands)) ok
 
 pub returns-clause-refusal : goal.returns-clause-refusal

@@ -9,7 +9,8 @@ returns-then-place-len g c =
     let before = c.args.self.now.before.items in
     let size : vec_len c.args.self.now.before ≡ length before = search rules in
     c.present_entry.ensures
-    ∙ ap (option_map joined_entry) (sym (ap (slice_get (incarnations_of c.args.self.now)) (c.if-place-len.true ∙ (c.len.ensures ∙ size))
+    ∙ ap (option_map joined_entry) (sym (ap (slice_get (incarnations_of c.args.self.now)) (c.if-place-len.true
+    ∙ (c.len.ensures ∙ size))
     ∙ at-present before c.args.self.now.present))
 
 pub returns : goal.returns

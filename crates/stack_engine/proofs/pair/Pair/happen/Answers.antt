@@ -18,5 +18,6 @@ invariant_of-self-in-Ok-step g c =
           subst (λ (xs : List Event). SidesRepresent c.step.new.self (run xs start)) (sym more)
           (grown-stands c.self.inside.sides c.step.new.self es e c.pair_law.ensures.few inv.typed c.is_typed.ensures
           (c.in-Ok-step.ensures.refusal (run es start) inv.stands) c.in-Ok-step.ensures.does inv.stands);
-      last = subst (λ (xs : List Event). Some (side_of c.args.event.now.side) ≡ last_side xs) (sym more) (last-is es c.args.event.now);
+      last = subst (λ (xs : List Event). Some (side_of c.args.event.now.side) ≡ last_side xs) (sym more)
+          (last-is es c.args.event.now);
     }

@@ -10,4 +10,5 @@ returns-in-Open-clause-refusal g c = λ w h.
 pub returns-in-Call-clause-refusal : goal.returns-in-Call-clause-refusal
 returns-in-Call-clause-refusal g c = λ w h.
     admits-call c.args.event.now c.in-Call.field-0 _ w c.in-Call.is
-    (λ d time. c.admits_call.ensures.refusal (ends_at (side_of c.args.event.now.side) w) d (c.openings-openings.ensures w h) time)
+    (λ d time. c.admits_call.ensures.refusal (ends_at (side_of c.args.event.now.side) w) d
+    (c.openings-openings.ensures w h) time)

@@ -8,4 +8,5 @@ returns-in-Interlocking g c = λ w h. rw c.in-Interlocking.is
 
 pub returns-in-FieldElement : goal.returns-in-FieldElement
 returns-in-FieldElement g c = λ w h. rw c.in-FieldElement.is
-    (c.len-in-FieldElement.ensures ∙ count-by joined_entry c.args.self.now.fe _ (fe-report c.args.self.now.fe w.fes h.fe h.joins))
+    (c.len-in-FieldElement.ensures ∙ count-by joined_entry c.args.self.now.fe _
+    (fe-report c.args.self.now.fe w.fes h.fe h.joins))

@@ -11,4 +11,5 @@ returns-clause-added g c =
     let from : c.len-from.result ≡ length o = search rules in
     let after : c.len-to.result ≡ length c.extend_from_slice.new.self.items = search rules in
     rw (c.push_reserved.ensures.items, was, ← c.self.view_is)
-    (texts-add o c.args.text.now c.self.inside.kept.items _ c.self.invariant from (after ∙ ap (λ (xs : List ℕ). length xs) was))
+    (texts-add o c.args.text.now c.self.inside.kept.items _ c.self.invariant from (after
+    ∙ ap (λ (xs : List ℕ). length xs) was))

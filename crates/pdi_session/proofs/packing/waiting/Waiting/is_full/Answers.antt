@@ -6,4 +6,5 @@ use Rattle.pdi_session.proofs.packing.waiting.Waiting.is_full.Goals as goal
 pub returns : goal.returns
 returns g c =
     ap (λ (n : ℕ). n == WAITING_MAX)
-    (sym (length-messages_from c.self.inside.places.items c.self.inside.first c.self.inside.count) ∙ ap length c.self.view_is)
+    (sym (length-messages_from c.self.inside.places.items c.self.inside.first c.self.inside.count)
+    ∙ ap length c.self.view_is)

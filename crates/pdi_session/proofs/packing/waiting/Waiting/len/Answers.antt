@@ -4,4 +4,5 @@ use Rattle.pdi_session.proofs.packing.waiting.Waiting.len.Goals as goal
 
 pub returns-clause-len : goal.returns-clause-len
 returns-clause-len g c =
-    sym (length-messages_from c.self.inside.places.items c.self.inside.first c.self.inside.count) ∙ ap length c.self.view_is
+    sym (length-messages_from c.self.inside.places.items c.self.inside.first c.self.inside.count)
+    ∙ ap length c.self.view_is

@@ -14,7 +14,8 @@ invariant_of-result c =
           (written c.put_name-2.new.buffer c.put_name.new.buffer [] one other c.as_str.ensures.well_formed
           long
           (c.put_name.ensures.front ∙ ap fill_name (sym c.as_str.ensures.characters)) refl
-          (c.put_name-2.ensures.front ∙ ap (λ (name : List ℕ). take 20 c.put_name.new.buffer ++ fill_name name) (sym c.as_str-2.ensures.characters)));
+          (c.put_name-2.ensures.front ∙ ap (λ (name : List ℕ). take 20 c.put_name.new.buffer ++ fill_name name)
+          (sym c.as_str-2.ensures.characters)));
     }
 
 pub returns-clause-sender : goal.returns-clause-sender
@@ -26,7 +27,8 @@ returns-clause-sender c =
     (written c.put_name-2.new.buffer c.put_name.new.buffer [] one other c.as_str.ensures.well_formed
     long
     (c.put_name.ensures.front ∙ ap fill_name (sym c.as_str.ensures.characters)) refl
-    (c.put_name-2.ensures.front ∙ ap (λ (name : List ℕ). take 20 c.put_name.new.buffer ++ fill_name name) (sym c.as_str-2.ensures.characters)))
+    (c.put_name-2.ensures.front ∙ ap (λ (name : List ℕ). take 20 c.put_name.new.buffer ++ fill_name name)
+    (sym c.as_str-2.ensures.characters)))
     ∙ c.as_str.ensures.characters
 
 pub returns-clause-receiver : goal.returns-clause-receiver
@@ -38,5 +40,6 @@ returns-clause-receiver c =
     (written c.put_name-2.new.buffer c.put_name.new.buffer [] one other c.as_str.ensures.well_formed
     long
     (c.put_name.ensures.front ∙ ap fill_name (sym c.as_str.ensures.characters)) refl
-    (c.put_name-2.ensures.front ∙ ap (λ (name : List ℕ). take 20 c.put_name.new.buffer ++ fill_name name) (sym c.as_str-2.ensures.characters)))
+    (c.put_name-2.ensures.front ∙ ap (λ (name : List ℕ). take 20 c.put_name.new.buffer ++ fill_name name)
+    (sym c.as_str-2.ensures.characters)))
     ∙ c.as_str-2.ensures.characters

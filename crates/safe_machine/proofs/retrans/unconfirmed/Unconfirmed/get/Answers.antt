@@ -19,7 +19,8 @@ pub returns : goal.returns
 returns g c =
     let items = c.self.inside.places.items in
     let near : c.args.place < c.self.inside.count = omega arith in
-    let long : vec_len c.self.inside.places ≡ length c.self.inside.places.items = omega (arith, c.self.inside.places.ok.0) in
+    let long : vec_len c.self.inside.places ≡ length c.self.inside.places.items = omega
+    (arith, c.self.inside.places.ok.0) in
     let far : IsFar (length c.self.inside.places.items) c.self.inside.first c.args.place c.place_at.result =
     subst (λ n. IsFar n c.self.inside.first c.args.place c.place_at.result) (c.len.ensures ∙ long) c.place_at.ensures
     in
@@ -28,7 +29,8 @@ returns g c =
     in
     let at : slice_get (units_from c.self.inside.places.items c.self.inside.first c.self.inside.count) c.args.place
     ≡ Some (slice_index_or c.self.inside.places.items c.place_at.result no_unit) =
-    units_from-at c.self.inside.places.items c.self.inside.first c.args.place c.place_at.result c.self.inside.count first near far
+    units_from-at c.self.inside.places.items c.self.inside.first c.args.place c.place_at.result c.self.inside.count
+    first near far
     in
     let inside : c.place_at.result < length c.self.inside.places.items = far.0 in
     let one = slice_get-get_or c.self.inside.places.items c.place_at.result no_unit inside in
@@ -36,5 +38,6 @@ returns g c =
     let now : Some (slice_index_or c.self.inside.places.items c.place_at.result no_unit) ≡ Some c.index.result.now =
     sym one ∙ other ∙ ap (λ (u : Stored). Some u) (sym c.index.ensures)
     in
-    sym (shown_at (units_from c.self.inside.places.items c.self.inside.first c.self.inside.count) c.args.place c.index.result.now (at ∙ now))
+    sym (shown_at (units_from c.self.inside.places.items c.self.inside.first c.self.inside.count) c.args.place
+    c.index.result.now (at ∙ now))
     ∙ ap (λ (k : Kept). slice_get k.units c.args.place) c.self.view_is

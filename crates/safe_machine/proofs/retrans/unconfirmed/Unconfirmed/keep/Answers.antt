@@ -33,7 +33,8 @@ invariant_of-self g c =
     in
     let u : Numbered = record { number = c.args.number; octets = c.args.octets.now } in
     let more =
-    shown_more c.self.inside.places.items (vec_len c.self.inside.places) c.self.inside.first c.place_at-place.result c.self.inside.count c.write_unit.new.place
+    shown_more c.self.inside.places.items (vec_len c.self.inside.places) c.self.inside.first c.place_at-place.result
+    c.self.inside.count c.write_unit.new.place
     (omega (arith, c.self.inside.places.ok)) near c.self.invariant.0 far
     in (
       ring_more (vec_len c.self.inside.places) c.self.inside.first c.self.inside.count near c.self.invariant.0,
@@ -58,10 +59,15 @@ returns g c =
     in
     let u : Numbered = record { number = c.args.number; octets = c.args.octets.now } in
     let more =
-    shown_more c.self.inside.places.items (vec_len c.self.inside.places) c.self.inside.first c.place_at-place.result c.self.inside.count c.write_unit.new.place
+    shown_more c.self.inside.places.items (vec_len c.self.inside.places) c.self.inside.first c.place_at-place.result
+    c.self.inside.count c.write_unit.new.place
     (omega (arith, c.self.inside.places.ok)) near c.self.invariant.0 far
     in
-    let is : unit_value c.write_unit.new.place ≡ u = rw (c.write_unit.ensures.number, c.write_unit.ensures.octets) refl in
-    kept_more (vec_len c.self.inside.places) (unit_values (units_from c.self.inside.places.items c.self.inside.first c.self.inside.count)) _ c.args.self.now u
+    let is : unit_value c.write_unit.new.place ≡ u = rw (c.write_unit.ensures.number, c.write_unit.ensures.octets) refl
+    in
+    kept_more (vec_len c.self.inside.places)
+    (unit_values (units_from c.self.inside.places.items c.self.inside.first c.self.inside.count)) _ c.args.self.now
+    u
     c.self.view_is
-    (more ∙ ap (λ (v : Numbered). unit_values (units_from c.self.inside.places.items c.self.inside.first c.self.inside.count) ++ v ∷ []) is)
+    (more ∙ ap (λ (v : Numbered). unit_values
+    (units_from c.self.inside.places.items c.self.inside.first c.self.inside.count) ++ v ∷ []) is)

@@ -5,4 +5,5 @@ use Rattle.safe_machine.proofs.retrans.unconfirmed.Unconfirmed.len.Goals as goal
 
 pub returns-clause-len : goal.returns-clause-len
 returns-clause-len g c =
-    sym (length-shown_from c.self.inside.places.items c.self.inside.first c.self.inside.count) ∙ ap (λ (k : Kept). length k.units) c.self.view_is
+    sym (length-shown_from c.self.inside.places.items c.self.inside.first c.self.inside.count)
+    ∙ ap (λ (k : Kept). length k.units) c.self.view_is

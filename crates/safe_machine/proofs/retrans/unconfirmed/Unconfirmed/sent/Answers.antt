@@ -17,7 +17,8 @@ invariant_of-self g c =
     in
     let u : Numbered = record { number = c.args.number; octets = c.args.unit.items } in
     let more =
-    shown_more c.self.inside.places.items (vec_len c.self.inside.places) c.self.inside.first c.place_at-place.result c.self.inside.count
+    shown_more c.self.inside.places.items (vec_len c.self.inside.places) c.self.inside.first c.place_at-place.result
+    c.self.inside.count
     (c.args.number, c.args.unit)
     (omega (arith, c.self.inside.places.ok)) near c.self.invariant.0 far
     in (
@@ -37,11 +38,14 @@ returns-clause-added g c =
     in
     let u : Numbered = record { number = c.args.number; octets = c.args.unit.items } in
     let more =
-    shown_more c.self.inside.places.items (vec_len c.self.inside.places) c.self.inside.first c.place_at-place.result c.self.inside.count
+    shown_more c.self.inside.places.items (vec_len c.self.inside.places) c.self.inside.first c.place_at-place.result
+    c.self.inside.count
     (c.args.number, c.args.unit)
     (omega (arith, c.self.inside.places.ok)) near c.self.invariant.0 far
     in
-    kept_more (vec_len c.self.inside.places) (unit_values (units_from c.self.inside.places.items c.self.inside.first c.self.inside.count)) _ c.args.self.now u
+    kept_more (vec_len c.self.inside.places)
+    (unit_values (units_from c.self.inside.places.items c.self.inside.first c.self.inside.count)) _ c.args.self.now
+    u
     c.self.view_is more
 
 pub returns-clause-room : goal.returns-clause-room

@@ -1,6 +1,6 @@
 use Rattle.stack_engine.proofs.Words.{ap, KeeperValue, length, List, ℕ, ◌∙◌}
 use Rattle.stack_engine.proofs.code.Histories.{datagrams-length}
-use Rattle.stack_engine.proofs.incarnation.Incarnation.made.Goals as goal
+use Rattle.stack_engine.proofs.incarnation.Incarnation.made_count.Goals as goal
 
 pub returns : goal.returns
 returns g c = λ x h.

@@ -1,6 +1,6 @@
 use Rattle.std.proofs.Common.{◌≡◌, ◌-◌, ◌%◌, arith}
 use Rattle.md4.proofs.Pieces.{take-filling}
-use Rattle.md4.proofs.padding.filling.Goals as goal
+use Rattle.md4.proofs.padding.padding_bytes.Goals as goal
 
 pub returns : goal.returns
 returns c =

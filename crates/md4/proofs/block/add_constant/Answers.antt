@@ -1,7 +1,7 @@
 use Rattle.std.proofs.Common.{rules, ◌≡◌, inl, inr, ◌∙◌, arith}
 use Rattle.std.proofs.lemmas.List.{get_or-set_same, get_or-set_other}
 use Rattle.std.proofs.lemmas.Bool.{cases_lt}
-use Rattle.md4.proofs.block.with_added.Goals as goal
+use Rattle.md4.proofs.block.add_constant.Goals as goal
 
 pub words-preserved : goal.words-preserved
 words-preserved c = (

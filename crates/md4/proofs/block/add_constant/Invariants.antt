@@ -1,5 +1,5 @@
 use Rattle.std.proofs.Common.{◌≡◌, ℕ, ◌+◌, ◌%◌, ◌^◌, ◌<◌, length, slice_index}
-use Rattle.md4.proofs.block.with_added.Given as goal
+use Rattle.md4.proofs.block.add_constant.Given as goal
 
 -- the words before this one are sums
 abbrev pub invariant-words : goal.invariant-words
