@@ -72,9 +72,13 @@ has_channel c r = is_some (known_place_of c.routes r)
 abbrev pub is_from_low : Connection → Header → Bool
 is_from_low c h = h.sender == c.low
 
+-- The connection has these identifiers.
+abbrev pub has_identifiers : ℕ → ℕ → Connection → Bool
+has_identifiers low high c = (c.low == low) && (c.high == high)
+
 -- The connection is between the two ends of the PDU.
 abbrev pub has_ends : Connection → Header → Bool
-has_ends c h = (c.low == (ends_of h.sender h.receiver).0) && (c.high == (ends_of h.sender h.receiver).1)
+has_ends c h = has_identifiers (ends_of h.sender h.receiver).0 (ends_of h.sender h.receiver).1 c
 
 -- The PDU goes on with the connection: with what its end and the other end have sent.
 abbrev pub is_continued : Connection → Header → Bool

@@ -1,5 +1,5 @@
 -- How a number follows the ones seen before it, and what is kept of it.
-use Rattle.std.specs.Prelude.{ℕ, ◌+◌, ◌-◌, ◌%◌, ◌^◌, ◌==◌, ◌&&◌, nat_lt, nat_le, min, List, slice_index_or, slice_set, replicate, if◌then◌else◌, Option, Some, None}
+use Rattle.std.specs.Prelude.{ℕ, ◌+◌, ◌-◌, ◌%◌, ◌^◌, ◌==◌, ◌&&◌, ◌||◌, not, nat_eq, nat_lt, nat_le, min, List, slice_index, slice_set, replicate, if◌then◌else◌, Bool, Option, Some, None}
 use Rattle.capture.specs.declared.window.TheConstants.{KEPT, LATE_MAX, PASSED_MAX}
 use Rattle.capture.specs.declared.window.SeenNumber.{SeenNumber}
 use Rattle.capture.specs.declared.window.Window.{Window}
@@ -10,9 +10,9 @@ use Rattle.capture.specs.declared.window.NumberOrder.TheVariants.{First, Next, A
 abbrev pub limited_sum : ℕ → ℕ → ℕ
 limited_sum count more = min (count + more) (2 ^ 64 - 1)
 
--- No number is kept.
-abbrev pub no_entries : List (Option SeenNumber)
-no_entries = replicate KEPT None
+-- The lines of slots without an entry.
+abbrev pub no_lines : List ℕ
+no_lines = replicate KEPT 0
 
 -- The window before any number was seen.
 abbrev pub open_window : Window
@@ -20,7 +20,9 @@ open_window =
     record {
       newest = None;
       behind = 0;
-      seen = no_entries;
+      numbers = replicate KEPT 0;
+      lines = no_lines;
+      fingerprints = replicate KEPT 0;
       heard = 0;
       missing = 0;
       late = 0;
@@ -33,14 +35,21 @@ open_window =
 abbrev pub slot : ℕ → ℕ
 slot number = number % KEPT
 
--- An entry, if it is of this number.
-abbrev pub of_number : ℕ → Option SeenNumber → Option SeenNumber
-of_number number None = None
-of_number number (Some seen) = if seen.number == number then Some seen else None
+-- The slot of this number is empty, or has another number.
+abbrev pub has_no_entry : Window → ℕ → Bool
+has_no_entry w number =
+    nat_eq (slice_index w.lines (slot number)) 0 || not (nat_eq (slice_index w.numbers (slot number)) number)
 
 -- The entry of a number, if it is kept.
 abbrev pub seen_of : Window → ℕ → Option SeenNumber
-seen_of w number = of_number number (slice_index_or w.seen (slot number) None)
+seen_of w number =
+    if has_no_entry w number then None
+    else
+    Some (record {
+      number = number;
+      line = slice_index w.lines (slot number);
+      fingerprint = slice_index w.fingerprints (slot number);
+    })
 
 -- The line of an entry.
 abbrev pub line_in : Option SeenNumber → Option ℕ
@@ -85,11 +94,16 @@ number_order w number fingerprint = order_by (seen_of w number) w number fingerp
 
 -- The window that starts again with the next number; its counts stay.
 abbrev pub restart_window : Window → Window
-restart_window w = record w { newest = None; behind = 0; seen = no_entries }
+restart_window w = record w { newest = None; behind = 0; lines = no_lines }
 
 -- The window with this entry in its slot.
 abbrev pub keep_entry : Window → SeenNumber → Window
-keep_entry w seen = record w { seen = slice_set w.seen (slot seen.number) (Some seen) }
+keep_entry w seen =
+    record w {
+      numbers = slice_set w.numbers (slot seen.number) seen.number;
+      lines = slice_set w.lines (slot seen.number) seen.line;
+      fingerprints = slice_set w.fingerprints (slot seen.number) seen.fingerprint;
+    }
 
 -- The window with this number as the newest, `steps` ahead of the one before.
 abbrev pub move_window : Window → ℕ → SeenNumber → Window

@@ -1,6 +1,6 @@
 -- The sessions of a connection. One lasts from its opening to the next one.
 use Rattle.circular_buffer.specs.Buffer.{keep_last}
-use Rattle.std.specs.Prelude.{ℕ, ◌-◌, [], ◌∷◌, ◌++◌, ◌==◌, ◌&&◌, ◌||◌, Bool, true, false, not, nat_eq, nat_lt, List, fold, slice_index, slice_set, replicate, if◌then◌else◌, Option, Some, None, is_none, is_some}
+use Rattle.std.specs.Prelude.{ℕ, ◌+◌, ◌-◌, ◌^◌, min, [], ◌∷◌, ◌++◌, ◌==◌, ◌&&◌, ◌||◌, Bool, true, false, not, nat_eq, nat_lt, List, fold, slice_index, slice_set, replicate, if◌then◌else◌, Option, Some, None, is_none, is_some}
 use Rattle.safe_pdu.specs.declared.Kind.{Kind}
 use Rattle.safe_pdu.specs.declared.Leaving.{Leaving}
 use Rattle.capture.specs.declared.direction.TheConstants.{CHANNELS}
@@ -38,10 +38,14 @@ abbrev pub one_if : Bool → ℕ
 one_if true = 1
 one_if false = 0
 
+-- A sum of counts of a session, limited to 2^32 - 1.
+abbrev pub limited_count : ℕ → ℕ → ℕ
+limited_count count more = min (count + more) (2 ^ 32 - 1)
+
 -- The numbers that are missing, after a number that followed in this way: a gap adds those it skips, and a late number
 -- takes itself away.
 abbrev pub missing_after : ℕ → NumberOrder → ℕ
-missing_after missing (Ahead passed) = limited_sum missing passed
+missing_after missing (Ahead passed) = limited_count missing passed
 missing_after missing Late = missing - 1
 missing_after missing _ = missing
 
@@ -79,8 +83,8 @@ side_after s time follows m =
       longest = greatest_of m.waits s.longest;
       missing = missing_on s.missing m.route m.channel;
       lost = missing_after s.lost m.together;
-      resent = limited_sum s.resent (one_if (is_new m.together && m.resent));
-      repeats = limited_sum s.repeats (one_if (is_doubled m.channel));
+      resent = limited_count s.resent (one_if (is_new m.together && m.resent));
+      repeats = limited_count s.repeats (one_if (is_doubled m.channel));
     }
 
 -- The session after a PDU of the end with the lower identifier (`true`), or of the other end.

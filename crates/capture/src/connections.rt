@@ -9,7 +9,7 @@ ghost use Rattle.std.specs.Prelude.{◌≡◌, ◌+◌, ◌<◌, ◌≤◌, ◌=
 ghost use Rattle.std.specs.List.{position, remove};
 ghost use Rattle.std.specs.Str.{bytes_eq};
 ghost use Rattle.capture.specs.WholeCapture.{forgets_connection};
-ghost use Rattle.capture.specs.Connections.{place_from_end, behind_of, channel_of, connection_after, count_connection_damage, connection_remarks, count_damaged_datagram, count_damage_at, ends_of, forgotten_place, connection_place, has_channel, has_ends, is_between, is_closed, is_continued, is_from_low, is_held, is_known, is_same_address, is_same_host, is_source_low, known_place_of, other_connections, new_connection, with_room, route_from, route_place_of, routes_after, step, step_remarks, connection_of, follow_way_pdu, way_remarks};
+ghost use Rattle.capture.specs.Connections.{place_from_end, behind_of, channel_of, connection_after, count_connection_damage, connection_remarks, count_damaged_datagram, count_damage_at, ends_of, forgotten_place, connection_place, has_channel, has_ends, has_identifiers, is_between, is_closed, is_continued, is_from_low, is_held, is_known, is_same_address, is_same_host, is_source_low, known_place_of, other_connections, new_connection, with_room, route_from, route_place_of, routes_after, step, step_remarks, connection_of, follow_way_pdu, way_remarks};
 
 use crate::continuation::goes_on;
 use crate::datagram::Header;
@@ -350,6 +350,14 @@ fn joins_ends(connection: &Connection, header: &Header) -> bool
     ensures { result ≡ has_ends connection.now header.now }
 {
     let (low, high) = ends(header.sender, header.receiver);
+    has_identifiers(connection, low, high)
+}
+
+/// Returns `true` if a connection has these identifiers.
+pub fn has_identifiers(connection: &Connection, low: u32, high: u32) -> bool
+    // The result is true exactly if `low` and `high` are the identifiers of the `connection`, in this order.
+    ensures { result ≡ has_identifiers low high connection.now }
+{
     connection.low == low && connection.high == high
 }
 

@@ -29,7 +29,9 @@ mod sessions;
 mod window;
 mod words;
 
-pub use connections::{CONNECTIONS, Connection, Connections, Entry, Route, follow, is_same};
+pub use connections::{
+    CONNECTIONS, Connection, Connections, Entry, Route, follow, has_identifiers, is_same,
+};
 pub use datagram::{DecodedDatagram, Header, hear, spell};
 pub use direction::{
     CHANNELS, Confirmation, DAMAGES, Damage, Direction, Peer, Place, Remarks, SessionOpening,

@@ -33,7 +33,7 @@ pub struct Sessions {
 
 /// The last sessions that have ended, the oldest first, at most `SESSIONS`. Contracts see the list of them.
 ///
-/// It has room for all of them from the start, some 14 KiB; the system gives this memory as it is written.
+/// It has room for all of them from the start, 10 KiB; the system gives this memory as it is written.
 #[derive(Drop)]
 pub struct PastSessions {
     kept: HeapCircularBuffer<Session, Global>,
@@ -114,7 +114,7 @@ pub struct SessionRequest {
     pub by_low: bool,
 }
 
-/// What one end did in a session; copies count once.
+/// What one end did in a session; copies count once. A count stops at 2^32 - 1.
 #[derive(Clone, Copy, Debug, PartialEq, Eq)]
 pub struct Side {
     /// Its first DiscReq.
@@ -122,13 +122,13 @@ pub struct Side {
     /// Its longest wait for a confirmation, in milliseconds.
     pub longest: u32,
     /// The numbers that are missing on each channel.
-    pub missing: [u64; CHANNELS],
+    pub missing: [u32; CHANNELS],
     /// The numbers that are missing on all channels.
-    pub lost: u64,
+    pub lost: u32,
     /// Units that it sent again (RetrData).
-    pub resent: u64,
+    pub resent: u32,
     /// Its PDUs that came twice on one channel.
-    pub repeats: u64,
+    pub repeats: u32,
 }
 
 /// The DiscReq of an end.
@@ -358,7 +358,7 @@ fn note_side(side: &mut Side, time: u64, follows: bool, remarks: &Remarks)
 }
 
 /// Returns 1 if something holds.
-fn count_if(holds: bool) -> u64
+fn count_if(holds: bool) -> u32
     // The result is 1 for true and 0 for false.
     ensures { result ≡ one_if holds }
 {
@@ -418,7 +418,7 @@ fn part_in(time: u64, follows: bool, leaving: Option<Leaving>) -> Option<Disconn
 }
 
 /// Counts missing numbers on the channel of a PDU.
-fn miss_on(counts: &mut [u64; CHANNELS], route: usize, channel: Option<NumberOrder>)
+fn miss_on(counts: &mut [u32; CHANNELS], route: usize, channel: Option<NumberOrder>)
     // Only the count of this channel changes; that of a further channel is not kept (`missing_on`).
     ensures { counts.new ≡ missing_on counts.old route channel }
 {
@@ -430,12 +430,12 @@ fn miss_on(counts: &mut [u64; CHANNELS], route: usize, channel: Option<NumberOrd
 }
 
 /// Returns how many numbers are missing after a number.
-fn miss(missing: u64, judged: NumberOrder) -> u64
+fn miss(missing: u32, judged: NumberOrder) -> u32
     // A gap adds the numbers that it skips, a late number takes one away, any other changes nothing.
     ensures { result ≡ missing_after missing judged }
 {
     match judged {
-        NumberOrder::Ahead(passed) => missing.saturating_add(passed as u64),
+        NumberOrder::Ahead(passed) => missing.saturating_add(passed),
         NumberOrder::Late => missing.saturating_sub(1),
         NumberOrder::First
         | NumberOrder::Next
@@ -474,11 +474,11 @@ pub fn alone(side: &Side) -> u64
 }
 
 /// Adds the datagrams that one channel lost, apart from the numbers that all channels lost.
-fn add_alone(lost: u64, sum: u64, missing: u64) -> u64
+fn add_alone(lost: u32, sum: u64, missing: u32) -> u64
     // The difference of `missing` and `lost`, at least 0, is added to the sum.
     ensures { result ≡ with_alone lost sum missing }
 {
-    sum.saturating_add(missing.saturating_sub(lost))
+    sum.saturating_add(missing.saturating_sub(lost) as u64)
 }
 
 /// Returns how many PDUs came on no channel in a session.
@@ -486,7 +486,7 @@ pub fn lost_everywhere(session: &Session) -> u64
     // The numbers missing on all channels are added for both ends.
     ensures { result ≡ lost_in_session session.now }
 {
-    session.low.lost.saturating_add(session.high.lost)
+    (session.low.lost as u64).saturating_add(session.high.lost as u64)
 }
 
 /// Returns `true` if nobody answered the opening of a session.
@@ -533,12 +533,12 @@ fn add_session(totals: SessionTotals, session: &Session) -> SessionTotals
     let left = session.low.left.is_some() || session.high.left.is_some();
     let timeout = times_out(session.low.left) || times_out(session.high.left);
     SessionTotals {
-        up: totals.up.saturating_add(count_if(up)),
+        up: totals.up.saturating_add(count_if(up) as u64),
         unanswered: totals
             .unanswered
-            .saturating_add(count_if(is_unanswered(session))),
-        left: totals.left.saturating_add(count_if(left)),
-        timeouts: totals.timeouts.saturating_add(count_if(timeout)),
+            .saturating_add(count_if(is_unanswered(session)) as u64),
+        left: totals.left.saturating_add(count_if(left) as u64),
+        timeouts: totals.timeouts.saturating_add(count_if(timeout) as u64),
         alone: totals.alone.saturating_add(lost_alone(session)),
     }
 }

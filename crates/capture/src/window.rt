@@ -1,7 +1,7 @@
 //! The window of recent numbers: which were seen, and how the next one follows them.
 
 ghost use Rattle.std.specs.Prelude.{◌≡◌, ◌<◌, ◌%◌};
-ghost use Rattle.capture.specs.Numbers.{line_seen, number_order, order_again, order_ahead, order_from, keep_entry, move_window, note_number, of_number, open_window, restart_window, seen_of};
+ghost use Rattle.capture.specs.Numbers.{line_seen, number_order, order_again, order_ahead, order_from, keep_entry, move_window, note_number, open_window, restart_window, seen_of};
 
 /// How many numbers are kept: one for each remainder modulo 32. 32 divides 2^32, so the ring wraps within it.
 pub const KEPT: usize = 32;
@@ -31,8 +31,12 @@ pub struct Window {
     pub newest: Option<u32>,
     /// How many of the numbers directly before it were seen or skipped since the window started, at most `LATE_MAX`.
     pub behind: u32,
-    /// For each remainder, the last number that was seen since the window started.
-    pub seen: [Option<SeenNumber>; KEPT],
+    /// For each remainder, the last number that was seen since the window started, if its line is not 0.
+    pub numbers: [u32; KEPT],
+    /// For each remainder, the line of that number; 0 if there was none. Lines count from 1.
+    pub lines: [u64; KEPT],
+    /// For each remainder, the fingerprint of that number.
+    pub fingerprints: [u64; KEPT],
     /// How many different numbers came in order.
     pub heard: u64,
     /// How many were skipped and have not come.
@@ -77,7 +81,9 @@ impl Window {
         Window {
             newest: None,
             behind: 0,
-            seen: [None; KEPT],
+            numbers: [0; KEPT],
+            lines: [0; KEPT],
+            fingerprints: [0; KEPT],
             heard: 0,
             missing: 0,
             late: 0,
@@ -112,27 +118,19 @@ pub(crate) fn line_of(window: &Window, number: u32) -> Option<u64>
 
 /// Returns the entry of a number, if it is kept.
 fn find(window: &Window, number: u32) -> Option<SeenNumber>
-    // The entry is in the slot of the number's remainder, and is of this number.
+    // The entry is in the slot of the number's remainder, and is of this number; a slot whose line is 0 is empty.
     ensures { result ≡ seen_of window.now number }
 {
-    keep_number(window.seen[number as usize % KEPT], number)
-}
-
-/// Returns the entry if it is of this number.
-fn keep_number(seen: Option<SeenNumber>, number: u32) -> Option<SeenNumber>
-    // An entry of another number is dropped (`of_number`).
-    ensures { result ≡ of_number number seen }
-{
-    match seen {
-        None => None,
-        Some(seen) => {
-            if seen.number == number {
-                Some(seen)
-            } else {
-                None
-            }
-        }
+    let slot = number as usize % KEPT;
+    let line = window.lines[slot];
+    if line == 0 || window.numbers[slot] != number {
+        return None;
     }
+    Some(SeenNumber {
+        number,
+        line,
+        fingerprint: window.fingerprints[slot],
+    })
 }
 
 /// Compares a number that came again with its first arrival.
@@ -220,7 +218,7 @@ pub(crate) fn reopen(window: &mut Window)
 {
     window.newest = None;
     window.behind = 0;
-    window.seen = [None; KEPT];
+    window.lines = [0; KEPT];
 }
 
 /// Makes a number the newest, `steps` ahead of the one before.
@@ -239,5 +237,8 @@ fn keep(window: &mut Window, seen: SeenNumber)
     // Only the entry in the slot of the number changes.
     ensures { window.new ≡ keep_entry window.old seen }
 {
-    window.seen[seen.number as usize % KEPT] = Some(seen);
+    let slot = seen.number as usize % KEPT;
+    window.numbers[slot] = seen.number;
+    window.lines[slot] = seen.line;
+    window.fingerprints[slot] = seen.fingerprint;
 }

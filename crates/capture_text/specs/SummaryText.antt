@@ -1,5 +1,5 @@
 -- The sums as lines.
-use Rattle.std.specs.Prelude.{ℕ, nat_eq, nat_lt, ◌==◌, ◌&&◌, Bool, List, [], ◌∷◌, ◌++◌, codes, slice_index, slice_index_or, if◌then◌else◌, Option, Some, None}
+use Rattle.std.specs.Prelude.{ℕ, nat_eq, nat_lt, Bool, List, [], ◌∷◌, ◌++◌, codes, slice_index, slice_index_or, if◌then◌else◌, Option, Some, None}
 use Rattle.std.specs.Fmt.{decimal}
 use Rattle.std.specs.List.{count_by, flat_map}
 use Rattle.safe_pdu.specs.declared.Leaving.{Leaving}
@@ -11,6 +11,7 @@ use Rattle.capture.specs.declared.direction.SessionOpening.{SessionOpening}
 use Rattle.capture.specs.declared.direction.Tally.{Tally}
 use Rattle.capture.specs.declared.follower.Totals.{Totals}
 use Rattle.capture.specs.declared.window.Window.{Window}
+use Rattle.capture.specs.Connections.{has_identifiers}
 use Rattle.capture.specs.Directions.{silence_of}
 use Rattle.capture.specs.Numbers.{limited_sum, open_window}
 use Rattle.capture_text.specs.declared.summary.Scale.{Scale}
@@ -133,10 +134,6 @@ places_text from to routes d =
 -- The line of a direction, and those of its channels.
 unfoldable pub half_text : Scale → ℕ → ℕ → Connection → Direction → List ℕ
 half_text s from to c d = direction_text s c.last from to d ++ places_text from to c.routes d
-
--- The connection has these identifiers.
-abbrev pub has_identifiers : ℕ → ℕ → Connection → Bool
-has_identifiers low high c = (c.low == low) && (c.high == high)
 
 -- Several of these connections have the identifiers of this one.
 abbrev pub is_ambiguous : List Connection → Connection → Bool

@@ -3,7 +3,7 @@
 ghost use Rattle.std.specs.Prelude.{◌≡◌, ◌<◌, OnOk};
 ghost use Rattle.std.specs.Io.KnownBytes.{Appends};
 ghost use Rattle.capture.specs.WholeCapture.{totals_of};
-ghost use Rattle.capture_text.specs.SummaryText.{all_text, datagram_count_text, connection_text, connections_text, has_identifiers, is_ambiguous, telling_route, counts_text, damaged_count_text, date_text, datagrams_of, datagrams_text, direction_text, disconnect_text, first_lines, half_text, kinds_text, known_channel_text, last_text, longest_text, maybe_channel_text, numbers_text, oldest_text, opening_text, other_totals_text, others_text, place_text, places_text, route_text, silence_text, sum_text, summary_text, tally_text, totals_text};
+ghost use Rattle.capture_text.specs.SummaryText.{all_text, datagram_count_text, connection_text, connections_text, is_ambiguous, telling_route, counts_text, damaged_count_text, date_text, datagrams_of, datagrams_text, direction_text, disconnect_text, first_lines, half_text, kinds_text, known_channel_text, last_text, longest_text, maybe_channel_text, numbers_text, oldest_text, opening_text, other_totals_text, others_text, place_text, places_text, route_text, silence_text, sum_text, summary_text, tally_text, totals_text};
 
 use crate::pieces::{
     Clock, channel_name, remark_on_limit, write_address, write_duration, write_ends, write_since,
@@ -14,8 +14,8 @@ use crate::sentence::write_sentence;
 use crate::skips::{SkipCounts, write_passed};
 use crate::table::write_sessions;
 use capture::{
-    CHANNELS, Connection, Direction, Entry, Route, SessionOpening, Tally, Totals, Window, silence,
-    sum_up,
+    CHANNELS, Connection, Direction, Entry, Route, SessionOpening, Tally, Totals, Window,
+    has_identifiers, silence, sum_up,
 };
 use pdu_text::write_text;
 use safe_pdu::Leaving;
@@ -152,14 +152,6 @@ fn is_ambiguous(connections: &[Entry], connection: &Connection) -> bool
         .filter(|entry| has_identifiers(&entry.connection, low, high))
         .count();
     same > 1
-}
-
-/// Returns `true` if a connection has these identifiers.
-fn has_identifiers(connection: &Connection, low: u32, high: u32) -> bool
-    // The result is true exactly if `low` and `high` are the identifiers of the `connection`, in this order.
-    ensures { result ≡ has_identifiers low high connection.now }
-{
-    connection.low == low && connection.high == high
 }
 
 /// Writes the lines of a connection.

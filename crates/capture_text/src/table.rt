@@ -329,7 +329,7 @@ fn resent_count(session: &Session) -> u64
     // The counts of both sides are added.
     ensures { result ≡ resent_in session.now }
 {
-    session.low.resent.saturating_add(session.high.resent)
+    (session.low.resent as u64).saturating_add(session.high.resent as u64)
 }
 
 /// Returns how many PDUs of both ends came twice on one channel.
@@ -337,7 +337,7 @@ fn repeat_count(session: &Session) -> u64
     // The repeats of both sides are added.
     ensures { result ≡ repeats_in session.now }
 {
-    session.low.repeats.saturating_add(session.high.repeats)
+    (session.low.repeats as u64).saturating_add(session.high.repeats as u64)
 }
 
 /// Writes what was sent again and what came twice on one channel, and ends the line.

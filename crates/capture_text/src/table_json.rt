@@ -247,7 +247,7 @@ fn write_parting<W: Write>(writer: &mut W, parting: Disconnection) -> io::Result
 
 /// Writes the longest wait and the losses of an end.
 #[tactic(auto, unfolding(crate::specs::TableJson::losses_json))]
-fn write_losses<W: Write>(writer: &mut W, waits: u32, lost: u64, alone: u64) -> io::Result<()>
+fn write_losses<W: Write>(writer: &mut W, waits: u32, lost: u32, alone: u64) -> io::Result<()>
     // On success the wait in milliseconds, the PDUs lost on every channel, and the datagrams lost on one channel
     // only are appended.
     ensures { OnOk result (Appends (W.contents writer.old) (W.contents writer.new)
@@ -261,7 +261,7 @@ fn write_losses<W: Write>(writer: &mut W, waits: u32, lost: u64, alone: u64) -> 
 
 /// Writes what an end sent again, and what came twice on one channel.
 #[tactic(auto, unfolding(crate::specs::TableJson::again_json))]
-fn write_again<W: Write>(writer: &mut W, resent: u64, repeats: u64) -> io::Result<()>
+fn write_again<W: Write>(writer: &mut W, resent: u32, repeats: u32) -> io::Result<()>
     // On success both counts are appended, and the object is closed.
     ensures { OnOk result (Appends (W.contents writer.old) (W.contents writer.new) (again_json resent repeats)) }
 {
