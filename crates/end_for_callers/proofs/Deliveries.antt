@@ -191,3 +191,24 @@ does-alone c s t h time same reserve =
       telegrams = subst (λ items. Came s.inbox items t.inbox) (sym h.none)
           (subst (λ i. Came s.inbox [] i) (sym same) (came-none s.inbox));
     }
+
+-- what a station with this end does by a call, once places are set aside in the end: `v` is the end before the call,
+-- `w` after it
+pub does-after : (c : Call) (e v w : EndValue OutboxValue Global) (a b : TelegramQueue) (time now reserve : ℕ)
+    → seen_end v ≡ seen_end e → EndTakesTurn told_in takes_of (turn c) v a w b → w.time ≡ time_of c
+    → Does c (record { end = seen_end e; inbox = a; time = time; reserve = reserve })
+    (record { end = seen_end w; inbox = b; time = now; reserve = reserve })
+does-after c e v w a b time now reserve same h at =
+    does-all c (record { end = seen_end e; inbox = a; time = time; reserve = reserve })
+    (record { end = seen_end w; inbox = b; time = now; reserve = reserve }) (seen-turns (turn c) e v w a b same h) at
+    refl
+
+-- the same of a call by which nothing is taken
+pub does-alone-after : (c : Call) (e v w : EndValue OutboxValue Global) (a : TelegramQueue) (time now reserve : ℕ)
+    → seen_end v ≡ seen_end e → EndTakesTurnAlone told_in (turn c) v w → w.time ≡ time_of c
+    → Does c (record { end = seen_end e; inbox = a; time = time; reserve = reserve })
+    (record { end = seen_end w; inbox = a; time = now; reserve = reserve })
+does-alone-after c e v w a time now reserve same h at =
+    does-alone c (record { end = seen_end e; inbox = a; time = time; reserve = reserve })
+    (record { end = seen_end w; inbox = a; time = now; reserve = reserve }) (seen-alone (turn c) e v w same h) at refl
+    refl

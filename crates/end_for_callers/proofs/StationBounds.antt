@@ -296,3 +296,11 @@ loses-none c reserve k e v w is same ready bounded deferring aside sent room =
     (λ j. subst (λ (s : Shares). sent_on j xs ≤ share_of s j) (sym set)
     (within-shares n j xs ready.channels placed (most j))) in
     kept ∙ ap (λ (u : EndValue DatagramQueue Global). (channels_of u).unsent) same
+
+-- the end is ready for the next call, once places were set aside for this one
+pub ready-after : (c : Call) (reserve : ℕ) (e v w : EndValue OutboxValue Global) → seen_end v ≡ seen_end e
+    → inside w ≡ (turn c (inside v)).left
+    → IsReady reserve (inside e) → IsReady reserve (inside w)
+ready-after c reserve e v w same left ready =
+    turned-ready reserve c (inside e) (inside w)
+    (left ∙ ap (λ (u : EndValue DatagramQueue Global). (turn c (inside u)).left) same) ready

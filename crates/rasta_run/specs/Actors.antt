@@ -1,8 +1,12 @@
 -- One or two ends that run: what they leave undone, how they are at the end, and when they are over.
-use Rattle.std.specs.Prelude.{ℕ, ◌+◌, ◌-◌, ◌^◌, ◌==◌, ◌&&◌, ◌||◌, not, min, max, length, Bool, true, false, Option, Some, None}
+use Rattle.std.specs.Prelude.{◌≡◌, ℕ, ◌+◌, ◌-◌, ◌^◌, ◌==◌, ◌&&◌, ◌||◌, not, min, max, length, Bool, true, false, Option, Some, None}
 use Rattle.rasta_run.specs.Progress as progress
 use Rattle.rasta_run.specs.ExpectedStates.{is_expected}
+use Rattle.rasta_run.specs.InputLines.{Input}
 use Rattle.rasta_run.specs.Leftovers as undone
+use Rattle.rasta_run.specs.TelegramPuts.{EndWithInput}
+use Rattle.rasta_run.specs.Turns.{Course}
+use Rattle.rasta_run.specs.declared.recorded_channels.RecordedChannels.{RecordedChannels}
 use Rattle.rasta_run.specs.declared.turns.Actor.{Actor}
 use Rattle.rasta_run.specs.declared.leftovers.Leftovers.{Leftovers}
 use Rattle.rasta_words.specs.declared.status.ExpectedState.{ExpectedState}
@@ -11,6 +15,39 @@ use Rattle.rasta_words.specs.declared.status.RunLength.TheVariants.{Turns, Until
 use Rattle.stack_end.specs.Certain.{confirmed_in}
 use Rattle.stack_end.specs.EndValue.{inside}
 use Rattle.stack_end.specs.Turns.{is_settled}
+
+-- what a turn changes of an end, and its application
+abbrev pub course_of : {C A T : Type 0} → Actor C A → T → Course (RecordedChannels C) A T
+course_of a app =
+    record {
+      end = a.end;
+      left = a.left.now;
+      put = a.put;
+      refused = a.refused_entries;
+      app = app;
+      deaf = a.deaf_turns;
+      closed = a.was_closed;
+    }
+
+-- what lines of input change of an end, its application, and the input
+abbrev pub with_input : {C A T : Type 0} → Actor C A → T → Input → EndWithInput (RecordedChannels C) A T
+with_input a app input = record { end = a.end; put = a.put; app = app; refused = a.refused_lines; input = input }
+
+-- nothing changes but the end, its list and its log, and the numbers of telegrams put and refused
+abbrev pub OnlyPuts : {C A : Type 0} → Actor C A → Actor C A → Type 0
+OnlyPuts s t =
+    t ≡ record s {
+      end = t.end;
+      left = t.left;
+      put = t.put;
+      refused_entries = t.refused_entries;
+      log = t.log;
+    }
+
+-- nothing changes but the end, its log, and the numbers of telegrams put and lines refused
+abbrev pub OnlyPutsLines : {C A : Type 0} → Actor C A → Actor C A → Type 0
+OnlyPutsLines s t =
+    t ≡ record s { end = t.end; put = t.put; refused_lines = t.refused_lines; log = t.log }
 
 -- what an end leaves undone, if this many lines of input were not offered to it
 abbrev pub leftovers_of : {C A : Type 0} → Actor C A → (lines : ℕ) → Leftovers

@@ -3,6 +3,7 @@
 ghost use Rattle.std.specs.Prelude.{◌≡◌, ◌≢◌, ◌+◌, ◌≤◌, ◌^◌, false, is_some, length, ◌==◌, true, IfOk, OnOk};
 ghost use Rattle.octets.specs.declared.limits.TheConstants.{TIME_MAX};
 ghost use Rattle.pdi_session.specs.FaultNames.{init_fault_name, put_fault_name};
+ghost use Rattle.rasta_run.specs.Actors.{course_of, OnlyPuts, OnlyPutsLines, with_input};
 ghost use Rattle.rasta_run.specs.InputLines.{Input, input_of};
 ghost use Rattle.rasta_run.specs.TelegramPuts.{EndsInitialisationIf, OffersTelegram, PutsBeginning, TakesInputIf, TakesLine, TakesFoundLine, TakesNext, is_full, refusals_after};
 ghost use Rattle.rasta_run.specs.ExpectedStates.{ends_initialisation_in, puts_list_in, takes_lines};
@@ -55,32 +56,9 @@ impl<C: Channels, A: Allocator + Copy> Actor<'_, C, A> {
         // If `put_now` succeeds, an interlocking with an established session, or a field element that initialises,
         // has put what it has room for. With nothing left, the field element has ended its initialisation.
         ensures puts { OnOk result (PutsAllowed (λ o. C.told o.inner) T.refuses now self.old.side
-            (record {
-              end = self.old.end;
-              left = self.old.left.now;
-              put = self.old.put;
-              refused = self.old.refused_entries;
-              app = app.old;
-              deaf = self.old.deaf_turns;
-              closed = self.old.was_closed;
-            })
-            (record {
-              end = self.new.end;
-              left = self.new.left.now;
-              put = self.new.put;
-              refused = self.new.refused_entries;
-              app = app.new;
-              deaf = self.new.deaf_turns;
-              closed = self.new.was_closed;
-            })) }
+            (course_of self.old app.old) (course_of self.new app.new)) }
         // `put_now` changes nothing but the end, its list and its log, and the numbers of telegrams put and refused.
-        ensures kept { self.new ≡ record self.old {
-          end = self.new.end;
-          left = self.new.left;
-          put = self.new.put;
-          refused_entries = self.new.refused_entries;
-          log = self.new.log;
-        } }
+        ensures kept { OnlyPuts self.old self.new }
         // After `put_now` the end's time is at most `now`.
         ensures time { self.new.end.time ≤ now }
     {
@@ -135,33 +113,10 @@ impl<C: Channels, A: Allocator + Copy> Actor<'_, C, A> {
         requires later { self.old.end.time ≤ now }
         // If `put_left_if` succeeds, it has put what the end has room for, or nothing if `puts` is false.
         ensures puts { OnOk result (PutsListIf (λ o. C.told o.inner) T.refuses now puts
-            (record {
-              end = self.old.end;
-              left = self.old.left.now;
-              put = self.old.put;
-              refused = self.old.refused_entries;
-              app = app.old;
-              deaf = self.old.deaf_turns;
-              closed = self.old.was_closed;
-            })
-            (record {
-              end = self.new.end;
-              left = self.new.left.now;
-              put = self.new.put;
-              refused = self.new.refused_entries;
-              app = app.new;
-              deaf = self.new.deaf_turns;
-              closed = self.new.was_closed;
-            })) }
+            (course_of self.old app.old) (course_of self.new app.new)) }
         // `put_left_if` changes nothing but the end, its list and its log, and the numbers of telegrams put and
         // refused.
-        ensures kept { self.new ≡ record self.old {
-          end = self.new.end;
-          left = self.new.left;
-          put = self.new.put;
-          refused_entries = self.new.refused_entries;
-          log = self.new.log;
-        } }
+        ensures kept { OnlyPuts self.old self.new }
         // After `put_left_if` the end's time is at most `now`.
         ensures time { self.new.end.time ≤ now }
     {
@@ -186,13 +141,7 @@ impl<C: Channels, A: Allocator + Copy> Actor<'_, C, A> {
             (self.old.end, self.old.put, app.old, self.old.refused_entries) self.new.left.now
             (self.new.end, self.new.put, app.new, self.new.refused_entries)) }
         // `put_left` changes nothing but the end, its list and its log, and the numbers of telegrams put and refused.
-        ensures kept { self.new ≡ record self.old {
-          end = self.new.end;
-          left = self.new.left;
-          put = self.new.put;
-          refused_entries = self.new.refused_entries;
-          log = self.new.log;
-        } }
+        ensures kept { OnlyPuts self.old self.new }
         // After `put_left` the end's time is at most `now`.
         ensures time { self.new.end.time ≤ now }
     {
@@ -287,15 +236,10 @@ impl<C: Channels, A: Allocator + Copy> Actor<'_, C, A> {
         ensures puts { IfOk result (λ found. TakesInputIf (λ o. C.told o.inner) T.refuses now (is_some feed.old.ended)
             (takes_lines self.old.is_kept (inside self.old.end).upper.machine.connection (inside self.old.end).upper.session.phase
             (length self.old.left.now == 0))
-            (record { end = self.old.end; put = self.old.put; app = app.old; refused = self.old.refused_lines; input = input_of feed.old }) found
-            (record { end = self.new.end; put = self.new.put; app = app.new; refused = self.new.refused_lines; input = input_of feed.new })) }
+            (with_input self.old app.old (input_of feed.old)) found
+            (with_input self.new app.new (input_of feed.new))) }
         // `put_lines` changes nothing but the end, its log, and the numbers of telegrams put and lines refused.
-        ensures kept { self.new ≡ record self.old {
-          end = self.new.end;
-          put = self.new.put;
-          refused_lines = self.new.refused_lines;
-          log = self.new.log;
-        } }
+        ensures kept { OnlyPutsLines self.old self.new }
         // After `put_lines` the end's time is at most `now`.
         ensures time { self.new.end.time ≤ now }
         // `put_lines` reads nothing.
@@ -327,15 +271,10 @@ impl<C: Channels, A: Allocator + Copy> Actor<'_, C, A> {
         // If `put_line` returns true, it has taken the next line: its telegram was put or refused, or it is not one.
         // If it returns false, no line was there, or the end is `Full` for its telegram, which stays.
         ensures takes { IfOk result (λ done. TakesLine (λ o. C.told o.inner) T.refuses now (is_some feed.old.ended)
-            (record { end = self.old.end; put = self.old.put; app = app.old; refused = self.old.refused_lines; input = input_of feed.old }) done
-            (record { end = self.new.end; put = self.new.put; app = app.new; refused = self.new.refused_lines; input = input_of feed.new })) }
+            (with_input self.old app.old (input_of feed.old)) done
+            (with_input self.new app.new (input_of feed.new))) }
         // `put_line` changes nothing but the end, its log, and the numbers of telegrams put and lines refused.
-        ensures kept { self.new ≡ record self.old {
-          end = self.new.end;
-          put = self.new.put;
-          refused_lines = self.new.refused_lines;
-          log = self.new.log;
-        } }
+        ensures kept { OnlyPutsLines self.old self.new }
         // After `put_line` the end's time is at most `now`.
         ensures time { self.new.end.time ≤ now }
         // `put_line` reads nothing.
@@ -360,15 +299,10 @@ impl<C: Channels, A: Allocator + Copy> Actor<'_, C, A> {
         // If `put_next` returns true, it has put the next telegram, or has counted that it was refused, and no
         // telegram is next. If it returns false, the end is `Full` for the next telegram, which stays.
         ensures takes { IfOk result (λ done. TakesNext (λ o. C.told o.inner) T.refuses now feed.old.next
-            (record { end = self.old.end; put = self.old.put; app = app.old; refused = self.old.refused_lines; input = input_of feed.old }) done
-            (record { end = self.new.end; put = self.new.put; app = app.new; refused = self.new.refused_lines; input = input_of feed.new })) }
+            (with_input self.old app.old (input_of feed.old)) done
+            (with_input self.new app.new (input_of feed.new))) }
         // `put_next` changes nothing but the end, its log, and the numbers of telegrams put and lines refused.
-        ensures kept { self.new ≡ record self.old {
-          end = self.new.end;
-          put = self.new.put;
-          refused_lines = self.new.refused_lines;
-          log = self.new.log;
-        } }
+        ensures kept { OnlyPutsLines self.old self.new }
         // After `put_next` the end's time is at most `now`.
         ensures time { self.new.end.time ≤ now }
         // `put_next` reads nothing.

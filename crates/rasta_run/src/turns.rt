@@ -1,6 +1,7 @@
 //! One end in a turn: it receives, then it puts telegrams of its list.
 
 ghost use Rattle.std.specs.Prelude.{◌≡◌, ◌∷◌, [], ◌+◌, ◌-◌, ◌≤◌, ◌^◌, ◌%◌, length, ◌==◌, None, false, IfErr, IfOk, OnOk};
+ghost use Rattle.rasta_run.specs.Actors.{course_of};
 ghost use Rattle.rasta_run.specs.Counters.{run_counts_of};
 ghost use Rattle.rasta_run.specs.Counts.{printed_counts};
 ghost use Rattle.rasta_run.specs.Progress as progress;
@@ -243,24 +244,7 @@ impl<'a, C: Channels, A: Allocator + Copy> Actor<'a, C, A> {
         // If `turn` succeeds, the end has received what came, and time has passed; its application has taken what
         // the session accepted, and lost none of it. Then the end has put what it may of its list.
         ensures turn { OnOk result (turning.TakesTurn (λ o. C.told o.inner) T.takes T.has_lost T.refuses now self.old.side
-            (record {
-              end = self.old.end;
-              left = self.old.left.now;
-              put = self.old.put;
-              refused = self.old.refused_entries;
-              app = app.old;
-              deaf = self.old.deaf_turns;
-              closed = self.old.was_closed;
-            })
-            (record {
-              end = self.new.end;
-              left = self.new.left.now;
-              put = self.new.put;
-              refused = self.new.refused_entries;
-              app = app.new;
-              deaf = self.new.deaf_turns;
-              closed = self.new.was_closed;
-            })) }
+            (course_of self.old app.old) (course_of self.new app.new)) }
         // `turn` records when it was, and changes nothing else but the log.
         ensures kept { self.new ≡ record self.old {
           end = self.new.end;

@@ -2,6 +2,7 @@
 use Rattle.std.proofs.Common.{◌≡◌, ◌≤◌, ◌++◌, List, length}
 use Rattle.std.specs.List.{FoldsTo}
 use Rattle.settings_file.specs.declared.values.PutEntry.{PutEntry}
+use Rattle.rasta_run.specs.Actors.{OnlyPuts}
 use Rattle.rasta_run.specs.TelegramPuts.{PutsTelegram}
 use Rattle.rasta_run.proofs.turns.Actor.put_left.Given as goal
 
@@ -9,14 +10,7 @@ abbrev pub invariant-puts : goal.invariant-puts
 invariant-puts g l =
     record {
       time : l.self.end.time ≤ l.now;
-      kept :
-          l.self ≡ record l.initial.self {
-            end = l.self.end;
-            left = l.self.left;
-            put = l.self.put;
-            refused_entries = l.self.refused_entries;
-            log = l.self.log;
-          };
+      kept : OnlyPuts l.initial.self l.self;
       along :
           (done : List PutEntry) × (length done ≡ l.counter) × (l.initial.self.left.now ≡ done ++ l.self.left.now)
           × FoldsTo (PutsTelegram (λ o. g.C.Channels.told o.inner) g.T.Application.refuses l.now)

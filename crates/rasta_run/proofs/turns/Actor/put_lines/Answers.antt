@@ -1,4 +1,5 @@
 use Rattle.std.proofs.Common.{arith, inl, inr, refl, rules, sym, ◌∙◌}
+use Rattle.rasta_run.specs.Actors.{with_input}
 use Rattle.rasta_run.specs.InputLines.{input_of}
 use Rattle.rasta_run.proofs.PutLemmas.{line-as, line-more, when-ready}
 use Rattle.rasta_run.proofs.turns.Actor.put_lines.Goals as goal
@@ -8,31 +9,13 @@ returns-then-not-branch-clause-puts g c =
     when-ready (λ o. g.C.Channels.told o.inner) g.T.Application.refuses _ _ _ _ _ _
     (sym c.may_put_lines-is_ready.ensures ∙ c.if-not-is_ready.false) (
       c.lines.place,
-      record {
-        end = c.lines.self.end;
-        put = c.lines.self.put;
-        app = c.lines.app;
-        refused = c.lines.self.refused_lines;
-        input = input_of c.lines.feed;
-      },
+      with_input c.lines.self c.lines.app (input_of c.lines.feed),
       c.lines.invariant.along,
       inr (
         refl,
         line-as (λ o. g.C.Channels.told o.inner) g.T.Application.refuses _ _ _
-            (record {
-              end = c.lines.self.end;
-              put = c.lines.self.put;
-              app = c.lines.app;
-              refused = c.lines.self.refused_lines;
-              input = input_of c.lines.feed;
-            }) _ _
-            (record {
-              end = c.put_line.new.self.end;
-              put = c.put_line.new.self.put;
-              app = c.put_line.new.app;
-              refused = c.put_line.new.self.refused_lines;
-              input = input_of c.put_line.new.feed;
-            })
+            (with_input c.lines.self c.lines.app (input_of c.lines.feed)) _ _
+            (with_input c.put_line.new.self c.put_line.new.app (input_of c.put_line.new.feed))
             c.lines.invariant.feed.1 c.if-not-branch.true
             c.in_ok-put_line.ensures.takes,
       ),
@@ -47,36 +30,12 @@ lines-preserved g c =
           (c.put_line.ensures.feed.0 ∙ c.lines.invariant.feed.0, c.put_line.ensures.feed.1 ∙ c.lines.invariant.feed.1);
       along =
           line-more (λ o. g.C.Channels.told o.inner) g.T.Application.refuses _ _ _ _
-          (record {
-            end = c.lines.self.end;
-            put = c.lines.self.put;
-            app = c.lines.app;
-            refused = c.lines.self.refused_lines;
-            input = input_of c.lines.feed;
-          })
-          (record {
-            end = c.put_line.new.self.end;
-            put = c.put_line.new.self.put;
-            app = c.put_line.new.app;
-            refused = c.put_line.new.self.refused_lines;
-            input = input_of c.put_line.new.feed;
-          })
+          (with_input c.lines.self c.lines.app (input_of c.lines.feed))
+          (with_input c.put_line.new.self c.put_line.new.app (input_of c.put_line.new.feed))
           c.lines.invariant.along
           (line-as (λ o. g.C.Channels.told o.inner) g.T.Application.refuses _ _ _
-          (record {
-            end = c.lines.self.end;
-            put = c.lines.self.put;
-            app = c.lines.app;
-            refused = c.lines.self.refused_lines;
-            input = input_of c.lines.feed;
-          }) _ _
-          (record {
-            end = c.put_line.new.self.end;
-            put = c.put_line.new.self.put;
-            app = c.put_line.new.app;
-            refused = c.put_line.new.self.refused_lines;
-            input = input_of c.put_line.new.feed;
-          })
+          (with_input c.lines.self c.lines.app (input_of c.lines.feed)) _ _
+          (with_input c.put_line.new.self c.put_line.new.app (input_of c.put_line.new.feed))
           c.lines.invariant.feed.1 c.if-not-branch.false
           c.in_ok-put_line.ensures.takes);
     }
@@ -86,13 +45,7 @@ returns-clause-puts g c =
     when-ready (λ o. g.C.Channels.told o.inner) g.T.Application.refuses _ _ _ _ _ _
     (sym c.may_put_lines-is_ready.ensures ∙ c.if-not-is_ready.false) (
       c.lines.place,
-      record {
-        end = c.lines.self.end;
-        put = c.lines.self.put;
-        app = c.lines.app;
-        refused = c.lines.self.refused_lines;
-        input = input_of c.lines.feed;
-      },
+      with_input c.lines.self c.lines.app (input_of c.lines.feed),
       c.lines.invariant.along,
       inl (omega arith, refl, refl),
     )

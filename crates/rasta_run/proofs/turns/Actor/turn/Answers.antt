@@ -1,4 +1,5 @@
 use Rattle.std.proofs.Common.{ap, ◌∙◌}
+use Rattle.rasta_run.specs.Actors.{course_of}
 use Rattle.rasta_run.specs.Turns.{deaf_after}
 use Rattle.stack_end.specs.EndValue.{inside}
 use Rattle.stack_end.specs.Turns.{is_over}
@@ -8,15 +9,8 @@ use Rattle.rasta_run.proofs.turns.Actor.turn.Goals as goal
 pub returns-clause-turn : goal.returns-clause-turn
 returns-clause-turn g c =
     takes-turn (λ o. g.C.Channels.told o.inner) g.T.Taker.takes g.T.Application.has_lost g.T.Application.refuses _ _ _
-    (record {
-      end = c.args.self.now.end;
-      left = c.args.self.now.left.now;
-      put = c.args.self.now.put;
-      refused = c.args.self.now.refused_entries;
-      app = c.args.app.now;
-      deaf = c.args.self.now.deaf_turns;
-      closed = c.args.self.now.was_closed;
-    }) _ c.in_ok-works.works _ c.hear.new.self.end _ c.hear.new.app _ _ _ _ _ (ap (λ a. a.end) c.note_turn.ensures.kept)
+    (course_of c.args.self.now c.args.app.now) _ c.in_ok-works.works _ c.hear.new.self.end _ c.hear.new.app _ _ _ _ _
+    (ap (λ a. a.end) c.note_turn.ensures.kept)
     c.in_ok-works.ensures.heard
     c.in_ok-works.ensures.taken
     (ap (λ a. a.side) c.note_loss.ensures.kept ∙ ap (λ a. a.side) c.note_reception.ensures.kept
