@@ -19,7 +19,7 @@ use Rattle.capture.specs.Continuation.{is_continuation}
 use Rattle.capture.specs.Numbers.{limited_sum}
 use Rattle.capture.specs.Directions.{damages_after, direction_after, open_direction, peer_of, remarks_of}
 use Rattle.capture.specs.Measures.{measures_after, no_measures}
-use Rattle.capture.specs.Sessions.{open_sessions, sessions_after}
+use Rattle.capture.specs.Sessions.{has_left, open_sessions, sessions_after}
 
 -- A connection between two ends without PDUs.
 abbrev pub new_connection : ℕ → ℕ → Connection
@@ -108,7 +108,7 @@ connection_place h r cs = place_before (place_from_end h r cs) (length cs)
 
 -- An end has left the current session of the connection.
 abbrev pub is_closed : Connection → Bool
-is_closed c = is_some c.sessions.current.low.left || is_some c.sessions.current.high.left
+is_closed c = has_left c.sessions.current.low.left || has_left c.sessions.current.high.left
 
 -- A place, or else the first.
 abbrev pub place_or_first : Option ℕ → ℕ

@@ -7,7 +7,9 @@ use Rattle.capture.specs.declared.direction.TheConstants.{CHANNELS}
 use Rattle.capture.specs.declared.direction.Remarks.{Remarks}
 use Rattle.capture.specs.declared.sessions.TheConstants.{SESSIONS, TIMEOUT}
 use Rattle.capture.specs.declared.sessions.SessionRequest.{SessionRequest}
+use Rattle.capture.specs.declared.sessions.SessionRequest.TheVariants.{NotRecorded, Recorded}
 use Rattle.capture.specs.declared.sessions.Disconnection.{Disconnection}
+use Rattle.capture.specs.declared.sessions.Disconnection.TheVariants.{NotSent, Sent}
 use Rattle.capture.specs.declared.sessions.Session.{Session}
 use Rattle.capture.specs.declared.sessions.SessionTotals.{SessionTotals}
 use Rattle.capture.specs.declared.sessions.Sessions.{Sessions}
@@ -19,10 +21,10 @@ use Rattle.capture.specs.Numbers.{limited_sum}
 
 -- An end that has sent nothing in a session.
 abbrev pub open_side : Side
-open_side = record { left = None; longest = 0; missing = replicate CHANNELS 0; lost = 0; resent = 0; repeats = 0 }
+open_side = record { left = NotSent; longest = 0; missing = replicate CHANNELS 0; lost = 0; resent = 0; repeats = 0 }
 
 -- A session with this number before its first PDU.
-abbrev pub open_session : ℕ → Option SessionRequest → Option ℕ → Session
+abbrev pub open_session : ℕ → SessionRequest → Option ℕ → Session
 open_session number asked up = record { number = number; asked = asked; up = up; low = open_side; high = open_side }
 
 -- Sums over no session.
@@ -31,7 +33,7 @@ no_session_totals = record { up = 0; unanswered = 0; left = 0; timeouts = 0; alo
 
 -- The sessions of a connection before its first PDU.
 abbrev pub open_sessions : Sessions
-open_sessions = record { past = []; ended = no_session_totals; current = open_session 0 None None }
+open_sessions = record { past = []; ended = no_session_totals; current = open_session 0 NotRecorded None }
 
 -- 1 if it holds, else 0.
 abbrev pub one_if : Bool → ℕ
@@ -61,19 +63,24 @@ is_doubled (Some (Repeat line)) = true
 is_doubled _ = false
 
 -- The DiscReq of a PDU.
-abbrev pub disconnection_in : ℕ → Bool → Option Leaving → Option Disconnection
-disconnection_in time follows None = None
-disconnection_in time follows (Some leaving) = Some (record { time = time; leaving = leaving; follows = follows })
+abbrev pub disconnection_in : ℕ → Bool → Option Leaving → Disconnection
+disconnection_in time follows None = NotSent
+disconnection_in time follows (Some leaving) = Sent follows leaving time
 
 -- The DiscReq of a PDU, if the PDU is new.
-abbrev pub disconnection_if : Bool → ℕ → Bool → Option Leaving → Option Disconnection
+abbrev pub disconnection_if : Bool → ℕ → Bool → Option Leaving → Disconnection
 disconnection_if true time follows leaving = disconnection_in time follows leaving
-disconnection_if false time follows leaving = None
+disconnection_if false time follows leaving = NotSent
 
 -- The first DiscReq of an end in a session. Copies of it do not count.
-abbrev pub first_disconnection : Option Disconnection → ℕ → Bool → Remarks → Option Disconnection
-first_disconnection (Some parting) time follows m = Some parting
-first_disconnection None time follows m = disconnection_if (is_new m.together) time follows m.leaving
+abbrev pub first_disconnection : Disconnection → ℕ → Bool → Remarks → Disconnection
+first_disconnection (Sent first leaving start) time follows m = Sent first leaving start
+first_disconnection NotSent time follows m = disconnection_if (is_new m.together) time follows m.leaving
+
+-- An end has sent a DiscReq.
+abbrev pub has_left : Disconnection → Bool
+has_left NotSent = false
+has_left (Sent follows leaving time) = true
 
 -- What an end did in a session, after one more of its PDUs.
 abbrev pub side_after : Side → ℕ → Bool → Remarks → Side
@@ -89,8 +96,8 @@ side_after s time follows m =
 
 -- The session after a PDU of the end with the lower identifier (`true`), or of the other end.
 abbrev pub session_after : Bool → Session → ℕ → Remarks → Session
-session_after true s time m = record s { low = side_after s.low time (is_some s.high.left) m }
-session_after false s time m = record s { high = side_after s.high time (is_some s.low.left) m }
+session_after true s time m = record s { low = side_after s.low time (has_left s.high.left) m }
+session_after false s time m = record s { high = side_after s.high time (has_left s.low.left) m }
 
 -- A sum with the datagrams that one channel lost, apart from the numbers that all channels lost.
 abbrev pub with_alone : ℕ → ℕ → ℕ → ℕ
@@ -109,22 +116,22 @@ abbrev pub lost_in_session : Session → ℕ
 lost_in_session s = limited_sum s.low.lost s.high.lost
 
 -- The end that did not ask has sent no DiscReq.
-abbrev pub is_other_silent : SessionRequest → Session → Bool
-is_other_silent asked s = if asked.by_low then is_none s.high.left else is_none s.low.left
+abbrev pub is_other_silent : Bool → Session → Bool
+is_other_silent by_low s = if by_low then not (has_left s.high.left) else not (has_left s.low.left)
 
 -- An opening was recorded, and neither a ConnResp nor a DiscReq of the other end after it.
-abbrev pub is_unanswered_by : Option SessionRequest → Session → Bool
-is_unanswered_by None s = false
-is_unanswered_by (Some asked) s = is_none s.up && is_other_silent asked s
+abbrev pub is_unanswered_by : SessionRequest → Session → Bool
+is_unanswered_by NotRecorded s = false
+is_unanswered_by (Recorded by_low time) s = is_none s.up && is_other_silent by_low s
 
 -- Nobody answered the opening of the session.
 abbrev pub is_unanswered_in : Session → Bool
 is_unanswered_in s = is_unanswered_by s.asked s
 
 -- An end left because nothing recent was confirmed in time.
-abbrev pub is_timeout : Option Disconnection → Bool
-is_timeout None = false
-is_timeout (Some parting) = parting.leaving.reason == TIMEOUT
+abbrev pub is_timeout : Disconnection → Bool
+is_timeout NotSent = false
+is_timeout (Sent follows leaving time) = leaving.reason == TIMEOUT
 
 -- The sums with one more session.
 abbrev pub count_session : SessionTotals → Session → SessionTotals
@@ -132,7 +139,7 @@ count_session t s =
     record {
       up = limited_sum t.up (one_if (is_some s.up));
       unanswered = limited_sum t.unanswered (one_if (is_unanswered_in s));
-      left = limited_sum t.left (one_if (is_some s.low.left || is_some s.high.left));
+      left = limited_sum t.left (one_if (has_left s.low.left || has_left s.high.left));
       timeouts = limited_sum t.timeouts (one_if (is_timeout s.low.left || is_timeout s.high.left));
       alone = limited_sum t.alone (alone_in s);
     }
@@ -152,14 +159,14 @@ end_current ss =
     }
 
 -- The sessions after the start of the next one.
-abbrev pub start_session : Sessions → Option SessionRequest → Option ℕ → Sessions
+abbrev pub start_session : Sessions → SessionRequest → Option ℕ → Sessions
 start_session ss asked up =
     record (end_current ss) { current = open_session (limited_sum ss.current.number 1) asked up }
 
 -- The session was asked for by the other end.
-abbrev pub is_asked_by_other : Option SessionRequest → Bool → Bool
-is_asked_by_other None from_low = false
-is_asked_by_other (Some asked) from_low = if from_low then not asked.by_low else asked.by_low
+abbrev pub is_asked_by_other : SessionRequest → Bool → Bool
+is_asked_by_other NotRecorded from_low = false
+is_asked_by_other (Recorded by_low time) from_low = if from_low then not by_low else by_low
 
 -- The session awaits the ConnResp of this end.
 abbrev pub is_awaited_in : Session → Bool → Bool
@@ -168,14 +175,14 @@ is_awaited_in s from_low = is_none s.up && is_asked_by_other s.asked from_low
 -- The sessions after an opening: a ConnReq starts one, and so does a ConnResp that the current one does not await.
 abbrev pub sessions_after_opening : Sessions → Bool → ℕ → Kind → Sessions
 sessions_after_opening ss from_low time kind =
-    if is_request kind then start_session ss (Some (record { time = time; by_low = from_low })) None
+    if is_request kind then start_session ss (Recorded from_low time) None
     else if is_awaited_in ss.current from_low then record ss { current = record ss.current { up = Some time } }
-    else start_session ss None (Some time)
+    else start_session ss NotRecorded (Some time)
 
 -- The sessions before a PDU is counted; the first PDU of a connection starts one, even if it is not an opening.
 abbrev pub begin_sessions : Bool → Sessions → Bool → ℕ → Kind → Sessions
 begin_sessions true ss from_low time kind = sessions_after_opening ss from_low time kind
-begin_sessions false ss from_low time kind = if nat_eq ss.current.number 0 then start_session ss None None else ss
+begin_sessions false ss from_low time kind = if nat_eq ss.current.number 0 then start_session ss NotRecorded None else ss
 
 -- The sessions with a PDU counted in the current one.
 abbrev pub count_in_sessions : Sessions → Bool → ℕ → Remarks → Sessions

@@ -400,8 +400,8 @@ fn is_left(connection: &Connection) -> bool
     // A DiscReq of either end is enough.
     ensures { result ≡ is_closed connection.now }
 {
-    connection.sessions.current.low.left.is_some()
-        || connection.sessions.current.high.left.is_some()
+    connection.sessions.current.low.left.is_sent()
+        || connection.sessions.current.high.left.is_sent()
 }
 
 /// Makes room for a further connection. The entry of the one that is forgotten, if any, becomes the spare one.

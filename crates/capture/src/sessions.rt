@@ -5,7 +5,7 @@
 
 ghost use Rattle.circular_buffer.specs.Buffer.{keep_last};
 ghost use Rattle.std.specs.Prelude.{◌≡◌, ◌<◌, ◌++◌, ◌∷◌, [], IfOk};
-ghost use Rattle.capture.specs.Sessions.{alone_in, alone_of, start_session, end_current, is_asked_by_other, is_awaited_in, is_doubled, is_other_silent, is_timeout, is_unanswered_by, is_unanswered_in, lost_in_session, missing_after, missing_on, no_session_totals, one_if, open_session, open_sessions, open_side, first_disconnection, disconnection_if, disconnection_in, session_after, count_session, session_sums, sessions_after, begin_sessions, sessions_after_opening, side_after, with_alone};
+ghost use Rattle.capture.specs.Sessions.{has_left, alone_in, alone_of, start_session, end_current, is_asked_by_other, is_awaited_in, is_doubled, is_other_silent, is_timeout, is_unanswered_by, is_unanswered_in, lost_in_session, missing_after, missing_on, no_session_totals, one_if, open_session, open_sessions, open_side, first_disconnection, disconnection_if, disconnection_in, session_after, count_session, session_sums, sessions_after, begin_sessions, sessions_after_opening, side_after, with_alone};
 
 use crate::direction::{CHANNELS, Remarks, greatest, is_first_copy};
 use crate::window::NumberOrder;
@@ -33,7 +33,7 @@ pub struct Sessions {
 
 /// The last sessions that have ended, the oldest first, at most `SESSIONS`. Contracts see the list of them.
 ///
-/// It has room for all of them from the start, 10 KiB; the system gives this memory as it is written.
+/// It has room for all of them from the start, 9 KiB; the system gives this memory as it is written.
 #[derive(Drop)]
 pub struct PastSessions {
     kept: HeapCircularBuffer<Session, Global>,
@@ -95,8 +95,8 @@ impl PastSessions {
 pub struct Session {
     /// Its number in its connection, from 1.
     pub number: u64,
-    /// Its ConnReq; `None` if that was not recorded.
-    pub asked: Option<SessionRequest>,
+    /// Its ConnReq.
+    pub asked: SessionRequest,
     /// The time of its ConnResp, in microseconds.
     pub up: Option<u64>,
     /// What the end with the lower identifier did.
@@ -105,20 +105,25 @@ pub struct Session {
     pub high: Side,
 }
 
-/// The ConnReq of a session.
+/// The ConnReq of a session, in 16 bytes.
 #[derive(Clone, Copy, Debug, PartialEq, Eq)]
-pub struct SessionRequest {
-    /// When it was recorded, in microseconds.
-    pub time: u64,
-    /// The end with the lower identifier sent it.
-    pub by_low: bool,
+pub enum SessionRequest {
+    /// It was not recorded.
+    NotRecorded,
+    /// It was recorded.
+    Recorded {
+        /// The end with the lower identifier sent it.
+        by_low: bool,
+        /// When it was recorded, in microseconds.
+        time: u64,
+    },
 }
 
 /// What one end did in a session; copies count once. A count stops at 2^32 - 1.
 #[derive(Clone, Copy, Debug, PartialEq, Eq)]
 pub struct Side {
     /// Its first DiscReq.
-    pub left: Option<Disconnection>,
+    pub left: Disconnection,
     /// Its longest wait for a confirmation, in milliseconds.
     pub longest: u32,
     /// The numbers that are missing on each channel.
@@ -131,15 +136,30 @@ pub struct Side {
     pub repeats: u32,
 }
 
-/// The DiscReq of an end.
+/// The DiscReq of an end, in 16 bytes.
 #[derive(Clone, Copy, Debug, PartialEq, Eq)]
-pub struct Disconnection {
-    /// When it was recorded, in microseconds.
-    pub time: u64,
-    /// Its reason and detail.
-    pub leaving: Leaving,
-    /// The other end had left the session before.
-    pub follows: bool,
+pub enum Disconnection {
+    /// The end sent none.
+    NotSent,
+    /// The end sent it.
+    Sent {
+        /// The other end had left the session before.
+        follows: bool,
+        /// Its reason and detail.
+        leaving: Leaving,
+        /// When it was recorded, in microseconds.
+        time: u64,
+    },
+}
+
+impl Disconnection {
+    /// Returns `true` if the end sent a DiscReq.
+    pub fn is_sent(self) -> bool
+        // Time, reason and order do not matter (`has_left`).
+        ensures { result ≡ has_left self }
+    {
+        matches!(self, Disconnection::Sent { .. })
+    }
 }
 
 /// Sums over sessions.
@@ -170,7 +190,7 @@ impl Sessions {
         Ok(Sessions {
             past: PastSessions::new(alloc)?,
             ended: new_totals(),
-            current: new_session(0, None, None),
+            current: new_session(0, SessionRequest::NotRecorded, None),
         })
     }
 
@@ -181,7 +201,7 @@ impl Sessions {
     {
         self.past.clear();
         self.ended = new_totals();
-        self.current = new_session(0, None, None);
+        self.current = new_session(0, SessionRequest::NotRecorded, None);
     }
 }
 
@@ -200,7 +220,7 @@ fn new_totals() -> SessionTotals
 }
 
 /// Returns a session before its first PDU.
-fn new_session(number: u64, asked: Option<SessionRequest>, up: Option<u64>) -> Session
+fn new_session(number: u64, asked: SessionRequest, up: Option<u64>) -> Session
     // The session has this `number`, ConnReq and time of its ConnResp; neither end has sent anything.
     ensures { result ≡ open_session number asked up }
 {
@@ -219,7 +239,7 @@ fn new_side() -> Side
     ensures { result ≡ open_side }
 {
     Side {
-        left: None,
+        left: Disconnection::NotSent,
         longest: 0,
         missing: [0; CHANNELS],
         lost: 0,
@@ -253,7 +273,7 @@ fn begin_by(sessions: &mut Sessions, opens: bool, from_low: bool, time: u64, kin
     if opens {
         open_by(sessions, from_low, time, kind);
     } else if sessions.current.number == 0 {
-        begin(sessions, None, None);
+        begin(sessions, SessionRequest::NotRecorded, None);
     }
 }
 
@@ -264,15 +284,15 @@ fn open_by(sessions: &mut Sessions, from_low: bool, time: u64, kind: Kind)
     ensures { sessions.new ≡ sessions_after_opening sessions.old from_low time kind }
 {
     if matches!(kind, Kind::ConnReq) {
-        let asking = SessionRequest {
-            time,
+        let asked = SessionRequest::Recorded {
             by_low: from_low,
+            time,
         };
-        begin(sessions, Some(asking), None);
+        begin(sessions, asked, None);
     } else if awaits(&sessions.current, from_low) {
         sessions.current.up = Some(time);
     } else {
-        begin(sessions, None, Some(time));
+        begin(sessions, SessionRequest::NotRecorded, Some(time));
     }
 }
 
@@ -285,24 +305,18 @@ fn awaits(session: &Session, from_low: bool) -> bool
 }
 
 /// Returns `true` if the other end than this one sent the ConnReq.
-fn asks_other(asked: Option<SessionRequest>, from_low: bool) -> bool
+fn asks_other(asked: SessionRequest, from_low: bool) -> bool
     // Without a recorded ConnReq the result is false; otherwise both ends are compared.
     ensures { result ≡ is_asked_by_other asked from_low }
 {
     match asked {
-        None => false,
-        Some(asked) => {
-            if from_low {
-                !asked.by_low
-            } else {
-                asked.by_low
-            }
-        }
+        SessionRequest::NotRecorded => false,
+        SessionRequest::Recorded { by_low, .. } => by_low != from_low,
     }
 }
 
 /// Starts the next session.
-fn begin(sessions: &mut Sessions, asked: Option<SessionRequest>, up: Option<u64>)
+fn begin(sessions: &mut Sessions, asked: SessionRequest, up: Option<u64>)
     // The session before is kept and added to the sums; the new one has the next number (`start_session`).
     ensures { sessions.new ≡ start_session sessions.old asked up }
 {
@@ -330,10 +344,10 @@ fn note_in(session: &mut Session, from_low: bool, time: u64, remarks: &Remarks)
     ensures { session.new ≡ session_after from_low session.old time remarks.now }
 {
     if from_low {
-        let follows = session.high.left.is_some();
+        let follows = session.high.left.is_sent();
         note_side(&mut session.low, time, follows, remarks);
     } else {
-        let follows = session.low.left.is_some();
+        let follows = session.low.left.is_sent();
         note_side(&mut session.high, time, follows, remarks);
     }
 }
@@ -366,18 +380,13 @@ fn count_if(holds: bool) -> u32
 }
 
 /// Returns the first DiscReq of an end in a session, after one of its PDUs.
-fn part(
-    left: Option<Disconnection>,
-    time: u64,
-    follows: bool,
-    remarks: &Remarks,
-) -> Option<Disconnection>
+fn part(left: Disconnection, time: u64, follows: bool, remarks: &Remarks) -> Disconnection
     // The first DiscReq stays; without one, the result is that of the PDU, if it is new (`first_disconnection`).
     ensures { result ≡ first_disconnection left time follows remarks.now }
 {
     match left {
-        Some(parting) => Some(parting),
-        None => part_if(
+        Disconnection::Sent { .. } => left,
+        Disconnection::NotSent => part_if(
             is_first_copy(remarks.together),
             time,
             follows,
@@ -387,33 +396,28 @@ fn part(
 }
 
 /// Returns the DiscReq of a PDU, if it is new.
-fn part_if(
-    is_new: bool,
-    time: u64,
-    follows: bool,
-    leaving: Option<Leaving>,
-) -> Option<Disconnection>
+fn part_if(is_new: bool, time: u64, follows: bool, leaving: Option<Leaving>) -> Disconnection
     // A copy has none; a new PDU has one if it has a reason (`disconnection_in`).
     ensures { result ≡ disconnection_if is_new time follows leaving }
 {
     if is_new {
         return part_in(time, follows, leaving);
     }
-    None
+    Disconnection::NotSent
 }
 
 /// Returns the DiscReq of a PDU.
-fn part_in(time: u64, follows: bool, leaving: Option<Leaving>) -> Option<Disconnection>
+fn part_in(time: u64, follows: bool, leaving: Option<Leaving>) -> Disconnection
     // Without a reason the PDU is not a DiscReq.
     ensures { result ≡ disconnection_in time follows leaving }
 {
     match leaving {
-        None => None,
-        Some(leaving) => Some(Disconnection {
-            time,
-            leaving,
+        None => Disconnection::NotSent,
+        Some(leaving) => Disconnection::Sent {
             follows,
-        }),
+            leaving,
+            time,
+        },
     }
 }
 
@@ -496,31 +500,33 @@ pub fn is_unanswered(session: &Session) -> bool
     ensures { result ≡ is_unanswered_in session.now }
 {
     match session.asked {
-        None => false,
-        Some(asked) => session.up.is_none() && is_silent(&asked, session),
+        SessionRequest::NotRecorded => false,
+        SessionRequest::Recorded { by_low, .. } => {
+            session.up.is_none() && is_silent(by_low, session)
+        }
     }
 }
 
 /// Returns `true` if the end that did not ask for a session has not left it.
-fn is_silent(asked: &SessionRequest, session: &Session) -> bool
-    // The other end than the one that `asked` has sent no DiscReq in the `session`.
-    ensures { result ≡ is_other_silent asked.now session.now }
+fn is_silent(by_low: bool, session: &Session) -> bool
+    // The end that did not ask has sent no DiscReq in the `session` (`is_other_silent`).
+    ensures { result ≡ is_other_silent by_low session.now }
 {
-    if asked.by_low {
-        session.high.left.is_none()
+    if by_low {
+        !session.high.left.is_sent()
     } else {
-        session.low.left.is_none()
+        !session.low.left.is_sent()
     }
 }
 
 /// Returns `true` if an end left by a timeout.
-fn times_out(left: Option<Disconnection>) -> bool
+fn times_out(left: Disconnection) -> bool
     // The result is true exactly if the end has left with reason 3.
     ensures { result ≡ is_timeout left }
 {
     match left {
-        None => false,
-        Some(parting) => parting.leaving.reason == TIMEOUT,
+        Disconnection::NotSent => false,
+        Disconnection::Sent { leaving, .. } => leaving.reason == TIMEOUT,
     }
 }
 
@@ -530,7 +536,7 @@ fn add_session(totals: SessionTotals, session: &Session) -> SessionTotals
     ensures { result ≡ count_session totals session.now }
 {
     let up = session.up.is_some();
-    let left = session.low.left.is_some() || session.high.left.is_some();
+    let left = session.low.left.is_sent() || session.high.left.is_sent();
     let timeout = times_out(session.low.left) || times_out(session.high.left);
     SessionTotals {
         up: totals.up.saturating_add(count_if(up) as u64),

@@ -2,8 +2,11 @@
 use Rattle.std.specs.Prelude.{ℕ, Bool, true, false, List, [], ◌∷◌, ◌++◌, codes, Option, Some, None}
 use Rattle.std.specs.Fmt.{decimal}
 use Rattle.std.specs.List.{flat_map}
+use Rattle.safe_pdu.specs.declared.Leaving.{Leaving}
 use Rattle.capture.specs.declared.sessions.SessionRequest.{SessionRequest}
+use Rattle.capture.specs.declared.sessions.SessionRequest.TheVariants.{NotRecorded, Recorded}
 use Rattle.capture.specs.declared.sessions.Disconnection.{Disconnection}
+use Rattle.capture.specs.declared.sessions.Disconnection.TheVariants.{NotSent, Sent}
 use Rattle.capture.specs.declared.sessions.Session.{Session}
 use Rattle.capture.specs.declared.sessions.SessionTotals.{SessionTotals}
 use Rattle.capture.specs.declared.sessions.Sessions.{Sessions}
@@ -27,9 +30,9 @@ unfoldable pub request_json : ℕ → ℕ → List ℕ
 request_json end time = join_pieces (codes ",\"asked\":" ∷ decimal time ∷ codes ",\"asked_by\":" ∷ decimal end ∷ [])
 
 -- The ConnReq of a session, or that it was not recorded.
-abbrev pub maybe_request_json : ℕ → ℕ → Option SessionRequest → List ℕ
-maybe_request_json low high None = codes ",\"asked\":null,\"asked_by\":null"
-maybe_request_json low high (Some a) = request_json (asker_of low high a) a.time
+abbrev pub maybe_request_json : ℕ → ℕ → SessionRequest → List ℕ
+maybe_request_json low high NotRecorded = codes ",\"asked\":null,\"asked_by\":null"
+maybe_request_json low high (Recorded by_low time) = request_json (asker_of low high by_low) time
 
 -- The number of a session, at the start of its object.
 unfoldable pub number_json : ℕ → List ℕ
@@ -41,17 +44,17 @@ outcome_json up unanswered =
     codes ",\"up\":" ++ maybe_time_json up ++ codes ",\"unanswered\":" ++ truth_json unanswered
 
 -- The object of a DiscReq.
-unfoldable pub disconnect_json : Disconnection → List ℕ
-disconnect_json p =
+unfoldable pub disconnect_json : Bool → Leaving → ℕ → List ℕ
+disconnect_json follows leaving time =
     join_pieces
-    (codes "{\"time\":" ∷ decimal p.time ∷ codes ",\"reason\":" ∷ decimal p.leaving.reason ∷ codes ",\"detail\":" ∷
-    decimal p.leaving.detail
-    ∷ codes ",\"follows\":" ∷ truth_json p.follows ∷ codes "}" ∷ [])
+    (codes "{\"time\":" ∷ decimal time ∷ codes ",\"reason\":" ∷ decimal leaving.reason ∷ codes ",\"detail\":" ∷
+    decimal leaving.detail
+    ∷ codes ",\"follows\":" ∷ truth_json follows ∷ codes "}" ∷ [])
 
 -- The DiscReq of an end, or null.
-abbrev pub maybe_disconnect_json : Option Disconnection → List ℕ
-maybe_disconnect_json None = codes "null"
-maybe_disconnect_json (Some p) = disconnect_json p
+abbrev pub maybe_disconnect_json : Disconnection → List ℕ
+maybe_disconnect_json NotSent = codes "null"
+maybe_disconnect_json (Sent follows leaving time) = disconnect_json follows leaving time
 
 -- The longest wait and the losses of an end.
 unfoldable pub losses_json : ℕ → ℕ → ℕ → List ℕ

@@ -1,14 +1,17 @@
 -- The table of a connection's sessions, one line each.
-use Rattle.std.specs.Prelude.{ℕ, ◌&&◌, Bool, true, false, List, [], ◌∷◌, ◌++◌, codes, if◌then◌else◌, Option, Some, None, is_none}
+use Rattle.std.specs.Prelude.{ℕ, ◌&&◌, Bool, true, false, List, [], ◌∷◌, ◌++◌, codes, if◌then◌else◌, not, Option, Some, None}
 use Rattle.std.specs.Fmt.{decimal}
 use Rattle.std.specs.List.{flat_map}
 use Rattle.capture.specs.declared.connections.Route.{Route}
+use Rattle.safe_pdu.specs.declared.Leaving.{Leaving}
 use Rattle.capture.specs.declared.sessions.SessionRequest.{SessionRequest}
+use Rattle.capture.specs.declared.sessions.SessionRequest.TheVariants.{NotRecorded, Recorded}
 use Rattle.capture.specs.declared.sessions.Disconnection.{Disconnection}
+use Rattle.capture.specs.declared.sessions.Disconnection.TheVariants.{NotSent, Sent}
 use Rattle.capture.specs.declared.sessions.Session.{Session}
 use Rattle.capture.specs.declared.sessions.Sessions.{Sessions}
 use Rattle.capture.specs.Numbers.{limited_sum}
-use Rattle.capture.specs.Sessions.{alone_in, is_unanswered_in, lost_in_session}
+use Rattle.capture.specs.Sessions.{alone_in, has_left, is_unanswered_in, lost_in_session}
 use Rattle.pdu_text.specs.Lines.{join_pieces}
 use Rattle.capture_text.specs.declared.pieces.Clock.{Clock}
 use Rattle.capture_text.specs.Pieces.{address_text, since_text}
@@ -29,17 +32,17 @@ maybe_at_text None = []
 maybe_at_text (Some route) = at_text route
 
 -- The end that asked for a session.
-abbrev pub asker_of : ℕ → ℕ → SessionRequest → ℕ
-asker_of low high a = if a.by_low then low else high
+abbrev pub asker_of : ℕ → ℕ → Bool → ℕ
+asker_of low high by_low = if by_low then low else high
 
 -- The ConnReq of a session: end and time.
 unfoldable pub request_text : Clock → ℕ → ℕ → List ℕ
 request_text clock end time = join_pieces (codes ", " ∷ decimal end ∷ codes " asked at " ∷ []) ++ since_text clock time
 
 -- The ConnReq of a session, or that it was not recorded.
-abbrev pub maybe_request_text : Clock → ℕ → ℕ → Option SessionRequest → List ℕ
-maybe_request_text clock low high None = codes ", its ConnReq was not recorded"
-maybe_request_text clock low high (Some a) = request_text clock (asker_of low high a) a.time
+abbrev pub maybe_request_text : Clock → ℕ → ℕ → SessionRequest → List ℕ
+maybe_request_text clock low high NotRecorded = codes ", its ConnReq was not recorded"
+maybe_request_text clock low high (Recorded by_low time) = request_text clock (asker_of low high by_low) time
 
 -- The time at which a session came up.
 unfoldable pub up_text : Clock → ℕ → List ℕ
@@ -66,20 +69,22 @@ abbrev pub own_text : Bool → List ℕ
 own_text true = codes " after the other"
 own_text false = codes " by itself"
 
--- The DiscReq of an end: who, when, own or after that of the other end, reason.
-unfoldable pub disconnect_text : Clock → ℕ → Disconnection → List ℕ
-disconnect_text clock end p =
-    join_pieces (codes ", " ∷ decimal end ∷ codes " left at " ∷ []) ++ since_text clock p.time ++ own_text p.follows
-    ++ leaving_words p.leaving
+-- The DiscReq of an end: who and when.
+unfoldable pub departure_text : Clock → ℕ → ℕ → List ℕ
+departure_text clock end time = join_pieces (codes ", " ∷ decimal end ∷ codes " left at " ∷ []) ++ since_text clock time
+
+-- The DiscReq of an end: own or after that of the other end, reason.
+unfoldable pub manner_text : Bool → Leaving → List ℕ
+manner_text follows leaving = own_text follows ++ leaving_words leaving
 
 -- The DiscReq of an end, if it sent one.
-abbrev pub maybe_disconnect_text : Clock → ℕ → Option Disconnection → List ℕ
-maybe_disconnect_text clock end None = []
-maybe_disconnect_text clock end (Some p) = disconnect_text clock end p
+abbrev pub maybe_disconnect_text : Clock → ℕ → Disconnection → List ℕ
+maybe_disconnect_text clock end NotSent = []
+maybe_disconnect_text clock end (Sent follows leaving time) = departure_text clock end time ++ manner_text follows leaving
 
 -- Neither end left.
 abbrev pub is_kept : Session → Bool
-is_kept x = is_none x.low.left && is_none x.high.left
+is_kept x = not (has_left x.low.left) && not (has_left x.high.left)
 
 -- That neither end left.
 abbrev pub no_disconnect_text : Bool → List ℕ

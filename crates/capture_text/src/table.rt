@@ -2,7 +2,7 @@
 
 ghost use Rattle.std.specs.Prelude.{◌≡◌, OnOk, None, Some};
 ghost use Rattle.std.specs.Io.KnownBytes.{Appends};
-ghost use Rattle.capture_text.specs.TableText.{again_text, maybe_request_text, maybe_at_text, at_text, asker_of, request_text, start_text, up_text, down_text, end_text, session_events_text, is_kept, no_disconnect_text, disconnect_text, maybe_disconnect_text, session_losses_text, number_text, outcome_text, own_text, past_text, repeats_in, resent_in, session_text, sessions_text, waits_text};
+ghost use Rattle.capture_text.specs.TableText.{again_text, maybe_request_text, maybe_at_text, at_text, asker_of, request_text, start_text, up_text, down_text, end_text, session_events_text, is_kept, no_disconnect_text, departure_text, manner_text, maybe_disconnect_text, session_losses_text, number_text, outcome_text, own_text, past_text, repeats_in, resent_in, session_text, sessions_text, waits_text};
 
 use crate::pieces::{Clock, write_address, write_since};
 use crate::reasons::write_reasons;
@@ -11,6 +11,7 @@ use capture::{
     lost_everywhere,
 };
 use pdu_text::write_text;
+use safe_pdu::Leaving;
 use std::io;
 use std::io::Write;
 
@@ -134,24 +135,26 @@ fn write_asked<W: Write>(
     writer: &mut W,
     clock: Clock,
     ends: (u32, u32),
-    asked: Option<SessionRequest>,
+    asked: SessionRequest,
 ) -> io::Result<()>
     // On success the end that `asked` and the time are appended, or that the ConnReq was not recorded.
     ensures { OnOk result (Appends (W.contents writer.old) (W.contents writer.new)
         (maybe_request_text clock ends.0 ends.1 asked)) }
 {
     match asked {
-        None => write_text(writer, ", its ConnReq was not recorded"),
-        Some(asking) => write_asking(writer, clock, asker(ends, &asking), asking.time),
+        SessionRequest::NotRecorded => write_text(writer, ", its ConnReq was not recorded"),
+        SessionRequest::Recorded { by_low, time } => {
+            write_asking(writer, clock, asker(ends, by_low), time)
+        }
     }
 }
 
 /// Returns the end that asked for a session.
-pub(crate) fn asker(ends: (u32, u32), asking: &SessionRequest) -> u32
+pub(crate) fn asker(ends: (u32, u32), by_low: bool) -> u32
     // The result is the lower identifier if that end sent the ConnReq, otherwise the higher one.
-    ensures { result ≡ asker_of ends.0 ends.1 asking.now }
+    ensures { result ≡ asker_of ends.0 ends.1 by_low }
 {
-    if asking.by_low { ends.0 } else { ends.1 }
+    if by_low { ends.0 } else { ends.1 }
 }
 
 /// Writes which end asked for a session, and when.
@@ -228,7 +231,7 @@ fn keeps(session: &Session) -> bool
     // The result is true exactly if neither side has a DiscReq.
     ensures { result ≡ is_kept session.now }
 {
-    session.low.left.is_none() && session.high.left.is_none()
+    !session.low.left.is_sent() && !session.high.left.is_sent()
 }
 
 /// Returns the words for a session that nobody left.
@@ -244,34 +247,44 @@ fn write_left<W: Write>(
     writer: &mut W,
     clock: Clock,
     end: u32,
-    left: Option<Disconnection>,
+    left: Disconnection,
 ) -> io::Result<()>
     // On success the DiscReq is appended if the end `left`; otherwise nothing is.
     ensures { OnOk result (Appends (W.contents writer.old) (W.contents writer.new) (maybe_disconnect_text clock end left)) }
 {
     match left {
-        None => Ok(()),
-        Some(parting) => write_leaving(writer, clock, end, parting),
+        Disconnection::NotSent => Ok(()),
+        Disconnection::Sent {
+            follows,
+            leaving,
+            time,
+        } => {
+            write_departure(writer, clock, end, time)?;
+            write_manner(writer, follows, leaving)
+        }
     }
 }
 
-/// Writes the DiscReq of an end.
-#[tactic(auto, unfolding(crate::specs::TableText::disconnect_text))]
-fn write_leaving<W: Write>(
-    writer: &mut W,
-    clock: Clock,
-    end: u32,
-    parting: Disconnection,
-) -> io::Result<()>
-    // On success the identifier of `end`, the time since `clock`, whether the other end had left before, and the
-    // reason are appended.
+/// Writes which end left, and when.
+#[tactic(auto, unfolding(crate::specs::TableText::departure_text))]
+fn write_departure<W: Write>(writer: &mut W, clock: Clock, end: u32, time: u64) -> io::Result<()>
+    // On success the identifier of `end` and the time since `clock` are appended.
     ensures { OnOk result (Appends (W.contents writer.old) (W.contents writer.new)
-        (disconnect_text clock end parting)) }
+        (departure_text clock end time)) }
 {
     write!(writer, ", {end} left at ")?;
-    write_since(writer, clock, parting.time)?;
-    write_text(writer, name_own(parting.follows))?;
-    write_reasons(writer, parting.leaving)
+    write_since(writer, clock, time)
+}
+
+/// Writes how an end left.
+#[tactic(auto, unfolding(crate::specs::TableText::manner_text))]
+fn write_manner<W: Write>(writer: &mut W, follows: bool, leaving: Leaving) -> io::Result<()>
+    // On success it is appended whether the other end had left before, and then the reason.
+    ensures { OnOk result (Appends (W.contents writer.old) (W.contents writer.new)
+        (manner_text follows leaving)) }
+{
+    write_text(writer, name_own(follows))?;
+    write_reasons(writer, leaving)
 }
 
 /// Returns the words for the first leaving of a session, or for one after it.

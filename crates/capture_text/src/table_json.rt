@@ -10,6 +10,7 @@ use capture::{
     is_unanswered,
 };
 use pdu_text::write_text;
+use safe_pdu::Leaving;
 use std::io;
 use std::io::Write;
 
@@ -133,18 +134,16 @@ fn write_number<W: Write>(writer: &mut W, number: u64) -> io::Result<()>
 }
 
 /// Writes the ConnReq of a session.
-fn write_asked<W: Write>(
-    writer: &mut W,
-    ends: (u32, u32),
-    asked: Option<SessionRequest>,
-) -> io::Result<()>
+fn write_asked<W: Write>(writer: &mut W, ends: (u32, u32), asked: SessionRequest) -> io::Result<()>
     // On success its time and its end are appended; both are null if it was not recorded.
     ensures { OnOk result (Appends (W.contents writer.old) (W.contents writer.new)
         (maybe_request_json ends.0 ends.1 asked)) }
 {
     match asked {
-        None => write_text(writer, ",\"asked\":null,\"asked_by\":null"),
-        Some(asking) => write_asking(writer, asker(ends, &asking), asking.time),
+        SessionRequest::NotRecorded => write_text(writer, ",\"asked\":null,\"asked_by\":null"),
+        SessionRequest::Recorded { by_low, time } => {
+            write_asking(writer, asker(ends, by_low), time)
+        }
     }
 }
 
@@ -219,26 +218,34 @@ fn write_side<W: Write>(writer: &mut W, side: &Side) -> io::Result<()>
 }
 
 /// Writes the DiscReq of an end, or null.
-fn write_left<W: Write>(writer: &mut W, left: Option<Disconnection>) -> io::Result<()>
+fn write_left<W: Write>(writer: &mut W, left: Disconnection) -> io::Result<()>
     // On success the object of the DiscReq is appended if the end `left`, otherwise null.
     ensures { OnOk result (Appends (W.contents writer.old) (W.contents writer.new) (maybe_disconnect_json left)) }
 {
     match left {
-        None => write_text(writer, "null"),
-        Some(parting) => write_parting(writer, parting),
+        Disconnection::NotSent => write_text(writer, "null"),
+        Disconnection::Sent {
+            follows,
+            leaving,
+            time,
+        } => write_parting(writer, follows, leaving, time),
     }
 }
 
 /// Writes the object of a DiscReq.
 #[tactic(auto, unfolding(crate::specs::TableJson::disconnect_json))]
-fn write_parting<W: Write>(writer: &mut W, parting: Disconnection) -> io::Result<()>
+fn write_parting<W: Write>(
+    writer: &mut W,
+    follows: bool,
+    leaving: Leaving,
+    time: u64,
+) -> io::Result<()>
     // On success its time, reason and detail are appended, and whether the other end had left before.
-    ensures { OnOk result (Appends (W.contents writer.old) (W.contents writer.new) (disconnect_json parting)) }
+    ensures { OnOk result (Appends (W.contents writer.old) (W.contents writer.new) (disconnect_json follows leaving time)) }
 {
-    let time = parting.time;
-    let reason = parting.leaving.reason;
-    let detail = parting.leaving.detail;
-    let follows = name_truth(parting.follows);
+    let reason = leaving.reason;
+    let detail = leaving.detail;
+    let follows = name_truth(follows);
     write!(
         writer,
         "{{\"time\":{time},\"reason\":{reason},\"detail\":{detail},\"follows\":{follows}}}"
