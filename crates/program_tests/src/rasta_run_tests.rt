@@ -1,9 +1,8 @@
 use crate::assertions::{assert_equal, assert_equal_at, assert_true, assert_true_at};
 use crate::poor::Poor;
-use capture::Span;
-use capture_text::TimeForm;
+use crate::rasta_words_tests::plain_follow;
 use rasta_run::{run, run_follow, run_words};
-use rasta_words::{Fault, FollowRequest, FollowTimes, Status, report};
+use rasta_words::{Fault, FollowRequest, Status, report};
 use safe_pdu::CodeLength;
 use std::env::{Env, FillError};
 use std::io;
@@ -12,13 +11,30 @@ use std::test::Fail;
 
 const HEARTBEAT: &str = "24000000000000001c004c18020000000100000065000000f40100000a00000005000000";
 
-/// A writer that fails.
+/// A reader and a writer that fails in this way.
 #[derive(Drop)]
-struct Closed;
+struct Broken {
+    kind: ErrorKind,
+}
 
-impl Write for Closed {
+impl Broken {
+    /// Returns one that fails in no way of its own.
+    fn new() -> Self {
+        Broken {
+            kind: ErrorKind::Other,
+        }
+    }
+}
+
+impl Read for Broken {
+    fn read(&mut self, _octets: &mut [u8]) -> io::Result<usize> {
+        Err(io::Error::from(self.kind))
+    }
+}
+
+impl Write for Broken {
     fn write(&mut self, _octets: &[u8]) -> io::Result<usize> {
-        Err(io::Error::from(ErrorKind::Other))
+        Err(io::Error::from(self.kind))
     }
 
     fn flush(&mut self) -> io::Result<()> {
@@ -37,7 +53,7 @@ fn tells_a_failed_output(rt: HostRuntime) -> Result<(), Fail> {
     ];
     for words in runs {
         let mut err = Vec::new(rt.alloc());
-        let ended = run(&rt, words, &mut Closed, &mut err);
+        let ended = run(&rt, words, &mut Broken::new(), &mut err);
         assert_equal_at(&rt, words, ended, Status::Failed);
         assert_equal_at(&rt, words, err.as_slice(), b"fault: output\n".as_slice());
         assert_equal(&rt, ended.code(), 3);
@@ -46,53 +62,24 @@ fn tells_a_failed_output(rt: HostRuntime) -> Result<(), Fail> {
     let no_hex = ["rasta", "md4", "6"];
     assert_equal(
         &rt,
-        run(&rt, &no_hex, &mut out, &mut Closed),
+        run(&rt, &no_hex, &mut out, &mut Broken::new()),
         Status::Refused,
     );
     let no_words = ["rasta"];
     assert_equal(
         &rt,
-        run(&rt, &no_words, &mut out, &mut Closed),
+        run(&rt, &no_words, &mut out, &mut Broken::new()),
         Status::WrongWords,
     );
     assert_true(&rt, out.is_empty());
     Ok(())
 }
 
-/// A reader that fails in this way.
-#[derive(Drop)]
-struct Broken {
-    kind: ErrorKind,
-}
-
-impl Read for Broken {
-    fn read(&mut self, _octets: &mut [u8]) -> io::Result<usize> {
-        Err(io::Error::from(self.kind))
-    }
-}
-
-/// What `follow` is asked for a capture of PDUs without a code on standard input.
+/// Returns what `follow` is asked for a capture of PDUs without a code on standard input.
 fn plain_following() -> FollowRequest<'static> {
     FollowRequest {
         code: CodeLength::Zero,
-        iv: None,
-        messages: false,
-        only: None,
-        t_max: 1800,
-        file: "-",
-        ports: None,
-        json: false,
-        events: false,
-        choose: false,
-        times: FollowTimes {
-            form: TimeForm::Since,
-            span: Span {
-                from: None,
-                to: None,
-            },
-            every: None,
-        },
-        beside: None,
+        ..plain_follow("-")
     }
 }
 
@@ -162,24 +149,16 @@ fn tells_want_of_memory_in_reading(rt: HostRuntime) -> Result<(), Fail> {
 fn tells_an_output_that_fails_behind_a_line(rt: HostRuntime) -> Result<(), Fail> {
     let mut err = Vec::new(rt.alloc());
     let line: &[u8] = b"1.000000\t10.0.0.1\t1\t10.0.0.2\t2\t\n";
-    let ended = run_follow(rt.alloc(), line, &plain_following(), &mut Closed, &mut err);
+    let ended = run_follow(
+        rt.alloc(),
+        line,
+        &plain_following(),
+        &mut Broken::new(),
+        &mut err,
+    );
     assert_equal(&rt, ended, Status::Failed);
     assert_equal(&rt, err.as_slice(), b"fault: output\n".as_slice());
     Ok(())
-}
-
-/// A writer whose reader has closed it.
-#[derive(Drop)]
-struct Unread;
-
-impl Write for Unread {
-    fn write(&mut self, _octets: &[u8]) -> io::Result<usize> {
-        Err(io::Error::from(ErrorKind::BrokenPipe))
-    }
-
-    fn flush(&mut self) -> io::Result<()> {
-        Ok(())
-    }
 }
 
 // An output that its reader has closed is no fault: that reader has what it wanted.
@@ -187,7 +166,10 @@ impl Write for Unread {
 fn ends_done_if_nobody_reads(rt: HostRuntime) -> Result<(), Fail> {
     let mut err = Vec::new(rt.alloc());
     let line: &[u8] = b"1.000000\t10.0.0.1\t1\t10.0.0.2\t2\t\n";
-    let ended = run_follow(rt.alloc(), line, &plain_following(), &mut Unread, &mut err);
+    let mut unread = Broken {
+        kind: ErrorKind::BrokenPipe,
+    };
+    let ended = run_follow(rt.alloc(), line, &plain_following(), &mut unread, &mut err);
     assert_equal(&rt, ended, Status::Done);
     assert_true(&rt, err.is_empty());
     Ok(())
@@ -202,7 +184,7 @@ fn tells_an_output_that_fails_at_the_sums(rt: HostRuntime) -> Result<(), Fail> {
         rt.alloc(),
         nothing,
         &plain_following(),
-        &mut Closed,
+        &mut Broken::new(),
         &mut err,
     );
     assert_equal(&rt, ended, Status::Failed);
@@ -223,7 +205,7 @@ fn tells_an_output_that_fails_in_mid_capture(rt: HostRuntime) -> Result<(), Fail
         rt.alloc(),
         lines.as_slice(),
         &following,
-        &mut Closed,
+        &mut Broken::new(),
         &mut err,
     );
     assert_equal(&rt, ended, Status::Failed);

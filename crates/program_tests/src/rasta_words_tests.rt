@@ -7,11 +7,45 @@ use rasta_words::{
 };
 use safe_pdu::CodeLength;
 use settings_file::Subcommand as Ends;
+use std::alloc::Global;
 use std::test::Fail;
 
 const HEARTBEAT: &str = "24000000000000001c004c18020000000100000065000000f40100000a00000005000000";
 
 const OWN_VALUE: &str = "01000000020000000300000004000000";
+
+/// Returns what the words ask for.
+fn request_of<'a>(alloc: Global, words: &'a [&'a str]) -> Result<Request<'a>, Fail> {
+    match command(alloc, words) {
+        Ok(found) => Ok(found),
+        Err(_) => Err(Fail::from("refused")),
+    }
+}
+
+/// Returns what `follow` is asked without an option.
+pub(crate) fn plain_follow(file: &str) -> FollowRequest<'_> {
+    FollowRequest {
+        code: CodeLength::Eight,
+        iv: None,
+        messages: false,
+        only: None,
+        t_max: 1800,
+        file,
+        ports: None,
+        json: false,
+        events: false,
+        choose: false,
+        times: FollowTimes {
+            form: TimeForm::Since,
+            span: Span {
+                from: None,
+                to: None,
+            },
+            every: None,
+        },
+        beside: None,
+    }
+}
 
 #[test]
 fn accepts_the_words_of_show(rt: HostRuntime) -> Result<(), Fail> {
@@ -22,9 +56,7 @@ fn accepts_the_words_of_show(rt: HostRuntime) -> Result<(), Fail> {
     ];
     for (word, code) in lengths {
         let words = ["rasta", "show", "--code", word, HEARTBEAT];
-        let Ok(found) = command(rt.alloc(), &words) else {
-            return Err(Fail::from("refused"));
-        };
+        let found = request_of(rt.alloc(), &words)?;
         assert_equal(
             &rt,
             found,
@@ -37,9 +69,7 @@ fn accepts_the_words_of_show(rt: HostRuntime) -> Result<(), Fail> {
         let words = [
             "rasta", "show", "--code", word, "--iv", OWN_VALUE, HEARTBEAT,
         ];
-        let Ok(found) = command(rt.alloc(), &words) else {
-            return Err(Fail::from("refused"));
-        };
+        let found = request_of(rt.alloc(), &words)?;
         assert_equal(
             &rt,
             found,
@@ -57,9 +87,7 @@ fn accepts_the_words_of_show(rt: HostRuntime) -> Result<(), Fail> {
 fn accepts_the_words_of_md4(rt: HostRuntime) -> Result<(), Fail> {
     for hex in ["empty", "616263"] {
         let words = ["rasta", "md4", hex];
-        let Ok(found) = command(rt.alloc(), &words) else {
-            return Err(Fail::from("refused"));
-        };
+        let found = request_of(rt.alloc(), &words)?;
         assert_equal(&rt, found, Request::Digest { hex });
     }
     Ok(())
@@ -68,31 +96,9 @@ fn accepts_the_words_of_md4(rt: HostRuntime) -> Result<(), Fail> {
 // The defaults of `follow`, each of its options, and values that they do not accept.
 #[test]
 fn accepts_the_words_of_follow(rt: HostRuntime) -> Result<(), Fail> {
-    let plain = FollowRequest {
-        code: CodeLength::Eight,
-        iv: None,
-        messages: false,
-        only: None,
-        t_max: 1800,
-        file: "night.tsv",
-        ports: None,
-        json: false,
-        events: false,
-        choose: false,
-        times: FollowTimes {
-            form: TimeForm::Since,
-            span: Span {
-                from: None,
-                to: None,
-            },
-            every: None,
-        },
-        beside: None,
-    };
+    let plain = plain_follow("night.tsv");
     let words = ["rasta", "follow", "night.tsv"];
-    let Ok(found) = command(rt.alloc(), &words) else {
-        return Err(Fail::from("refused"));
-    };
+    let found = request_of(rt.alloc(), &words)?;
     assert_equal(&rt, found, Request::Follow(plain));
     let words = [
         "rasta",
@@ -121,9 +127,7 @@ fn accepts_the_words_of_follow(rt: HostRuntime) -> Result<(), Fail> {
         "60",
         "-",
     ];
-    let Ok(found) = command(rt.alloc(), &words) else {
-        return Err(Fail::from("refused"));
-    };
+    let found = request_of(rt.alloc(), &words)?;
     assert_equal(
         &rt,
         found,
@@ -180,9 +184,7 @@ fn accepts_the_words_of_the_ends(rt: HostRuntime) -> Result<(), Fail> {
     for (name, word) in [("il", Ends::Il), ("fe", Ends::Fe), ("pair", Ends::Pair)] {
         for (text, turns) in [("1", 1), ("200", 200), ("1000000", 1_000_000)] {
             let words = ["rasta", name, "ends.toml", "--turns", text];
-            let Ok(found) = command(rt.alloc(), &words) else {
-                return Err(Fail::from("refused"));
-            };
+            let found = request_of(rt.alloc(), &words)?;
             let file = "ends.toml";
             let running = RunRequest {
                 word,
@@ -203,9 +205,7 @@ fn accepts_the_words_of_the_ends(rt: HostRuntime) -> Result<(), Fail> {
         }
     }
     let until_end = ["rasta", "fe", "--until-end", "ends.toml"];
-    let Ok(found) = command(rt.alloc(), &until_end) else {
-        return Err(Fail::from("refused"));
-    };
+    let found = request_of(rt.alloc(), &until_end)?;
     let running = RunRequest {
         word: Ends::Fe,
         file: "ends.toml",
@@ -220,15 +220,11 @@ fn accepts_the_words_of_the_ends(rt: HostRuntime) -> Result<(), Fail> {
     assert_equal(&rt, found, Request::Net(running));
     for (text, time) in [("utc", LogTime::Utc), ("run", LogTime::Run)] {
         let words = ["rasta", "fe", "--until-end", "--time", text, "ends.toml"];
-        let Ok(found) = command(rt.alloc(), &words) else {
-            return Err(Fail::from("refused"));
-        };
+        let found = request_of(rt.alloc(), &words)?;
         assert_equal(&rt, found, Request::Net(RunRequest { time, ..running }));
     }
     let stamped = ["rasta", "fe", "--until-end", "--stamp", "ends.toml"];
-    let Ok(found) = command(rt.alloc(), &stamped) else {
-        return Err(Fail::from("refused"));
-    };
+    let found = request_of(rt.alloc(), &stamped)?;
     let stamp = true;
     assert_equal(&rt, found, Request::Net(RunRequest { stamp, ..running }));
     let no_turns = Rejection::Value {
@@ -290,9 +286,7 @@ fn accepts_kept_ends_and_counts(rt: HostRuntime) -> Result<(), Fail> {
                 "--until-end",
                 "ends.toml",
             ];
-            let Ok(found) = command(rt.alloc(), &words) else {
-                return Err(Fail::from("refused"));
-            };
+            let found = request_of(rt.alloc(), &words)?;
             let counts = Some(CountsRequest {
                 form,
                 every: Some(every),
@@ -300,9 +294,7 @@ fn accepts_kept_ends_and_counts(rt: HostRuntime) -> Result<(), Fail> {
             assert_equal(&rt, found, Request::Net(kept_until_end(true, counts)));
         }
         let words = ["rasta", "il", "--stats", text, "--until-end", "ends.toml"];
-        let Ok(found) = command(rt.alloc(), &words) else {
-            return Err(Fail::from("refused"));
-        };
+        let found = request_of(rt.alloc(), &words)?;
         let counts = Some(CountsRequest { form, every: None });
         assert_equal(&rt, found, Request::Net(kept_until_end(false, counts)));
     }

@@ -1,5 +1,5 @@
 use crate::assertions::{assert_equal, assert_true, assert_true_at};
-use end_settings::Side;
+use end_settings::{EndConfig, Side};
 use linked_list_allocator::LocalHeap;
 use sim::{Command, Key, Label, ScriptLineFault, ScriptSettings, Setting, read_line};
 use std::alloc::AllocError;
@@ -102,6 +102,22 @@ fn reads_lines(rt: HostRuntime) -> Result<(), Fail> {
     Ok(())
 }
 
+/// Returns the numbers among the settings of an end.
+fn numbers_of(end: EndConfig) -> [u64; 10] {
+    [
+        end.channels,
+        end.n_sendmax,
+        end.n_maxpacket,
+        end.q,
+        end.t_max,
+        end.t_h,
+        end.t_seq,
+        end.mwa,
+        end.pdu_limit,
+        end.code,
+    ]
+}
+
 // A script's beginning, and what each key changes.
 #[test]
 fn sets(rt: HostRuntime) -> Result<(), Fail> {
@@ -109,21 +125,9 @@ fn sets(rt: HostRuntime) -> Result<(), Fail> {
     for side in [Side::Interlocking, Side::FieldElement] {
         let end = settings.config(side);
         assert_true(&rt, end.is_fit(side));
-        let numbers = [
-            end.channels,
-            end.n_sendmax,
-            end.n_maxpacket,
-            end.q,
-            end.t_max,
-            end.t_h,
-            end.t_seq,
-            end.mwa,
-            end.pdu_limit,
-            end.code,
-        ];
         assert_equal(
             &rt,
-            numbers,
+            numbers_of(end),
             [2, 20, 3, 4, 1800, 300, 50, 10, 4_294_901_760, 8],
         );
         assert_equal(&rt, end.initial_value, md4::INITIAL_VALUE);
@@ -159,21 +163,9 @@ fn sets(rt: HostRuntime) -> Result<(), Fail> {
     }
     for side in [Side::Interlocking, Side::FieldElement] {
         let end = settings.config(side);
-        let numbers = [
-            end.channels,
-            end.n_sendmax,
-            end.n_maxpacket,
-            end.q,
-            end.t_max,
-            end.t_h,
-            end.t_seq,
-            end.mwa,
-            end.pdu_limit,
-            end.code,
-        ];
         assert_equal(
             &rt,
-            numbers,
+            numbers_of(end),
             [201, 202, 203, 204, 205, 206, 207, 208, 209, 210],
         );
     }
