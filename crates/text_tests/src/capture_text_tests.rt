@@ -42,6 +42,10 @@ fn plain(kind: Kind, seq: u32, numbers: (u32, u32), stamps: (u32, u32), body: &'
 }
 
 /// A Data with one unit.
+fn opening(kind: Kind, numbers: (u32, u32), stamps: (u32, u32)) -> Pdu {
+    plain(kind, 0, numbers, stamps, "3033303320000000000000000000")
+}
+
 fn data(seq: u32, numbers: (u32, u32), stamps: (u32, u32)) -> Pdu {
     plain(Kind::Data, seq, numbers, stamps, UNIT)
 }
@@ -155,20 +159,8 @@ fn asked(length: CodeLength, only: Option<Remarkable>) -> FollowOptions {
 // The events of an opening, a loss on one channel, a long wait, a copy, a leaving, and a datagram that is cut off.
 #[test]
 fn tells_events(rt: HostRuntime) -> Result<(), Fail> {
-    let opens = plain(
-        Kind::ConnReq,
-        0,
-        (100, 0),
-        (1000, 0),
-        "3033303320000000000000000000",
-    );
-    let granted = plain(
-        Kind::ConnResp,
-        0,
-        (500, 100),
-        (7000, 1000),
-        "3033303320000000000000000000",
-    );
+    let opens = opening(Kind::ConnReq, (100, 0), (1000, 0));
+    let granted = opening(Kind::ConnResp, (500, 100), (7000, 1000));
     let late = heartbeat(2, (102, 500), (2200, 7000));
     let leaves = plain(Kind::DiscReq, 3, (103, 500), (2800, 7000), "00000300");
     let mut text = Vec::new(rt.alloc());
@@ -220,20 +212,8 @@ fn tells_events(rt: HostRuntime) -> Result<(), Fail> {
 // Two channels, of which the second loses a heartbeat.
 #[test]
 fn loses_on_one_channel(rt: HostRuntime) -> Result<(), Fail> {
-    let opens = plain(
-        Kind::ConnReq,
-        0,
-        (100, 0),
-        (1000, 0),
-        "3033303320000000000000000000",
-    );
-    let granted = plain(
-        Kind::ConnResp,
-        0,
-        (500, 100),
-        (7000, 1000),
-        "3033303320000000000000000000",
-    );
+    let opens = opening(Kind::ConnReq, (100, 0), (1000, 0));
+    let granted = opening(Kind::ConnResp, (500, 100), (7000, 1000));
     let first = heartbeat(1, (101, 500), (1020, 7000));
     let second = heartbeat(2, (102, 500), (1030, 7000));
     let lines = [
@@ -319,13 +299,7 @@ fn leaves_and_opens_again(rt: HostRuntime) -> Result<(), Fail> {
     let back = heartbeat(8, (701, 300), (9100, 5000));
     let slow = heartbeat(6, (301, 701), (6801, 9100));
     let leaves = plain(Kind::DiscReq, 9, (702, 300), (10_950, 5000), "00000300");
-    let opens = plain(
-        Kind::ConnReq,
-        0,
-        (42, 0),
-        (8000, 0),
-        "3033303320000000000000000000",
-    );
+    let opens = opening(Kind::ConnReq, (42, 0), (8000, 0));
     let lines = [
         (0, 0, false, beat),
         (100_000, 0, true, back),
