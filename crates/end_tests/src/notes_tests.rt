@@ -140,6 +140,13 @@ impl Line {
         }
     }
 
+    /// Both ends come up, and the session is established.
+    fn establish(&mut self, rt: &impl Abort) {
+        self.flow();
+        assert_true(rt, self.fe.done().is_ok());
+        self.flow();
+    }
+
     /// Puts five commands: two go at once, and three in one unit when these are confirmed.
     fn puts_five(&mut self) -> Result<(), PutFault> {
         self.il.put(0x100, &[7])?;
@@ -172,12 +179,19 @@ fn are(rt: &impl Abort, notes: &[Heard], from: usize, wanted: &[Heard]) {
 fn tells_each_take_once(rt: HostRuntime) -> Result<(), Fail> {
     let (il, fe) = (narrow(Side::Interlocking)?, narrow(Side::FieldElement)?);
     let mut line = Line::open(&rt, il, fe)?;
-    line.flow();
-    assert_true(&rt, line.fe.done().is_ok());
-    line.flow();
+    line.establish(&rt);
+    takes_five(&rt, &mut line)
+}
+
+fn takes_five(rt: &impl Abort, line: &mut Line) -> Result<(), Fail> {
     let from = line.fe.notes().len();
     line.puts_five()?;
     line.flow();
+    has_five(rt, &line.fe, from);
+    Ok(())
+}
+
+fn has_five(rt: &impl Abort, fe: &Station, from: usize) {
     let wanted = [
         Heard::Part,
         Heard::Take(0x100, 7, 1),
@@ -191,10 +205,9 @@ fn tells_each_take_once(rt: HostRuntime) -> Result<(), Fail> {
         Heard::Take(0x104, 10, 3),
         Heard::Datagram,
     ];
-    are(&rt, line.fe.notes(), from, &wanted);
+    are(rt, fe.notes(), from, &wanted);
     let taken = [(0x100, 7), (0x101, 8), (0x102, 0), (0x103, 9), (0x104, 10)];
-    assert_true(&rt, line.fe.taken.list.as_slice() == taken.as_slice());
-    Ok(())
+    assert_true(rt, fe.taken.list.as_slice() == taken.as_slice());
 }
 
 // A telegram that ends the session is told by the new phase and the new state, and not as taken.

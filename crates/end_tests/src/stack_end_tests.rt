@@ -453,11 +453,20 @@ fn goes_on_in(
 /// An end takes both of two commands, of which the first is lost and sent again.
 fn goes_on(rt: &(impl AllocGlobal + Abort), fe: &mut Housed) -> Result<bool, Fail> {
     let mut il = Station::open(rt, config(Side::Interlocking)?, Side::Interlocking, 100)?;
-    fe.loses_a_unit(&mut il)?;
-    assert_true(rt, fe.taken.list.is_empty());
-    fe.asks_again(&mut il);
+    recovers(rt, fe, &mut il)?;
+    has_both(rt, fe);
+    Ok(true)
+}
+
+fn recovers(rt: &impl Abort, fe: &mut Housed, il: &mut Station) -> Result<(), Fail> {
+    fe.loses_a_unit(il)?;
+    assert_equal(rt, fe.taken.list.len(), 0);
+    fe.asks_again(il);
+    Ok(())
+}
+
+fn has_both(rt: &impl Abort, fe: &Housed) {
     assert_equal(rt, fe.end.state(), ConnectionState::Up);
     let both = [(0x100, 1), (0x100, 2)];
     assert_true(rt, fe.taken.list.as_slice() == both.as_slice());
-    Ok(true)
 }

@@ -100,10 +100,14 @@ fn run(pair: &mut Pair, config: &EndConfig) -> Option<usize> {
 fn runs_events_in_turn(rt: HostRuntime) -> Result<(), Fail> {
     let config = config(Side::FieldElement)?;
     let mut pair = Pair::new(rt.alloc());
-    assert_equal(&rt, run(&mut pair, &config), Some(3));
-    assert_equal(&rt, pair.history().len(), 3);
-    assert_true(&rt, !pair.breaks_premise(Side::FieldElement, &[0; 8]));
+    goes_on(&rt, &mut pair, &config);
     Ok(())
+}
+
+fn goes_on(rt: &impl Abort, pair: &mut Pair, config: &EndConfig) {
+    assert_equal(rt, run(pair, config), Some(3));
+    assert_equal(rt, pair.history().len(), 3);
+    assert_equal(rt, pair.breaks_premise(Side::FieldElement, &[0; 8]), false);
 }
 
 /// The datagram of the first PDU that the last event made.
@@ -265,8 +269,12 @@ fn comes_twice(rt: &(impl AllocGlobal + Abort), pair: &mut Pair, side: Side) -> 
 fn runs_repeats_on_the_second_channel(rt: HostRuntime) -> Result<(), Fail> {
     let (il, fe) = (config(Side::Interlocking)?, config(Side::FieldElement)?);
     let mut pair = Pair::new(rt.alloc());
-    assert_true(&rt, opens_both(&mut pair, &il, &fe) == Some(2));
-    assert_true(&rt, comes_twice(&rt, &mut pair, Side::FieldElement)?);
-    assert_true(&rt, pair.history().len() == 4);
+    assert_equal(&rt, opens_both(&mut pair, &il, &fe), Some(2));
+    repeats(&rt, &mut pair)
+}
+
+fn repeats(rt: &(impl AllocGlobal + Abort), pair: &mut Pair) -> Result<(), Fail> {
+    assert_equal(rt, comes_twice(rt, pair, Side::FieldElement)?, true);
+    assert_equal(rt, pair.history().len(), 4);
     Ok(())
 }
