@@ -268,7 +268,7 @@ fn write_left<W: Write>(
 /// Writes which end left, and when.
 #[tactic(auto, unfolding(crate::specs::TableText::departure_text))]
 fn write_departure<W: Write>(writer: &mut W, clock: Clock, end: u32, time: u64) -> io::Result<()>
-    // On success the identifier of `end` and the time since `clock` are appended.
+    // On success the identifier of the `end` that left and the time since `clock` are appended.
     ensures { OnOk result (Appends (W.contents writer.old) (W.contents writer.new)
         (departure_text clock end time)) }
 {
