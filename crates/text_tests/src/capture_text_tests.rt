@@ -41,11 +41,12 @@ fn plain(kind: Kind, seq: u32, numbers: (u32, u32), stamps: (u32, u32), body: &'
     }
 }
 
-/// A Data with one unit.
+/// A ConnReq or a ConnResp, the first datagram of its end.
 fn opening(kind: Kind, numbers: (u32, u32), stamps: (u32, u32)) -> Pdu {
     plain(kind, 0, numbers, stamps, "3033303320000000000000000000")
 }
 
+/// A Data with one unit.
 fn data(seq: u32, numbers: (u32, u32), stamps: (u32, u32)) -> Pdu {
     plain(Kind::Data, seq, numbers, stamps, UNIT)
 }
