@@ -11,7 +11,7 @@ from functions import TOP, code_of, items_of, listed, read
 
 FORM = 1  # the format of a file of verdicts
 # Every verdict depends on these scripts, and on the crates, the toolchain, and its test.
-SCRIPTS = ('tests/sources/functions.py', 'tests/sources/stamps.py', 'tests/sources/verdicts.py')
+SCRIPTS = ('tests/sources/attempts.py', 'tests/sources/functions.py', 'tests/sources/stamps.py', 'tests/sources/verdicts.py')
 # Files that only the check of their own function reads. Any other file of proofs/ may have a lemma that a crate above cites.
 OWN_PROOFS = ('Answers.antt', 'Invariants.antt', 'Proof.antt')
 STATES = 20  # kept of each crate
