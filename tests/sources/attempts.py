@@ -51,12 +51,35 @@ def imports(text, wanted):
     return ''.join(f'use {module}.{{{", ".join(name for of, name in wanted if of == module and name not in brought)}}}\n' for module in modules)
 
 
+def answers_to(crate, goals, text):
+    """Returns the text of an `Answers.antt` without its answers to other goals, and without the lemmas of the crate that only those cite."""
+    kept, dropped = [], None
+    for line in text.split('\n'):
+        answer = ANSWER.match(line)
+        if answer:
+            dropped = None if answer[1] in goals else answer[1]
+        elif dropped and re.match(r'[\w-]', line) and not line.startswith((f'{dropped} ', 'unfolding ')):
+            dropped = None
+        if not dropped:
+            kept.append(line)
+    left = '\n'.join(kept)
+    used = re.sub(r'^use .*', '', left, flags=re.M)
+
+    def cited(line):
+        names = [name.strip() for name in line[1].split(',')]
+        return line[0] if any(re.search(rf'(?<![\w-]){re.escape(name)}(?![\w-])', used) for name in names) else ''
+
+    return re.sub(rf'^use Rattle\.{crate}\.proofs\.[^{{\n]*\{{([^◌}}]*)\}}\n', cited, left, flags=re.M)
+
+
 def with_attempts(crate, steps, goals, text, attributes, parameters):
-    """Returns the text of a function's `Answers.antt` with attempts at each of these goals that it does not answer."""
+    """Returns the text of a function's `Answers.antt` with its answers to these goals, and with attempts at those that it does not answer."""
     using, unfolding = names_in(crate, attributes, 'using'), names_in(crate, attributes, 'unfolding')
     left = [goal for goal in goals if goal not in ANSWER.findall(text)]
-    if not left:
-        return text
+    if len(left) == len(goals):
+        text = ''
+    elif not left:
+        return answers_to(crate, goals, text)
     known = '' if ' as goal\n' in text else f'use Rattle.{crate}.proofs.{".".join(steps)}.Goals as goal\n'
     opened = f'unfolding {" ".join(name for _, name in unfolding)}\n' if unfolding else ''
     made = ''.join(f'\n{"pub " * (name == goal)}{name} : goal.{goal}\n{opened}{name} {parameters} = {tactic}\n'
