@@ -1,4 +1,4 @@
-//! What is shown of the digest, the redundancy layer, the PDUs and the safety layer by examples.
+//! What is shown of the digest, the redundancy layer, the PDUs, the safety layer and the session by examples.
 //!
 //! A crate of its own, since a crate with tests is proved once more with them.
 #![tactic(auto)]
@@ -7,6 +7,10 @@
 mod assertions;
 #[cfg(test)]
 mod md4_tests;
+#[cfg(test)]
+mod packing_tests;
+#[cfg(test)]
+mod pdi_session_tests;
 #[cfg(test)]
 mod red_layer_deferral_tests;
 #[cfg(test)]
@@ -19,3 +23,5 @@ mod safe_machine_server_tests;
 mod safe_machine_tests;
 #[cfg(test)]
 mod safe_pdu_tests;
+#[cfg(test)]
+mod sci_telegram_tests;

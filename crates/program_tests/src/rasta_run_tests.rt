@@ -11,14 +11,14 @@ use std::test::Fail;
 
 const HEARTBEAT: &str = "24000000000000001c004c18020000000100000065000000f40100000a00000005000000";
 
-/// A reader and a writer that fails in this way.
+/// A reader and a writer whose every call fails with an error of this kind.
 #[derive(Drop)]
 struct Broken {
     kind: ErrorKind,
 }
 
 impl Broken {
-    /// Returns one that fails in no way of its own.
+    /// Returns one whose errors are of the kind `Other`.
     fn new() -> Self {
         Broken {
             kind: ErrorKind::Other,
