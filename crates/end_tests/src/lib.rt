@@ -1,4 +1,4 @@
-//! What is shown of channels, an end and a pair by examples.
+//! What is shown of channels, an end and a pair, and of settings files, texts of datagrams, captures and scripts by examples.
 //!
 //! A crate of its own, since a crate with tests is proved once more with them.
 #![tactic(auto)]
@@ -6,9 +6,23 @@
 #[cfg(test)]
 mod assertions;
 #[cfg(test)]
+mod capture_tests;
+#[cfg(test)]
+mod capture_text_tests;
+#[cfg(test)]
 mod channels_tests;
 #[cfg(test)]
 mod notes_tests;
+#[cfg(test)]
+mod pdu_text_tests;
+#[cfg(test)]
+mod settings_file_tests;
+#[cfg(test)]
+mod settings_text_tests;
+#[cfg(test)]
+mod sim_lines_tests;
+#[cfg(test)]
+mod sim_script_tests;
 #[cfg(test)]
 mod stack_end_fault_tests;
 #[cfg(test)]

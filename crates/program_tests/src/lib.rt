@@ -1,5 +1,4 @@
-//! What is shown by examples of the program's words (their forms, outputs that fail, and memory that is not found), of settings files, and of
-//! the texts of datagrams and captures.
+//! What is shown of the program's words by examples: their forms, outputs that fail, and memory that is not found.
 //!
 //! A crate of its own, since a crate with tests is proved once more with them.
 #![tactic(auto)]
@@ -7,13 +6,7 @@
 #[cfg(test)]
 mod assertions;
 #[cfg(test)]
-mod capture_tests;
-#[cfg(test)]
-mod capture_text_tests;
-#[cfg(test)]
 mod counts_tests;
-#[cfg(test)]
-mod pdu_text_tests;
 #[cfg(test)]
 mod poor;
 #[cfg(test)]
@@ -22,11 +15,3 @@ mod rasta_net_tests;
 mod rasta_run_tests;
 #[cfg(test)]
 mod rasta_words_tests;
-#[cfg(test)]
-mod settings_file_tests;
-#[cfg(test)]
-mod settings_text_tests;
-#[cfg(test)]
-mod sim_lines_tests;
-#[cfg(test)]
-mod sim_script_tests;
