@@ -24,13 +24,13 @@ pub struct PlainReceptions {
     pub far: u64,
     /// Those that came early while every place was taken.
     pub full: u64,
-    /// Those that are no redundancy PDU.
+    /// Those without a redundancy PDU.
     pub damaged: u64,
     /// The own time of the last redundancy PDU that was not too far ahead, in milliseconds, or 2^64 - 1 if none came.
     pub last: u64,
 }
 
-/// The datagrams of one channel that are no redundancy PDU, by fault.
+/// The datagrams of one channel without a redundancy PDU, by fault.
 #[repr(C)]
 #[derive(Drop)]
 pub struct PlainRedFaults {
@@ -42,7 +42,7 @@ pub struct PlainRedFaults {
     pub reserve: u64,
 }
 
-/// The parts that are no safety PDU with a valid safety code, by fault.
+/// The parts without a safety PDU that has a valid safety code, by fault.
 #[repr(C)]
 #[derive(Drop)]
 pub struct PlainSafeFaults {

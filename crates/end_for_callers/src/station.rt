@@ -471,7 +471,7 @@ impl Station {
         self.end.is_stale()
     }
 
-    /// Returns how many of the telegrams put since the opening are certain: the peer has taken the first so many. The
+    /// Returns how many of the telegrams put since the opening the peer has certainly taken: the first ones of them. The
     /// number stays readable after the end has closed.
     pub fn confirmed(&self) -> u64
         // `confirmed` is the number of telegrams put into the station's end, less those that wait and those in

@@ -66,24 +66,31 @@ fn packs_the_first_messages(rt: HostRuntime) -> Result<(), Fail> {
     for k in 0..5 {
         assert_true(&rt, waiting.add(&[k; 43]).is_ok());
     }
-    let mut unit = Unit::new();
-    let Some(Ok(messages)) = read_back(&mut waiting, 1, &mut unit) else {
-        return Err(Fail::from("one message"));
-    };
-    assert_equal(&rt, messages.len(), 1);
-    assert_true(&rt, messages.get(0) == Some(&[0; 43].as_slice()));
-    let Some(Ok(messages)) = read_back(&mut waiting, 3, &mut unit) else {
-        return Err(Fail::from("three messages"));
-    };
-    assert_equal(&rt, messages.len(), 3);
-    assert_true(&rt, messages.get(0) == Some(&[1; 43].as_slice()));
-    assert_true(&rt, messages.get(2) == Some(&[3; 43].as_slice()));
-    let Some(Ok(messages)) = read_back(&mut waiting, 3, &mut unit) else {
-        return Err(Fail::from("what is left"));
-    };
-    assert_equal(&rt, messages.len(), 1);
-    assert_true(&rt, messages.get(0) == Some(&[4; 43].as_slice()));
+    for (most, first, last) in [(1, 0, 0), (3, 1, 3), (3, 4, 4)] {
+        hands_out(&rt, &mut waiting, most, first, last)?;
+    }
     assert_true(&rt, waiting.is_empty() && pack(&mut waiting, 1).is_none());
+    Ok(())
+}
+
+// A unit has the messages in front, at most this many, from the one of this value to that of the other.
+fn hands_out(
+    rt: &impl Abort,
+    waiting: &mut Waiting,
+    most: usize,
+    first: u8,
+    last: u8,
+) -> Result<(), Fail> {
+    assert_true(rt, most >= 1);
+    assert_true(rt, most <= 3);
+    let mut unit = Unit::new();
+    let Some(Ok(messages)) = read_back(waiting, most, &mut unit) else {
+        return Err(Fail::from("no messages"));
+    };
+    let behind = usize::from(last.wrapping_sub(first));
+    assert_equal(rt, messages.len(), behind.wrapping_add(1));
+    assert_true(rt, messages.get(0) == Some(&[first; 43].as_slice()));
+    assert_true(rt, messages.get(behind) == Some(&[last; 43].as_slice()));
     Ok(())
 }
 

@@ -6,6 +6,7 @@ use pdi_session::{
     FieldConfig, InitFault, InterlockingConfig, Parties, Phase, PutFault, Session, SessionDetail,
     SessionEnd, Taker, are_versions,
 };
+use std::alloc::Global;
 use std::process::Abort;
 use std::test::Fail;
 
@@ -212,41 +213,61 @@ fn field_in(rt: &HostRuntime, phase: Phase) -> Result<Seat, Fail> {
     Ok(fe)
 }
 
-// Telegrams of every form, and for each form some that are just not of it.
-const TELEGRAMS: [(u16, &[u8]); 22] = [
-    (0x24, &[3]),
-    (0x24, &[5]),
-    (0x24, &[]),
-    (0x24, &[3, 0]),
-    (0x25, &[2, 3, 0]),
-    (0x25, &[2, 3, 1, 9]),
-    (
-        0x25,
-        &[
-            2, 3, 16, 1, 2, 3, 4, 5, 6, 7, 8, 9, 10, 11, 12, 13, 14, 15, 16,
-        ],
-    ),
-    (0x25, &[2, 4, 0]),
-    (0x25, &[1, 3, 0]),
-    (0x25, &[3, 3, 0]),
-    (0x25, &[2, 3]),
-    (0x25, &[2, 3, 1]),
-    (0x25, &[2, 3, 0, 9]),
-    (
-        0x25,
-        &[
-            2, 3, 17, 1, 2, 3, 4, 5, 6, 7, 8, 9, 10, 11, 12, 13, 14, 15, 16, 17,
-        ],
-    ),
-    (0x21, &[]),
-    (0x21, &[0]),
-    (0x22, &[]),
-    (0x22, &[0]),
-    (0x23, &[]),
-    (0x23, &[0]),
-    (0x0100, &[0x0a]),
-    (0x2400, &[]),
+const INTERLOCKING_PHASES: [Phase; 6] = [
+    Phase::Idle,
+    Phase::Checking,
+    Phase::Requesting,
+    Phase::Initialising,
+    Phase::Established,
+    Phase::Ended,
 ];
+
+const FIELD_PHASES: [Phase; 7] = [
+    Phase::Idle,
+    Phase::AwaitCheck,
+    Phase::AwaitRequest,
+    Phase::Refused,
+    Phase::Initialising,
+    Phase::Established,
+    Phase::Ended,
+];
+
+// Telegrams of every form, and for each form some that are just not of it: the type and the payload in hex digits.
+const TELEGRAMS: &str = "\
+24:03
+24:05
+24:
+24:0300
+25:020300
+25:02030109
+25:0203100102030405060708090a0b0c0d0e0f10
+25:020400
+25:010300
+25:030300
+25:0203
+25:020301
+25:02030009
+25:0203110102030405060708090a0b0c0d0e0f1011
+21:
+21:00
+22:
+22:00
+23:
+23:00
+0100:0a
+2400:
+";
+
+// The telegrams of this text.
+fn telegrams(alloc: Global) -> Result<Vec<(u16, Vec<u8>)>, Fail> {
+    let mut list = Vec::new(alloc);
+    for line in TELEGRAMS.lines() {
+        let (kind, payload) = line.split_once(':').ok_or("no type")?;
+        let kind = u16::from_str_radix(kind, 16)?;
+        list.push((kind, hex::decode(alloc, payload)?))?;
+    }
+    Ok(list)
+}
 
 // What a row says: phase, places in TELEGRAMS from and to, answer, next phase, how many messages are
 // added and how many telegrams are taken.
@@ -298,6 +319,7 @@ fn makes(
 
 #[test]
 fn makes_the_table_of_the_interlocking(rt: HostRuntime) -> Result<(), Fail> {
+    let telegrams = telegrams(rt.alloc())?;
     let rows: [Row; 6] = [
         (Phase::Checking, 4, 6, None, Phase::Requesting, 1, 0),
         (
@@ -314,19 +336,17 @@ fn makes_the_table_of_the_interlocking(rt: HostRuntime) -> Result<(), Fail> {
         (Phase::Initialising, 18, 18, None, Phase::Established, 0, 0),
         (Phase::Established, 20, 21, None, Phase::Established, 0, 1),
     ];
-    let phases = [
-        Phase::Idle,
-        Phase::Checking,
-        Phase::Requesting,
-        Phase::Initialising,
-        Phase::Established,
-        Phase::Ended,
-    ];
-    for phase in phases {
-        for (place, (kind, payload)) in TELEGRAMS.iter().enumerate() {
+    for phase in INTERLOCKING_PHASES {
+        for (place, (kind, payload)) in telegrams.iter().enumerate() {
             let mut il = interlocking_in(&rt, phase)?;
             let row = row_of(&rows, phase, place);
-            makes(&rt, &mut il, ["FE1", "IL1"], (*kind, payload), row)?;
+            makes(
+                &rt,
+                &mut il,
+                ["FE1", "IL1"],
+                (*kind, payload.as_slice()),
+                row,
+            )?;
         }
     }
     Ok(())
@@ -334,26 +354,24 @@ fn makes_the_table_of_the_interlocking(rt: HostRuntime) -> Result<(), Fail> {
 
 #[test]
 fn makes_the_table_of_the_field_element(rt: HostRuntime) -> Result<(), Fail> {
+    let telegrams = telegrams(rt.alloc())?;
     let rows: [Row; 4] = [
         (Phase::AwaitCheck, 0, 0, None, Phase::AwaitRequest, 1, 0),
         (Phase::AwaitCheck, 1, 1, None, Phase::Refused, 1, 0),
         (Phase::AwaitRequest, 14, 14, None, Phase::Initialising, 1, 0),
         (Phase::Established, 20, 21, None, Phase::Established, 0, 1),
     ];
-    let phases = [
-        Phase::Idle,
-        Phase::AwaitCheck,
-        Phase::AwaitRequest,
-        Phase::Refused,
-        Phase::Initialising,
-        Phase::Established,
-        Phase::Ended,
-    ];
-    for phase in phases {
-        for (place, (kind, payload)) in TELEGRAMS.iter().enumerate() {
+    for phase in FIELD_PHASES {
+        for (place, (kind, payload)) in telegrams.iter().enumerate() {
             let mut fe = field_in(&rt, phase)?;
             let row = row_of(&rows, phase, place);
-            makes(&rt, &mut fe, ["IL1", "FE1"], (*kind, payload), row)?;
+            makes(
+                &rt,
+                &mut fe,
+                ["IL1", "FE1"],
+                (*kind, payload.as_slice()),
+                row,
+            )?;
         }
     }
     Ok(())
@@ -381,42 +399,38 @@ fn stays(rt: &impl Abort, seat: &mut Seat, phase: Phase) -> Result<(), Fail> {
     Ok(())
 }
 
-// Protocol type and both names are tested before the phase and the payload.
+// Both names are tested before the phase and the payload.
 #[test]
-fn tests_the_parties_first(rt: HostRuntime) -> Result<(), Fail> {
-    let phases = [
-        Phase::Idle,
-        Phase::Checking,
-        Phase::Requesting,
-        Phase::Initialising,
-        Phase::Established,
-        Phase::Ended,
-    ];
-    let names = [
-        ["FE2", "IL1"],
-        ["FE1", "IL2"],
-        ["IL1", "FE1"],
-        ["FE", "IL1"],
-        ["FE1", "IL11"],
-    ];
-    for phase in phases {
-        for (kind, payload) in TELEGRAMS {
-            for pair in names {
-                parts(&rt, &mut interlocking_in(&rt, phase)?, pair, kind, payload)?;
+fn tests_the_names_first(rt: HostRuntime) -> Result<(), Fail> {
+    let telegrams = telegrams(rt.alloc())?;
+    for names in "FE2 IL1, FE1 IL2, IL1 FE1, FE IL1, FE1 IL11".split(", ") {
+        let (sender, receiver) = names.split_once(' ').ok_or("two names")?;
+        for phase in INTERLOCKING_PHASES {
+            for (kind, payload) in telegrams.iter() {
+                let mut il = interlocking_in(&rt, phase)?;
+                let pair = [sender, receiver];
+                parts(&rt, &mut il, pair, *kind, payload.as_slice())?;
             }
+        }
+    }
+    Ok(())
+}
+
+// So is the protocol type.
+#[test]
+fn tests_the_protocol_first(rt: HostRuntime) -> Result<(), Fail> {
+    let telegrams = telegrams(rt.alloc())?;
+    for phase in INTERLOCKING_PHASES {
+        for (kind, payload) in telegrams.iter() {
             let telegram = Telegram {
                 protocol: 2,
-                kind,
+                kind: *kind,
                 sender: Name::new("FE1")?,
                 receiver: Name::new("IL1")?,
-                payload,
+                payload: payload.as_slice(),
             };
-            ends(
-                &rt,
-                &mut interlocking_in(&rt, phase)?,
-                &telegram,
-                SessionDetail::NotOfThisPair,
-            );
+            let mut il = interlocking_in(&rt, phase)?;
+            ends(&rt, &mut il, &telegram, SessionDetail::NotOfThisPair);
         }
     }
     Ok(())
@@ -446,16 +460,7 @@ fn ends(rt: &impl Abort, seat: &mut Seat, telegram: &Telegram<'_>, detail: Sessi
 // The same at a field element, of a telegram that has a row there or has none.
 #[test]
 fn tests_the_parties_of_a_command_first(rt: HostRuntime) -> Result<(), Fail> {
-    let phases = [
-        Phase::Idle,
-        Phase::AwaitCheck,
-        Phase::AwaitRequest,
-        Phase::Refused,
-        Phase::Initialising,
-        Phase::Established,
-        Phase::Ended,
-    ];
-    for phase in phases {
+    for phase in FIELD_PHASES {
         for names in [["IL2", "FE1"], ["IL1", "FE2"], ["FE1", "IL1"]] {
             for (kind, payload) in [(0x24, [3].as_slice()), (0x21, &[]), (0x0100, &[])] {
                 parts(&rt, &mut field_in(&rt, phase)?, names, kind, payload)?;
@@ -623,16 +628,7 @@ fn fills(rt: &impl Abort, il: &mut Seat) {
 // In which phases a put and the end of the initialisation are accepted.
 #[test]
 fn accepts_by_phase(rt: HostRuntime) -> Result<(), Fail> {
-    let phases = [
-        Phase::Idle,
-        Phase::AwaitCheck,
-        Phase::AwaitRequest,
-        Phase::Refused,
-        Phase::Initialising,
-        Phase::Established,
-        Phase::Ended,
-    ];
-    for phase in phases {
+    for phase in FIELD_PHASES {
         accepts(&rt, &mut field_in(&rt, phase)?, phase);
     }
     for phase in [

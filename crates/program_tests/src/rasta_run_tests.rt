@@ -1,15 +1,14 @@
 use crate::assertions::{assert_equal, assert_equal_at, assert_true, assert_true_at};
 use crate::poor::Poor;
-use crate::rasta_words_tests::plain_follow;
+use crate::rasta_words_tests::{plain_follow, words_of};
 use rasta_run::{run, run_follow, run_words};
 use rasta_words::{Fault, FollowRequest, Status, report};
 use safe_pdu::CodeLength;
 use std::env::{Env, FillError};
 use std::io;
-use std::io::{ErrorKind, Read, Write};
+use std::io::{Chain, ErrorKind, Read, Write};
+use std::process::Abort;
 use std::test::Fail;
-
-const HEARTBEAT: &str = "24000000000000001c004c18020000000100000065000000f40100000a00000005000000";
 
 /// A reader and a writer whose every call fails with an error of this kind.
 #[derive(Drop)]
@@ -42,36 +41,36 @@ impl Write for Broken {
     }
 }
 
-// An output that fails ends each run with status 3; where a fault can't be told, its status stays.
+/// Words of runs that print something.
+const PRINTING: &str = "\
+rasta md4 616263
+rasta show --code 0 24000000000000001c004c18020000000100000065000000f40100000a00000005000000
+rasta show --code 8 24000000000000001c004c18020000000100000065000000f40100000a00000005000000
+rasta --help
+";
+
+// An output that fails ends each run with status 3; if a fault can't be told, its status stays.
 #[test]
 fn tells_a_failed_output(rt: HostRuntime) -> Result<(), Fail> {
-    let runs: [&[&str]; 4] = [
-        &["rasta", "md4", "616263"],
-        &["rasta", "show", "--code", "0", HEARTBEAT],
-        &["rasta", "show", "--code", "8", HEARTBEAT],
-        &["rasta", "--help"],
-    ];
-    for words in runs {
+    for line in PRINTING.lines() {
+        let words = words_of(rt.alloc(), line)?;
         let mut err = Vec::new(rt.alloc());
-        let ended = run(&rt, words, &mut Broken::new(), &mut err);
-        assert_equal_at(&rt, words, ended, Status::Failed);
-        assert_equal_at(&rt, words, err.as_slice(), b"fault: output\n".as_slice());
+        let ended = run(&rt, words.as_slice(), &mut Broken::new(), &mut err);
+        assert_equal_at(&rt, line, ended, Status::Failed);
+        assert_equal_at(&rt, line, err.as_slice(), b"fault: output\n".as_slice());
         assert_equal(&rt, ended.code(), 3);
     }
-    let mut out = Vec::new(rt.alloc());
-    let no_hex = ["rasta", "md4", "6"];
-    assert_equal(
-        &rt,
-        run(&rt, &no_hex, &mut out, &mut Broken::new()),
-        Status::Refused,
-    );
-    let no_words = ["rasta"];
-    assert_equal(
-        &rt,
-        run(&rt, &no_words, &mut out, &mut Broken::new()),
-        Status::WrongWords,
-    );
-    assert_true(&rt, out.is_empty());
+    let cases = [
+        ("rasta md4 6", Status::Refused),
+        ("rasta", Status::WrongWords),
+    ];
+    for (line, status) in cases {
+        let words = words_of(rt.alloc(), line)?;
+        let mut out = Vec::new(rt.alloc());
+        let ended = run(&rt, words.as_slice(), &mut out, &mut Broken::new());
+        assert_equal_at(&rt, line, ended, status);
+        assert_true(&rt, out.is_empty());
+    }
     Ok(())
 }
 
@@ -83,133 +82,96 @@ fn plain_following() -> FollowRequest<'static> {
     }
 }
 
-// A capture that can't be read to its end is a fault of the file, behind what was read.
-#[test]
-fn tells_what_stops_a_capture(rt: HostRuntime) -> Result<(), Fail> {
-    let following = plain_following();
-    let line: &[u8] =
-        b"1.000000\t10.0.0.1\t1\t10.0.0.2\t2\t24000000000000001c004c18020000000100000065000000f40100000a00000005000000\n";
-    let said = "0.000000 line 1 1->2 ch 1 red 0 HB sn 101 cs 500 ts 10 cts 5\n";
-    let mut out = Vec::new(rt.alloc());
+/// `follow` reads this to its end or to a fault; then it ends so and tells this fault.
+fn follows<R: Read + Drop, O: Write>(
+    rt: &(impl AllocGlobal + Abort),
+    reader: R,
+    out: &mut O,
+    status: Status,
+    fault: &str,
+) {
     let mut err = Vec::new(rt.alloc());
+    let ended = run_follow(rt.alloc(), reader, &plain_following(), out, &mut err);
+    assert_equal(rt, ended, status);
+    assert_equal(rt, err.as_slice(), fault.as_bytes());
+}
+
+const NO_FILE: &str = "fault: file\nfile: -: it cannot be read\n";
+
+const NO_OUTPUT: &str = "fault: output\n";
+
+/// A line of a datagram without octets.
+const EMPTY_DATAGRAM: &[u8] = b"1.000000\t10.0.0.1\t1\t10.0.0.2\t2\t\n";
+
+const HEARTBEAT: &[u8] =
+    b"1.000000\t10.0.0.1\t1\t10.0.0.2\t2\t24000000000000001c004c18020000000100000065000000f40100000a00000005000000\n";
+
+/// The header of a recording of Ethernet frames.
+const RECORDING: [u8; 24] = [
+    0xd4, 0xc3, 0xb2, 0xa1, 2, 0, 4, 0, 0, 0, 0, 0, 0, 0, 0, 0, 255, 255, 0, 0, 1, 0, 0, 0,
+];
+
+/// Returns a reader of these octets that then fails.
+fn stopped(octets: &[u8]) -> Chain<&[u8], Broken> {
     let broken = Broken {
         kind: ErrorKind::TimedOut,
     };
-    let reader = Read::chain(line, broken);
-    let ended = run_follow(rt.alloc(), reader, &following, &mut out, &mut err);
-    assert_equal(&rt, ended, Status::Refused);
+    Read::chain(octets, broken)
+}
+
+// A capture that can't be read to its end is a fault of the file, behind what was read.
+#[test]
+fn tells_what_stops_a_capture(rt: HostRuntime) {
+    let mut out = Vec::new(rt.alloc());
+    follows(&rt, stopped(HEARTBEAT), &mut out, Status::Refused, NO_FILE);
+    let said = "0.000000 line 1 1->2 ch 1 red 0 HB sn 101 cs 500 ts 10 cts 5\n";
     assert_equal(&rt, out.as_slice(), said.as_bytes());
-    assert_equal(
-        &rt,
-        err.as_slice(),
-        b"fault: file\nfile: -: it cannot be read\n".as_slice(),
-    );
-    Ok(())
 }
 
 // A recording that can't be read to its end is a fault of the file too, though it breaks off between two frames.
 #[test]
-fn tells_what_stops_a_recording(rt: HostRuntime) -> Result<(), Fail> {
+fn tells_what_stops_a_recording(rt: HostRuntime) {
     let mut out = Vec::new(rt.alloc());
-    let mut err = Vec::new(rt.alloc());
-    let front: [u8; 24] = [
-        0xd4, 0xc3, 0xb2, 0xa1, 2, 0, 4, 0, 0, 0, 0, 0, 0, 0, 0, 0, 255, 255, 0, 0, 1, 0, 0, 0,
-    ];
-    let broken = Broken {
-        kind: ErrorKind::TimedOut,
-    };
-    let reader = Read::chain(front.as_slice(), broken);
-    let ended = run_follow(rt.alloc(), reader, &plain_following(), &mut out, &mut err);
-    assert_equal(&rt, ended, Status::Refused);
+    follows(&rt, stopped(&RECORDING), &mut out, Status::Refused, NO_FILE);
     assert_true(&rt, out.is_empty());
-    assert_equal(
-        &rt,
-        err.as_slice(),
-        b"fault: file\nfile: -: it cannot be read\n".as_slice(),
-    );
-    Ok(())
 }
 
 // Want of memory while a capture is read is no fault of its file.
 #[test]
-fn tells_want_of_memory_in_reading(rt: HostRuntime) -> Result<(), Fail> {
+fn tells_want_of_memory_in_reading(rt: HostRuntime) {
     let mut out = Vec::new(rt.alloc());
-    let mut err = Vec::new(rt.alloc());
     let reader = Broken {
         kind: ErrorKind::OutOfMemory,
     };
-    let ended = run_follow(rt.alloc(), reader, &plain_following(), &mut out, &mut err);
-    assert_equal(&rt, ended, Status::Refused);
-    assert_equal(&rt, err.as_slice(), b"fault: memory\n".as_slice());
-    Ok(())
+    follows(&rt, reader, &mut out, Status::Refused, "fault: memory\n");
 }
 
-// An output that fails ends it where nothing more is there to be read.
+// An output that fails ends it, even if nothing more is there to be read, or at the sums alone, behind a capture of no line.
 #[test]
-fn tells_an_output_that_fails_behind_a_line(rt: HostRuntime) -> Result<(), Fail> {
-    let mut err = Vec::new(rt.alloc());
-    let line: &[u8] = b"1.000000\t10.0.0.1\t1\t10.0.0.2\t2\t\n";
-    let ended = run_follow(
-        rt.alloc(),
-        line,
-        &plain_following(),
-        &mut Broken::new(),
-        &mut err,
-    );
-    assert_equal(&rt, ended, Status::Failed);
-    assert_equal(&rt, err.as_slice(), b"fault: output\n".as_slice());
-    Ok(())
+fn tells_an_output_that_fails(rt: HostRuntime) {
+    for lines in [EMPTY_DATAGRAM, b""] {
+        follows(&rt, lines, &mut Broken::new(), Status::Failed, NO_OUTPUT);
+    }
 }
 
 // An output that its reader has closed is no fault: that reader has what it wanted.
 #[test]
-fn ends_done_if_nobody_reads(rt: HostRuntime) -> Result<(), Fail> {
-    let mut err = Vec::new(rt.alloc());
-    let line: &[u8] = b"1.000000\t10.0.0.1\t1\t10.0.0.2\t2\t\n";
+fn ends_done_if_nobody_reads(rt: HostRuntime) {
     let mut unread = Broken {
         kind: ErrorKind::BrokenPipe,
     };
-    let ended = run_follow(rt.alloc(), line, &plain_following(), &mut unread, &mut err);
-    assert_equal(&rt, ended, Status::Done);
-    assert_true(&rt, err.is_empty());
-    Ok(())
+    follows(&rt, EMPTY_DATAGRAM, &mut unread, Status::Done, "");
 }
 
-// Or at the sums alone, behind a capture of no line.
-#[test]
-fn tells_an_output_that_fails_at_the_sums(rt: HostRuntime) -> Result<(), Fail> {
-    let mut err = Vec::new(rt.alloc());
-    let nothing: &[u8] = b"";
-    let ended = run_follow(
-        rt.alloc(),
-        nothing,
-        &plain_following(),
-        &mut Broken::new(),
-        &mut err,
-    );
-    assert_equal(&rt, ended, Status::Failed);
-    assert_equal(&rt, err.as_slice(), b"fault: output\n".as_slice());
-    Ok(())
-}
-
-// Or in the middle, where more is to be written than is kept.
+// An output that fails in the middle, where more is to be written than is kept, ends it too.
 #[test]
 fn tells_an_output_that_fails_in_mid_capture(rt: HostRuntime) -> Result<(), Fail> {
-    let mut err = Vec::new(rt.alloc());
     let mut lines = Vec::new(rt.alloc());
     for _ in 0..400 {
-        lines.extend_from_slice(b"1.000000\t10.0.0.1\t1\t10.0.0.2\t2\t\n")?;
+        lines.extend_from_slice(EMPTY_DATAGRAM)?;
     }
-    let following = plain_following();
-    let ended = run_follow(
-        rt.alloc(),
-        lines.as_slice(),
-        &following,
-        &mut Broken::new(),
-        &mut err,
-    );
-    assert_equal(&rt, ended, Status::Failed);
-    assert_equal(&rt, err.as_slice(), b"fault: output\n".as_slice());
+    let lines = lines.as_slice();
+    follows(&rt, lines, &mut Broken::new(), Status::Failed, NO_OUTPUT);
     Ok(())
 }
 
@@ -217,7 +179,6 @@ fn tells_an_output_that_fails_in_mid_capture(rt: HostRuntime) -> Result<(), Fail
 #[test]
 fn reads_the_line_of_the_longest_datagram(rt: HostRuntime) -> Result<(), Fail> {
     let mut out = Vec::new(rt.alloc());
-    let mut err = Vec::new(rt.alloc());
     let mut line = Vec::new(rt.alloc());
     line.extend_from_slice(
         b"1700000000.000000000\t2001:0db8:0000:0000:0000:0000:0000:0001\t46101\t2001:0db8:0000:0000:0000:0000:0000:0002\t46201\t",
@@ -226,22 +187,20 @@ fn reads_the_line_of_the_longest_datagram(rt: HostRuntime) -> Result<(), Fail> {
         line.extend_from_slice(b"ff")?;
     }
     line.push(b'\n')?;
-    let following = plain_following();
-    let ended = run_follow(rt.alloc(), line.as_slice(), &following, &mut out, &mut err);
-    assert_equal(&rt, ended, Status::Done);
-    assert_true(&rt, err.is_empty());
+    follows(&rt, line.as_slice(), &mut out, Status::Done, "");
     Ok(())
 }
 
-/// A program's path and its words, as octets.
+/// A program's path and its words, each behind one space, as octets.
 #[derive(Clone, Copy)]
 struct Called<'a> {
-    words: &'a [&'a [u8]],
+    words: &'a [u8],
 }
 
 impl<'a> Env for Called<'a> {
     fn arg(&self, i: usize, buf: &mut [u8]) -> Result<usize, FillError> {
-        let Some(word) = self.words.get(i) else {
+        let mut words = self.words.split(|octet| *octet == b' ');
+        let Some(word) = words.nth(i) else {
             return Err(FillError::NotPresent);
         };
         let size = word.len();
@@ -263,34 +222,19 @@ impl<'a> Env for Called<'a> {
     }
 }
 
+const DIGEST: &str = "a448017aaf21d8525fc10ae87aa6729d\n";
+
+const NO_TEXT: &str =
+    "error: an argument is not valid UTF-8\n\nUsage: rasta <COMMAND>\n\nFor more information, try 'rasta --help'.\n";
+
 // The path of the program may be something else than UTF-8 text; an argument that is not UTF-8 is a fault.
 #[test]
-fn passes_over_its_path(rt: HostRuntime) -> Result<(), Fail> {
-    let cases: [(&[&[u8]], Status, &str, &str); 4] = [
-        (
-            &[b"\xff\xfe/rasta", b"md4", b"616263"],
-            Status::Done,
-            "a448017aaf21d8525fc10ae87aa6729d\n",
-            "",
-        ),
-        (
-            &[b"", b"md4", b"616263"],
-            Status::Done,
-            "a448017aaf21d8525fc10ae87aa6729d\n",
-            "",
-        ),
-        (
-            &[b"rasta", b"md4", b"\xff"],
-            Status::WrongWords,
-            "",
-            "error: an argument is not valid UTF-8\n\nUsage: rasta <COMMAND>\n\nFor more information, try 'rasta --help'.\n",
-        ),
-        (
-            &[b"rasta", b"md4", b"6"],
-            Status::Refused,
-            "",
-            "fault: hex\n",
-        ),
+fn passes_over_its_path(rt: HostRuntime) {
+    let cases: [(&[u8], Status, &str, &str); 4] = [
+        (b"\xff\xfe/rasta md4 616263", Status::Done, DIGEST, ""),
+        (b" md4 616263", Status::Done, DIGEST, ""),
+        (b"rasta md4 \xff", Status::WrongWords, "", NO_TEXT),
+        (b"rasta md4 6", Status::Refused, "", "fault: hex\n"),
     ];
     for (words, status, text, fault) in cases {
         let mut out = Vec::new(rt.alloc());
@@ -300,24 +244,26 @@ fn passes_over_its_path(rt: HostRuntime) -> Result<(), Fail> {
         assert_equal_at(&rt, words, out.as_slice(), text.as_bytes());
         assert_equal_at(&rt, words, err.as_slice(), fault.as_bytes());
     }
-    Ok(())
 }
+
+/// Words of runs that read a file.
+const READING: &str = "\
+rasta follow --code 8 night.tsv
+rasta il --turns 1 il.toml
+rasta sim some.sim
+";
 
 // Want of memory for a file is told as that, and not as a fault of the file.
 #[test]
 fn tells_want_of_memory_for_a_file(rt: HostRuntime) -> Result<(), Fail> {
-    let runs: [&[&str]; 3] = [
-        &["rasta", "follow", "--code", "8", "night.tsv"],
-        &["rasta", "il", "--turns", "1", "il.toml"],
-        &["rasta", "sim", "some.sim"],
-    ];
-    for words in runs {
+    for line in READING.lines() {
+        let words = words_of(rt.alloc(), line)?;
         let mut out = Vec::new(rt.alloc());
         let mut err = Vec::new(rt.alloc());
-        let ended = run(&Poor { rt: &rt }, words, &mut out, &mut err);
-        assert_equal_at(&rt, words, ended, Status::Refused);
-        assert_true_at(&rt, words, out.is_empty());
-        assert_equal_at(&rt, words, err.as_slice(), b"fault: memory\n".as_slice());
+        let ended = run(&Poor { rt: &rt }, words.as_slice(), &mut out, &mut err);
+        assert_equal_at(&rt, line, ended, Status::Refused);
+        assert_true_at(&rt, line, out.is_empty());
+        assert_equal_at(&rt, line, err.as_slice(), b"fault: memory\n".as_slice());
     }
     Ok(())
 }

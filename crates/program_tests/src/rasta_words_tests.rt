@@ -1,4 +1,4 @@
-use crate::assertions::{assert_equal, assert_true, assert_true_at};
+use crate::assertions::{assert_equal_at, assert_true, assert_true_at};
 use capture::{Instant, Span, read_ports};
 use capture_text::{Remarkable, TimeForm};
 use rasta_words::{
@@ -8,18 +8,61 @@ use rasta_words::{
 use safe_pdu::CodeLength;
 use settings_file::Subcommand as Ends;
 use std::alloc::Global;
+use std::process::Abort;
 use std::test::Fail;
 
 const HEARTBEAT: &str = "24000000000000001c004c18020000000100000065000000f40100000a00000005000000";
 
 const OWN_VALUE: &str = "01000000020000000300000004000000";
 
-/// Returns what the words ask for.
-fn request_of<'a>(alloc: Global, words: &'a [&'a str]) -> Result<Request<'a>, Fail> {
-    match command(alloc, words) {
-        Ok(found) => Ok(found),
-        Err(_) => Err(Fail::from("refused")),
+/// Returns the words of a line, each behind one space.
+pub(crate) fn words_of<'a>(alloc: Global, line: &'a str) -> Result<Vec<&'a str>, Fail> {
+    let mut words = Vec::new(alloc);
+    for word in line.split(' ') {
+        words.push(word)?;
     }
+    Ok(words)
+}
+
+/// The words of a line ask for this.
+fn asks(rt: &(impl AllocGlobal + Abort), line: &str, wanted: Request<'_>) -> Result<(), Fail> {
+    let words = words_of(rt.alloc(), line)?;
+    match command(rt.alloc(), words.as_slice()) {
+        Ok(found) => assert_equal_at(rt, line, found, wanted),
+        Err(_) => assert_true_at(rt, line, false),
+    }
+    Ok(())
+}
+
+/// The words of a line are rejected for this reason.
+fn rejects(rt: &(impl AllocGlobal + Abort), line: &str, reason: Rejection<'_>) -> Result<(), Fail> {
+    let words = words_of(rt.alloc(), line)?;
+    let is_rejected = match command(rt.alloc(), words.as_slice()) {
+        Err(WordsFault::Rejected(rejection)) => rejection == reason,
+        _ => false,
+    };
+    assert_true_at(rt, line, is_rejected);
+    Ok(())
+}
+
+/// The words of each line are refused.
+fn refuses(rt: &(impl AllocGlobal + Abort), lines: &str) -> Result<(), Fail> {
+    for line in lines.lines() {
+        let words = words_of(rt.alloc(), line)?;
+        assert_true_at(rt, line, command(rt.alloc(), words.as_slice()).is_err());
+    }
+    Ok(())
+}
+
+/// The words of a line are answered by a text alone: of a fault, on standard error, or of help.
+fn tells(rt: &(impl AllocGlobal + Abort), line: &str, is_fault: bool) -> Result<(), Fail> {
+    let words = words_of(rt.alloc(), line)?;
+    let is_told = match command(rt.alloc(), words.as_slice()) {
+        Err(WordsFault::Words(error)) => error.use_stderr() == is_fault,
+        _ => false,
+    };
+    assert_true_at(rt, line, is_told);
+    Ok(())
 }
 
 /// Returns what `follow` is asked without an option.
@@ -50,164 +93,114 @@ pub(crate) fn plain_follow(file: &str) -> FollowRequest<'_> {
 #[test]
 fn accepts_the_words_of_show(rt: HostRuntime) -> Result<(), Fail> {
     let lengths = [
-        ("0", CodeLength::Zero),
-        ("8", CodeLength::Eight),
-        ("16", CodeLength::Sixteen),
+        (0, CodeLength::Zero),
+        (8, CodeLength::Eight),
+        (16, CodeLength::Sixteen),
     ];
-    for (word, code) in lengths {
-        let words = ["rasta", "show", "--code", word, HEARTBEAT];
-        let found = request_of(rt.alloc(), &words)?;
-        assert_equal(
-            &rt,
-            found,
-            Request::Show {
-                code,
-                iv: None,
-                hex: HEARTBEAT,
-            },
-        );
-        let words = [
-            "rasta", "show", "--code", word, "--iv", OWN_VALUE, HEARTBEAT,
-        ];
-        let found = request_of(rt.alloc(), &words)?;
-        assert_equal(
-            &rt,
-            found,
-            Request::Show {
-                code,
-                iv: Some(OWN_VALUE),
-                hex: HEARTBEAT,
-            },
-        );
+    for (octets, code) in lengths {
+        let line = format!(in rt.alloc(); "rasta show --code {octets} {HEARTBEAT}")?;
+        shows(&rt, line.as_str(), code, None)?;
+        let line = format!(in rt.alloc();
+            "rasta show --code {octets} --iv {OWN_VALUE} {HEARTBEAT}"
+        )?;
+        shows(&rt, line.as_str(), code, Some(OWN_VALUE))?;
     }
     Ok(())
+}
+
+/// The words of a line ask for the heartbeat.
+fn shows(
+    rt: &(impl AllocGlobal + Abort),
+    line: &str,
+    code: CodeLength,
+    iv: Option<&str>,
+) -> Result<(), Fail> {
+    let hex = HEARTBEAT;
+    asks(rt, line, Request::Show { code, iv, hex })
 }
 
 #[test]
 fn accepts_the_words_of_md4(rt: HostRuntime) -> Result<(), Fail> {
-    for hex in ["empty", "616263"] {
-        let words = ["rasta", "md4", hex];
-        let found = request_of(rt.alloc(), &words)?;
-        assert_equal(&rt, found, Request::Digest { hex });
-    }
-    Ok(())
+    asks(&rt, "rasta md4 empty", Request::Digest { hex: "empty" })?;
+    asks(&rt, "rasta md4 616263", Request::Digest { hex: "616263" })
 }
 
-// The defaults of `follow`, each of its options, and values that they do not accept.
+// The defaults of `follow`, and each of its options.
 #[test]
 fn accepts_the_words_of_follow(rt: HostRuntime) -> Result<(), Fail> {
     let plain = plain_follow("night.tsv");
-    let words = ["rasta", "follow", "night.tsv"];
-    let found = request_of(rt.alloc(), &words)?;
-    assert_equal(&rt, found, Request::Follow(plain));
-    let words = [
-        "rasta",
-        "follow",
-        "--messages",
-        "--code",
-        "16",
-        "--only",
-        "age",
-        "--t-max",
-        "900",
-        "--iv",
-        OWN_VALUE,
-        "--ports",
-        "46101-46102,5000",
-        "--json",
-        "--events",
-        "--choose",
-        "--time",
-        "utc",
-        "--from",
-        "90.5",
-        "--to",
-        "2026-11-27T03:12:00Z",
-        "--every",
-        "60",
-        "-",
-    ];
-    let found = request_of(rt.alloc(), &words)?;
-    assert_equal(
-        &rt,
-        found,
-        Request::Follow(FollowRequest {
-            code: CodeLength::Sixteen,
-            iv: Some(OWN_VALUE),
-            messages: true,
-            only: Some(Remarkable::Age),
-            t_max: 900,
-            file: "-",
-            ports: read_ports(b"46101-46102,5000"),
-            json: true,
-            events: true,
-            choose: true,
-            times: FollowTimes {
-                form: TimeForm::Utc,
-                span: Span {
-                    from: Some(Instant::Since(90_500_000)),
-                    to: Some(Instant::At(1_795_749_120_000_000)),
-                },
-                every: Some(60),
-            },
-            beside: None,
-        }),
-    );
-    for (choice, option, text) in [
-        ("--code", Choice::Code, "9"),
-        ("--only", Choice::Only, "lost"),
-        ("--t-max", Choice::TMax, "0"),
-        ("--t-max", Choice::TMax, "4294967296"),
-        ("--ports", Choice::Ports, "2-1"),
-        ("--ports", Choice::Ports, "1,2,3,4,5"),
-        ("--time", Choice::Times, "run"),
-        ("--from", Choice::From, "27.11.2026"),
-        ("--to", Choice::To, "2026-02-30T00:00:00"),
-        ("--every", Choice::Period, "0"),
-    ] {
-        let words = ["rasta", "follow", choice, text, "night.tsv"];
-        let value = Rejection::Value {
-            option,
-            value: text,
-        };
-        assert_true_at(
-            &rt,
-            (choice, text),
-            is_rejected(command(rt.alloc(), &words), value),
-        );
+    asks(&rt, "rasta follow night.tsv", Request::Follow(plain))?;
+    let line =
+        "rasta follow --messages --code 16 --only age --t-max 900 --iv 01000000020000000300000004000000 \
+--ports 46101-46102,5000 --json --events --choose --time utc --from 90.5 --to 2026-11-27T03:12:00Z --every 60 -";
+    let times = FollowTimes {
+        form: TimeForm::Utc,
+        span: Span {
+            from: Some(Instant::Since(90_500_000)),
+            to: Some(Instant::At(1_795_749_120_000_000)),
+        },
+        every: Some(60),
+    };
+    let wanted = FollowRequest {
+        code: CodeLength::Sixteen,
+        iv: Some(OWN_VALUE),
+        messages: true,
+        only: Some(Remarkable::Age),
+        t_max: 900,
+        file: "-",
+        ports: read_ports(b"46101-46102,5000"),
+        json: true,
+        events: true,
+        choose: true,
+        times,
+        beside: None,
+    };
+    asks(&rt, line, Request::Follow(wanted))
+}
+
+/// Options of `follow`, each with a value that it does not accept.
+const NO_VALUES: &str = "\
+--code 9
+--only lost
+--t-max 0
+--t-max 4294967296
+--ports 2-1
+--ports 1,2,3,4,5
+--time run
+--from 27.11.2026
+--to 2026-02-30T00:00:00
+--every 0
+";
+
+/// These options.
+const OPTIONS: [Choice; 10] = [
+    Choice::Code,
+    Choice::Only,
+    Choice::TMax,
+    Choice::TMax,
+    Choice::Ports,
+    Choice::Ports,
+    Choice::Times,
+    Choice::From,
+    Choice::To,
+    Choice::Period,
+];
+
+#[test]
+fn rejects_values_of_follow(rt: HostRuntime) -> Result<(), Fail> {
+    for (option, case) in OPTIONS.iter().zip(NO_VALUES.lines()) {
+        let (_, value) = case.split_once(' ').ok_or("no value")?;
+        let line = format!(in rt.alloc(); "rasta follow {case} night.tsv")?;
+        let option = *option;
+        rejects(&rt, line.as_str(), Rejection::Value { option, value })?;
     }
     Ok(())
 }
 
-#[test]
-fn accepts_the_words_of_the_ends(rt: HostRuntime) -> Result<(), Fail> {
-    for (name, word) in [("il", Ends::Il), ("fe", Ends::Fe), ("pair", Ends::Pair)] {
-        for (text, turns) in [("1", 1), ("200", 200), ("1000000", 1_000_000)] {
-            let words = ["rasta", name, "ends.toml", "--turns", text];
-            let found = request_of(rt.alloc(), &words)?;
-            let file = "ends.toml";
-            let running = RunRequest {
-                word,
-                file,
-                length: RunLength::Turns(turns),
-                log: LogLevel::Off,
-                time: LogTime::Utc,
-                stamp: false,
-                expected: None,
-                keep: false,
-                counts: None,
-            };
-            assert_equal(&rt, found, Request::Net(running));
-        }
-        for text in ["0", "1000001", "4294967297", "", "1e3", "1,000", "-1"] {
-            let words = ["rasta", name, "ends.toml", "--turns", text];
-            assert_true_at(&rt, text, command(rt.alloc(), &words).is_err());
-        }
-    }
-    let until_end = ["rasta", "fe", "--until-end", "ends.toml"];
-    let found = request_of(rt.alloc(), &until_end)?;
-    let running = RunRequest {
-        word: Ends::Fe,
+/// Returns what an end is asked that runs until its session ends.
+fn until_end(word: Ends) -> RunRequest<'static> {
+    RunRequest {
+        word,
         file: "ends.toml",
         length: RunLength::UntilEnd,
         log: LogLevel::Off,
@@ -216,56 +209,57 @@ fn accepts_the_words_of_the_ends(rt: HostRuntime) -> Result<(), Fail> {
         expected: None,
         keep: false,
         counts: None,
-    };
-    assert_equal(&rt, found, Request::Net(running));
-    for (text, time) in [("utc", LogTime::Utc), ("run", LogTime::Run)] {
-        let words = ["rasta", "fe", "--until-end", "--time", text, "ends.toml"];
-        let found = request_of(rt.alloc(), &words)?;
-        assert_equal(&rt, found, Request::Net(RunRequest { time, ..running }));
     }
-    let stamped = ["rasta", "fe", "--until-end", "--stamp", "ends.toml"];
-    let found = request_of(rt.alloc(), &stamped)?;
-    let stamp = true;
-    assert_equal(&rt, found, Request::Net(RunRequest { stamp, ..running }));
-    let no_turns = Rejection::Value {
-        option: Choice::Turns,
-        value: "0",
-    };
-    let no_time = Rejection::Value {
-        option: Choice::LogTime,
-        value: "local",
-    };
-    let lists: [(&[&str], Rejection); 4] = [
-        (&["rasta", "il", "ends.toml", "--turns", "0"], no_turns),
-        (
-            &[
-                "rasta",
-                "il",
-                "ends.toml",
-                "--turns",
-                "1",
-                "--time",
-                "local",
-            ],
-            no_time,
-        ),
-        (&["rasta", "il", "ends.toml"], Rejection::NoLength),
-        (
-            &["rasta", "il", "ends.toml", "--turns", "1", "--until-end"],
-            Rejection::TwoLengths,
-        ),
-    ];
-    for (words, rejection) in lists {
-        assert_true_at(
-            &rt,
-            words,
-            is_rejected(command(rt.alloc(), words), rejection),
-        );
+}
+
+#[test]
+fn accepts_numbers_of_turns(rt: HostRuntime) -> Result<(), Fail> {
+    for (name, word) in [("il", Ends::Il), ("fe", Ends::Fe), ("pair", Ends::Pair)] {
+        for turns in [1, 200, 1_000_000] {
+            let line = format!(in rt.alloc(); "rasta {name} ends.toml --turns {turns}")?;
+            let running = RunRequest {
+                length: RunLength::Turns(turns),
+                ..until_end(word)
+            };
+            asks(&rt, line.as_str(), Request::Net(running))?;
+        }
+        for text in "0 1000001 4294967297  1e3 1,000 -1".split(' ') {
+            let line = format!(in rt.alloc(); "rasta {name} ends.toml --turns {text}")?;
+            refuses(&rt, line.as_str())?;
+        }
     }
     Ok(())
 }
 
-// An end is kept, and counts are told, where words ask for it; a choice of counts that is none is refused.
+#[test]
+fn accepts_the_words_of_the_ends(rt: HostRuntime) -> Result<(), Fail> {
+    let running = until_end(Ends::Fe);
+    let line = "rasta fe --until-end ends.toml";
+    asks(&rt, line, Request::Net(running))?;
+    let line = "rasta fe --until-end --time utc ends.toml";
+    asks(&rt, line, Request::Net(running))?;
+    let time = LogTime::Run;
+    let line = "rasta fe --until-end --time run ends.toml";
+    asks(&rt, line, Request::Net(RunRequest { time, ..running }))?;
+    let stamp = true;
+    let line = "rasta fe --until-end --stamp ends.toml";
+    asks(&rt, line, Request::Net(RunRequest { stamp, ..running }))
+}
+
+#[test]
+fn rejects_words_of_the_ends(rt: HostRuntime) -> Result<(), Fail> {
+    let value = |option, value| Rejection::Value { option, value };
+    let line = "rasta il ends.toml --turns 0";
+    rejects(&rt, line, value(Choice::Turns, "0"))?;
+    let line = "rasta il ends.toml --turns 1 --time local";
+    rejects(&rt, line, value(Choice::LogTime, "local"))?;
+    let line = "rasta il ends.toml";
+    rejects(&rt, line, Rejection::NoLength)?;
+    let line = "rasta il ends.toml --turns 1 --until-end";
+    rejects(&rt, line, Rejection::TwoLengths)
+}
+
+// An end is kept, and counts are told, if words ask for it.
 #[test]
 fn accepts_kept_ends_and_counts(rt: HostRuntime) -> Result<(), Fail> {
     let forms = [
@@ -274,163 +268,100 @@ fn accepts_kept_ends_and_counts(rt: HostRuntime) -> Result<(), Fail> {
         ("prometheus", CountsForm::Prometheus),
     ];
     for (text, form) in forms {
-        for (seconds, every) in [("1", 1), ("60", 60), ("86400", 86_400)] {
-            let words = [
-                "rasta",
-                "il",
-                "--keep",
-                "--stats",
-                text,
-                "--every",
-                seconds,
-                "--until-end",
-                "ends.toml",
-            ];
-            let found = request_of(rt.alloc(), &words)?;
-            let counts = Some(CountsRequest {
-                form,
-                every: Some(every),
-            });
-            assert_equal(&rt, found, Request::Net(kept_until_end(true, counts)));
+        for seconds in [1, 60, 86_400] {
+            let line = format!(in rt.alloc();
+                "rasta il --keep --stats {text} --every {seconds} --until-end ends.toml"
+            )?;
+            counts(&rt, line.as_str(), true, form, Some(seconds))?;
         }
-        let words = ["rasta", "il", "--stats", text, "--until-end", "ends.toml"];
-        let found = request_of(rt.alloc(), &words)?;
-        let counts = Some(CountsRequest { form, every: None });
-        assert_equal(&rt, found, Request::Net(kept_until_end(false, counts)));
-    }
-    let lists: [&[&str]; 7] = [
-        &["rasta", "il", "--until-end", "il.toml", "--stats", "xml"],
-        &["rasta", "il", "--until-end", "il.toml", "--stats", ""],
-        &["rasta", "il", "--until-end", "il.toml", "--every", "1"],
-        &[
-            "rasta",
-            "il",
-            "--until-end",
-            "il.toml",
-            "--stats",
-            "text",
-            "--every",
-            "0",
-        ],
-        &[
-            "rasta",
-            "il",
-            "--until-end",
-            "il.toml",
-            "--stats",
-            "text",
-            "--every",
-            "86401",
-        ],
-        &[
-            "rasta",
-            "il",
-            "--until-end",
-            "il.toml",
-            "--stats",
-            "json",
-            "--every",
-            "1.5",
-        ],
-        &[
-            "rasta",
-            "il",
-            "--until-end",
-            "il.toml",
-            "--stats",
-            "json",
-            "--every",
-            "-1",
-        ],
-    ];
-    for words in lists {
-        assert_true_at(&rt, words, command(rt.alloc(), words).is_err());
+        let line = format!(in rt.alloc(); "rasta il --stats {text} --until-end ends.toml")?;
+        counts(&rt, line.as_str(), false, form, None)?;
     }
     Ok(())
 }
 
-fn kept_until_end(keep: bool, counts: Option<CountsRequest>) -> RunRequest<'static> {
-    RunRequest {
-        word: Ends::Il,
-        file: "ends.toml",
-        length: RunLength::UntilEnd,
-        log: LogLevel::Off,
-        time: LogTime::Utc,
-        stamp: false,
-        expected: None,
+/// The words of a line ask for counts of an end, kept or not.
+fn counts(
+    rt: &(impl AllocGlobal + Abort),
+    line: &str,
+    keep: bool,
+    form: CountsForm,
+    every: Option<u32>,
+) -> Result<(), Fail> {
+    let running = RunRequest {
         keep,
-        counts,
-    }
+        counts: Some(CountsRequest { form, every }),
+        ..until_end(Ends::Il)
+    };
+    asks(rt, line, Request::Net(running))
 }
+
+/// Choices of counts that are none.
+const NO_COUNTS: &str = "\
+rasta il --until-end il.toml --stats xml
+rasta il --until-end --stats  il.toml
+rasta il --until-end il.toml --every 1
+rasta il --until-end il.toml --stats text --every 0
+rasta il --until-end il.toml --stats text --every 86401
+rasta il --until-end il.toml --stats json --every 1.5
+rasta il --until-end il.toml --stats json --every -1
+";
+
+#[test]
+fn refuses_other_counts(rt: HostRuntime) -> Result<(), Fail> {
+    refuses(&rt, NO_COUNTS)
+}
+
+/// Words that are no command.
+const NO_COMMANDS: &str = "\
+rasta
+rasta shew
+rasta show 00
+rasta show --code 0 --vi 00 00
+rasta show --code 0
+rasta md4
+rasta md4 00 00
+rasta fe --turns 1
+rasta pair --turns 1 il.toml fe.toml
+";
 
 // Words that are no command, or that ask for help, are refused by a fault of their own.
 #[test]
 fn refuses_other_words(rt: HostRuntime) -> Result<(), Fail> {
-    let nine = ["rasta", "show", "--code", "9", "00"];
     let rejection = Rejection::Value {
         option: Choice::ShowCode,
         value: "9",
     };
-    assert_true(&rt, is_rejected(command(rt.alloc(), &nine), rejection));
-    let lists: [&[&str]; 9] = [
-        &["rasta"],
-        &["rasta", "shew"],
-        &["rasta", "show", "00"],
-        &["rasta", "show", "--code", "0", "--vi", "00", "00"],
-        &["rasta", "show", "--code", "0"],
-        &["rasta", "md4"],
-        &["rasta", "md4", "00", "00"],
-        &["rasta", "fe", "--turns", "1"],
-        &["rasta", "pair", "--turns", "1", "il.toml", "fe.toml"],
-    ];
-    for words in lists {
-        assert_true_at(&rt, words, tells(command(rt.alloc(), words), true));
+    rejects(&rt, "rasta show --code 9 00", rejection)?;
+    for line in NO_COMMANDS.lines() {
+        tells(&rt, line, true)?;
     }
-    let help = ["rasta", "--help"];
-    assert_true(&rt, tells(command(rt.alloc(), &help), false));
-    Ok(())
+    tells(&rt, "rasta --help", false)
+}
+
+/// Returns the text that answers the words of a line.
+fn answer_to(alloc: Global, line: &str) -> Result<String, Fail> {
+    let words = words_of(alloc, line)?;
+    match command(alloc, words.as_slice()) {
+        Ok(_) => Err(Fail::from("accepted")),
+        Err(fault) => Ok(format!(in alloc; "{fault}")?),
+    }
 }
 
 // The help of a word says what stands behind it.
 #[test]
 fn tells_what_a_digest_is_of(rt: HostRuntime) -> Result<(), Fail> {
-    let words = ["rasta", "md4", "--help"];
-    let Err(fault) = command(rt.alloc(), &words) else {
-        return Err(Fail::from("accepted"));
-    };
-    let text = format!(in rt.alloc(); "{fault}")?;
-    assert_true(
-        &rt,
-        text.contains("Message as hex digits, or `empty` for an empty message"),
-    );
+    let text = answer_to(rt.alloc(), "rasta md4 --help")?;
+    let part = "Message as hex digits, or `empty` for an empty message";
+    assert_true(&rt, text.contains(part));
     Ok(())
 }
 
 // The text of a rejection names the option, its value, and the values that it accepts.
 #[test]
 fn names_option_value_and_range(rt: HostRuntime) -> Result<(), Fail> {
-    let words = ["rasta", "il", "--turns", "0", "il.toml"];
-    let Err(fault) = command(rt.alloc(), &words) else {
-        return Err(Fail::from("accepted"));
-    };
-    let text = format!(in rt.alloc(); "{fault}")?;
+    let text = answer_to(rt.alloc(), "rasta il --turns 0 il.toml")?;
     let line = "error: invalid value '0' for '--turns': expected 1 to 1000000\n";
     assert_true(&rt, text.starts_with(line));
     Ok(())
-}
-
-/// Returns whether words are rejected for this reason.
-fn is_rejected(answer: Result<Request, WordsFault>, reason: Rejection) -> bool {
-    match answer {
-        Err(WordsFault::Rejected(rejection)) => rejection == reason,
-        _ => false,
-    }
-}
-
-/// Whether words are answered by a text alone: of a fault, on standard error, or of help.
-fn tells(answer: Result<Request, WordsFault>, is_fault: bool) -> bool {
-    match answer {
-        Err(WordsFault::Words(error)) => error.use_stderr() == is_fault,
-        _ => false,
-    }
 }
