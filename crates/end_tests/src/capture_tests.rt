@@ -1,6 +1,7 @@
 //! Lines and datagrams with values from outside.
 
 use crate::assertions::{assert_equal, assert_true};
+use capture::NumberOrder::{Ahead, Anew, Differs, First, Late, Next, Repeat, Stale};
 use capture::{
     Address, DecodedDatagram, Follower, Header, Host, Instant, LineFault, NumberOrder,
     PAYLOAD_ROOM, Record, Remark, Remarks, Span, Totals, Window, hear, is_between, judge, note,
@@ -9,6 +10,7 @@ use capture::{
 use red_layer::pdu::RedFault;
 use safe_pdu::{CodeLength, CodeRule, Kind, Leaving, SafeFault};
 use std::alloc::Global;
+use std::process::Abort;
 use std::test::Fail;
 
 const HEARTBEAT: &[u8] =
@@ -121,7 +123,7 @@ fn names_what_is_wrong(rt: HostRuntime) {
     }
 }
 
-/// A datagram on a channel, from one end or from the other.
+/// A datagram on a channel at a time, from one end or from the other.
 fn record(time: u64, channel: u8, back: bool) -> Record {
     let near = Address {
         host: Host::V4([10, 0, channel, 1]),
@@ -140,26 +142,47 @@ fn record(time: u64, channel: u8, back: bool) -> Record {
     }
 }
 
-fn pdu(seq: u32, ends: (u32, u32), sn: u32, stamps: (u32, u32)) -> DecodedDatagram {
+/// A header whose fingerprint is its TS.
+fn header(kind: Kind, ends: (u32, u32), numbers: (u32, u32), stamps: (u32, u32)) -> Header {
     let (sender, receiver) = ends;
+    let (sn, cs) = numbers;
     let (ts, cts) = stamps;
+    Header {
+        kind,
+        receiver,
+        sender,
+        sn,
+        cs,
+        ts,
+        cts,
+        fingerprint: ts as u64,
+        leaving: None,
+    }
+}
+
+fn pdu(seq: u32, ends: (u32, u32), sn: u32, stamps: (u32, u32)) -> DecodedDatagram {
+    DecodedDatagram::Pdu(seq, header(Kind::Data, ends, (sn, 0), stamps))
+}
+
+fn opening(seq: u32, sn: u32, ts: u32) -> DecodedDatagram {
+    DecodedDatagram::Pdu(seq, header(Kind::ConnReq, (1, 2), (sn, 0), (ts, 0)))
+}
+
+fn leaving(seq: u32, ends: (u32, u32), sn: u32, stamps: (u32, u32)) -> DecodedDatagram {
+    let leaving = Leaving {
+        detail: 0,
+        reason: 0,
+    };
     DecodedDatagram::Pdu(
         seq,
         Header {
-            kind: Kind::Data,
-            receiver,
-            sender,
-            sn,
-            cs: 0,
-            ts,
-            cts,
-            fingerprint: ts as u64,
-            leaving: None,
+            leaving: Some(leaving),
+            ..header(Kind::DiscReq, ends, (sn, 0), stamps)
         },
     )
 }
 
-/// A capture in a test.
+/// A capture in a test: each datagram has the line behind the one before it, and its number as its time.
 #[derive(Drop)]
 struct CaptureTest {
     following: Follower,
@@ -173,38 +196,87 @@ impl CaptureTest {
         })
     }
 
-    /// Adds a datagram on this line.
-    fn hear(
-        &mut self,
-        line: u64,
-        record: &Record,
-        heard: &DecodedDatagram,
-    ) -> Result<Remark, Fail> {
+    /// Adds a datagram, and returns what is remarkable in it.
+    fn hear(&mut self, channel: u8, back: bool, heard: &DecodedDatagram) -> Result<Remark, Fail> {
+        let line = self.following.datagrams.wrapping_add(1);
         let spare = self.following.connections.take_spare()?;
-        Ok(self.following.hear(line, record, heard, spare))
+        let record = record(line, channel, back);
+        Ok(self.following.hear(line, &record, heard, spare))
+    }
+
+    /// Adds a datagram, and returns what is remarkable in its PDU, if it has one.
+    fn remarks(
+        &mut self,
+        channel: u8,
+        back: bool,
+        heard: &DecodedDatagram,
+    ) -> Result<Option<Remarks>, Fail> {
+        Ok(match self.hear(channel, back, heard)? {
+            Remark::Pdu(_, _, remarks) => Some(remarks),
+            Remark::NoRed(_) | Remark::NoSafe(_, _) => None,
+        })
+    }
+
+    /// Adds datagrams: of each its channel and whether it goes back.
+    fn hear_all(&mut self, datagrams: &[(u8, bool, DecodedDatagram)]) -> Result<(), Fail> {
+        for (channel, back, heard) in datagrams {
+            let _remark = self.hear(*channel, *back, heard)?;
+        }
+        Ok(())
+    }
+
+    /// Returns the sums over all connections.
+    fn totals(&self) -> Totals {
+        sum_up(self.following.gone, self.following.connections.as_slice())
     }
 }
 
-/// What is remarkable in a PDU.
-fn told(remark: Remark) -> Option<Remarks> {
-    match remark {
-        Remark::Pdu(_, _, remarks) => Some(remarks),
-        Remark::NoRed(_) | Remark::NoSafe(_, _) => None,
-    }
+/// What is remarkable in the damage before a PDU and in what it asks for.
+type Damage = (Option<u64>, Option<u64>);
+
+// A damaged datagram whose good copy the receiver drops as old, and a RetrReq for a PDU that was recorded.
+#[test]
+fn names_damage_and_what_is_asked_for(rt: HostRuntime) -> Result<(), Fail> {
+    names_damage(&rt, &mut CaptureTest::new(rt.alloc())?)
 }
+
+fn names_damage(rt: &impl Abort, all: &mut CaptureTest) -> Result<(), Fail> {
+    let first = pdu(5, (1, 2), 10, (100, 0));
+    let damaged = DecodedDatagram::NoSafe(6, SafeFault::Code);
+    all.hear_all(&[(0, false, first), (1, false, first), (0, false, damaged)])?;
+    let second = pdu(6, (1, 2), 11, (200, 0));
+    let asks = |seq, sn, cs| {
+        DecodedDatagram::Pdu(seq, header(Kind::RetrReq, (2, 1), (sn, cs), (50, 100)))
+    };
+    let cases: [(u8, bool, DecodedDatagram, Damage); 6] = [
+        (1, false, second, (Some(3), None)),
+        (0, false, second, (None, None)),
+        (1, false, pdu(7, (1, 2), 12, (210, 0)), (None, None)),
+        (0, true, asks(0, 900, 10), (None, Some(4))),
+        (1, true, asks(0, 900, 10), (None, None)),
+        (0, true, asks(1, 901, 12), (None, None)),
+    ];
+    for (channel, back, heard, wanted) in cases {
+        let remarks = all.remarks(channel, back, &heard)?;
+        let found = remarks.map(|remarks| (remarks.damaged, remarks.asks));
+        assert_equal(rt, found, Some(wanted));
+    }
+    Ok(())
+}
+
+/// A PDU: its channel, whether it goes back, its redundancy number, its SN, and its TS and CTS.
+type Numbers = (u8, bool, u32, u32, (u32, u32));
+
+/// How a PDU follows: by its redundancy number on its channel and on all, and by its SN; and its age.
+type Order = (NumberOrder, NumberOrder, Option<NumberOrder>, Option<u32>);
 
 /// Remarks on a PDU that is neither sent again nor a DiscReq, of an end to which nothing was confirmed.
-fn remarks(
-    route: usize,
-    channel: NumberOrder,
-    together: NumberOrder,
-    sequence: Option<NumberOrder>,
-    age: Option<u32>,
-) -> Option<Remarks> {
-    Some(Remarks {
+fn remarks(channel: u8, order: Order) -> Remarks {
+    let (on_channel, together, sequence, age) = order;
+    Remarks {
         opens: false,
-        route,
-        channel: Some(channel),
+        route: channel as usize,
+        channel: Some(on_channel),
         together,
         sequence,
         resent: false,
@@ -213,123 +285,36 @@ fn remarks(
         age,
         waits: None,
         leaving: None,
-    })
+    }
 }
 
-// A damaged datagram whose good copy the receiver drops as old, and a RetrReq for a PDU that was recorded.
-#[test]
-fn names_damage_and_what_is_asked_for(rt: HostRuntime) -> Result<(), Fail> {
-    let mut all = CaptureTest::new(rt.alloc())?;
-    let _first = all.hear(1, &record(1000, 0, false), &pdu(5, (1, 2), 10, (100, 0)))?;
-    let _copy = all.hear(2, &record(1010, 1, false), &pdu(5, (1, 2), 10, (100, 0)))?;
-    let damaged = DecodedDatagram::NoSafe(6, SafeFault::Code);
-    let _damaged = all.hear(3, &record(2000, 0, false), &damaged)?;
-    let late = told(all.hear(4, &record(2020, 1, false), &pdu(6, (1, 2), 11, (200, 0)))?);
-    assert_equal(&rt, late.map(|remarks| remarks.damaged), Some(Some(3)));
-    let again = told(all.hear(5, &record(2030, 0, false), &pdu(6, (1, 2), 11, (200, 0)))?);
-    assert_equal(&rt, again.map(|remarks| remarks.damaged), Some(None));
-    let next = told(all.hear(6, &record(2040, 1, false), &pdu(7, (1, 2), 12, (210, 0)))?);
-    assert_equal(&rt, next.map(|remarks| remarks.damaged), Some(None));
-    let request = Header {
-        kind: Kind::RetrReq,
-        receiver: 1,
-        sender: 2,
-        sn: 900,
-        cs: 10,
-        ts: 50,
-        cts: 100,
-        fingerprint: 1,
-        leaving: None,
-    };
-    let asks = told(all.hear(7, &record(2100, 0, true), &DecodedDatagram::Pdu(0, request))?);
-    assert_equal(&rt, asks.map(|remarks| remarks.asks), Some(Some(4)));
-    let copy = told(all.hear(8, &record(2110, 1, true), &DecodedDatagram::Pdu(0, request))?);
-    assert_equal(&rt, copy.map(|remarks| remarks.asks), Some(None));
-    let request = Header {
-        sn: 901,
-        cs: 12,
-        ..request
-    };
-    let asks = told(all.hear(9, &record(2200, 0, true), &DecodedDatagram::Pdu(1, request))?);
-    assert_equal(&rt, asks.map(|remarks| remarks.asks), Some(None));
-    Ok(())
-}
+const TWO_CHANNELS: [(Numbers, Order); 6] = [
+    (
+        (0, false, 0, 10, (100, 0)),
+        (First, First, Some(First), None),
+    ),
+    ((1, false, 0, 10, (100, 0)), (First, Repeat(1), None, None)),
+    (
+        (0, false, 3, 13, (130, 0)),
+        (Ahead(2), Ahead(2), Some(Ahead(2)), None),
+    ),
+    ((1, false, 1, 11, (110, 0)), (Next, Late, Some(Late), None)),
+    (
+        (0, true, 7, 500, (9, 100)),
+        (First, First, Some(First), Some(30)),
+    ),
+    (
+        (0, false, 3, 13, (130, 0)),
+        (Repeat(3), Repeat(3), None, Some(9)),
+    ),
+];
 
 // Two channels: a copy, a gap that is closed late on the other channel, an answer with its age, and a repeat.
 #[test]
 fn follows_two_channels(rt: HostRuntime) -> Result<(), Fail> {
     let mut all = CaptureTest::new(rt.alloc())?;
-    let first = told(all.hear(1, &record(1000, 0, false), &pdu(0, (1, 2), 10, (100, 0)))?);
-    assert_equal(
-        &rt,
-        first,
-        remarks(
-            0,
-            NumberOrder::First,
-            NumberOrder::First,
-            Some(NumberOrder::First),
-            None,
-        ),
-    );
-    let copy = told(all.hear(2, &record(1001, 1, false), &pdu(0, (1, 2), 10, (100, 0)))?);
-    assert_equal(
-        &rt,
-        copy,
-        remarks(1, NumberOrder::First, NumberOrder::Repeat(1), None, None),
-    );
-    let gap = told(all.hear(3, &record(4000, 0, false), &pdu(3, (1, 2), 13, (130, 0)))?);
-    assert_equal(
-        &rt,
-        gap,
-        remarks(
-            0,
-            NumberOrder::Ahead(2),
-            NumberOrder::Ahead(2),
-            Some(NumberOrder::Ahead(2)),
-            None,
-        ),
-    );
-    let late = told(all.hear(4, &record(4100, 1, false), &pdu(1, (1, 2), 11, (110, 0)))?);
-    assert_equal(
-        &rt,
-        late,
-        remarks(
-            1,
-            NumberOrder::Next,
-            NumberOrder::Late,
-            Some(NumberOrder::Late),
-            None,
-        ),
-    );
-    let answer = told(all.hear(5, &record(5000, 0, true), &pdu(7, (2, 1), 500, (9, 100)))?);
-    assert_equal(
-        &rt,
-        answer,
-        remarks(
-            0,
-            NumberOrder::First,
-            NumberOrder::First,
-            Some(NumberOrder::First),
-            Some(30),
-        ),
-    );
-    let again = told(all.hear(6, &record(6000, 0, false), &pdu(3, (1, 2), 13, (130, 0)))?);
-    assert_equal(
-        &rt,
-        again,
-        remarks(
-            0,
-            NumberOrder::Repeat(3),
-            NumberOrder::Repeat(3),
-            None,
-            Some(9),
-        ),
-    );
-    let broken = all.hear(
-        7,
-        &record(7000, 0, false),
-        &DecodedDatagram::NoRed(RedFault::Length),
-    )?;
+    follows(&rt, &mut all)?;
+    let broken = all.hear(0, false, &DecodedDatagram::NoRed(RedFault::Length))?;
     assert_equal(&rt, broken, Remark::NoRed(RedFault::Length));
     assert_equal(&rt, all.following.damaged, 1);
     let wanted = Totals {
@@ -340,38 +325,44 @@ fn follows_two_channels(rt: HostRuntime) -> Result<(), Fail> {
         differing: 0,
         stale: 0,
     };
-    assert_equal(
-        &rt,
-        sum_up(all.following.gone, all.following.connections.as_slice()),
-        wanted,
-    );
+    assert_equal(&rt, all.totals(), wanted);
     assert_equal(&rt, all.following.datagrams, 7);
     Ok(())
+}
+
+fn follows(rt: &impl Abort, all: &mut CaptureTest) -> Result<(), Fail> {
+    for ((channel, back, seq, sn, stamps), order) in TWO_CHANNELS {
+        let ends = if back { (2, 1) } else { (1, 2) };
+        let found = all.remarks(channel, back, &pdu(seq, ends, sn, stamps))?;
+        assert_equal(rt, found, Some(remarks(channel, order)));
+    }
+    Ok(())
+}
+
+/// Adds a PDU of each of so many ends with the same peer.
+fn hear_ends(all: &mut CaptureTest, count: u32) -> Result<(), Fail> {
+    for end in 0..count {
+        let _remark = all.hear(0, false, &pdu(0, (end.wrapping_add(1), 100), 1, (1, 0)))?;
+    }
+    Ok(())
+}
+
+/// One connection of 257 was forgotten, the one of this end, which had this many PDUs.
+fn forgot(rt: &impl Abort, all: &CaptureTest, end: u32, count: u64) {
+    let ends = all.following.connections.as_slice();
+    assert_equal(rt, ends.len(), 256);
+    assert_true(rt, ends.iter().all(|entry| entry.connection.low != end));
+    assert_equal(rt, all.following.forgotten, 1);
+    assert_equal(rt, all.following.gone.heard, count);
+    assert_equal(rt, all.totals().heard, count.wrapping_add(256));
 }
 
 // One connection too many takes the place of the one that was silent longest.
 #[test]
 fn forgets_the_one_silent_longest(rt: HostRuntime) -> Result<(), Fail> {
     let mut all = CaptureTest::new(rt.alloc())?;
-    for end in 1..258u32 {
-        let _remark = all.hear(
-            end as u64,
-            &record(end as u64, 0, false),
-            &pdu(0, (end, 100), 1, (1, 0)),
-        )?;
-    }
-    let ends = all.following.connections.as_slice();
-    assert_equal(&rt, ends.len(), 256);
-    assert_true(&rt, ends.iter().all(|entry| entry.connection.low != 1));
-    assert_equal(&rt, all.following.forgotten, 1);
-    assert_equal(
-        &rt,
-        (
-            all.following.gone.heard,
-            sum_up(all.following.gone, ends).heard,
-        ),
-        (1, 257),
-    );
+    hear_ends(&mut all, 257)?;
+    forgot(&rt, &all, 1, 1);
     Ok(())
 }
 
@@ -379,41 +370,11 @@ fn forgets_the_one_silent_longest(rt: HostRuntime) -> Result<(), Fail> {
 #[test]
 fn forgets_the_one_that_was_left(rt: HostRuntime) -> Result<(), Fail> {
     let mut all = CaptureTest::new(rt.alloc())?;
-    for end in 1..257u32 {
-        let _remark = all.hear(
-            end as u64,
-            &record(end as u64, 0, false),
-            &pdu(0, (end, 100), 1, (1, 0)),
-        )?;
-    }
-    let leaves = Header {
-        kind: Kind::DiscReq,
-        receiver: 100,
-        sender: 30,
-        sn: 2,
-        cs: 0,
-        ts: 2,
-        cts: 0,
-        fingerprint: 2,
-        leaving: Some(Leaving {
-            detail: 0,
-            reason: 0,
-        }),
-    };
-    let _left = all.hear(
-        257,
-        &record(257, 0, false),
-        &DecodedDatagram::Pdu(1, leaves),
-    )?;
-    let _further = all.hear(258, &record(258, 0, false), &pdu(0, (257, 100), 1, (1, 0)))?;
-    let ends = all.following.connections.as_slice();
-    assert_equal(&rt, ends.len(), 256);
-    assert_true(&rt, ends.iter().all(|entry| entry.connection.low != 30));
-    assert_equal(
-        &rt,
-        (all.following.forgotten, all.following.gone.heard),
-        (1, 2),
-    );
+    hear_ends(&mut all, 256)?;
+    let leaves = leaving(1, (30, 100), 2, (2, 0));
+    let further = pdu(0, (257, 100), 1, (1, 0));
+    all.hear_all(&[(0, false, leaves), (0, false, further)])?;
+    forgot(&rt, &all, 30, 2);
     Ok(())
 }
 
@@ -421,17 +382,19 @@ fn forgets_the_one_that_was_left(rt: HostRuntime) -> Result<(), Fail> {
 #[test]
 fn goes_round_and_begins_anew(rt: HostRuntime) {
     let mut window = Window::new();
-    assert_equal(&rt, note(&mut window, u32::MAX, 1, 0), NumberOrder::First);
-    assert_equal(&rt, note(&mut window, 0, 2, 0), NumberOrder::Next);
-    assert_equal(
-        &rt,
-        note(&mut window, 65_536, 3, 0),
-        NumberOrder::Ahead(65_535),
-    );
-    assert_equal(&rt, note(&mut window, 4_000_000, 4, 0), NumberOrder::Anew);
-    assert_equal(&rt, note(&mut window, 4_000_001, 5, 0), NumberOrder::Next);
-    assert_equal(&rt, note(&mut window, 0, 6, 0), NumberOrder::Stale);
-    assert_equal(&rt, note(&mut window, 4_000_002, 7, 0), NumberOrder::Next);
+    let cases = [
+        (u32::MAX, First),
+        (0, Next),
+        (65_536, Ahead(65_535)),
+        (4_000_000, Anew),
+        (4_000_001, Next),
+        (0, Stale),
+        (4_000_002, Next),
+    ];
+    for (place, (number, wanted)) in cases.iter().enumerate() {
+        let line = (place as u64).wrapping_add(1);
+        assert_equal(&rt, note(&mut window, *number, line, 0), *wanted);
+    }
     assert_equal(&rt, (window.missing, window.stale), (65_535, 1));
 }
 
@@ -440,108 +403,76 @@ fn goes_round_and_begins_anew(rt: HostRuntime) {
 #[test]
 fn keeps_the_newest(rt: HostRuntime) -> Result<(), Fail> {
     let mut window = Window::new();
-    assert_equal(&rt, note(&mut window, 60, 1, 0), NumberOrder::First);
-    assert_equal(&rt, judge(&window, 59, 0), NumberOrder::Stale);
-    assert_equal(&rt, note(&mut window, 100, 2, 7), NumberOrder::Ahead(39));
-    assert_equal(&rt, judge(&window, 68, 0), NumberOrder::Stale);
-    assert_equal(&rt, note(&mut window, 69, 3, 0), NumberOrder::Late);
-    assert_equal(&rt, judge(&window, 100, 7), NumberOrder::Repeat(2));
-    assert_equal(&rt, judge(&window, 100, 8), NumberOrder::Differs(2));
+    assert_equal(&rt, note(&mut window, 60, 1, 0), First);
+    assert_equal(&rt, judge(&window, 59, 0), Stale);
+    assert_equal(&rt, note(&mut window, 100, 2, 7), Ahead(39));
+    assert_equal(&rt, judge(&window, 68, 0), Stale);
+    assert_equal(&rt, note(&mut window, 69, 3, 0), Late);
+    assert_equal(&rt, judge(&window, 100, 7), Repeat(2));
+    assert_equal(&rt, judge(&window, 100, 8), Differs(2));
     Ok(())
-}
-
-fn opening(seq: u32, sn: u32, ts: u32) -> DecodedDatagram {
-    DecodedDatagram::Pdu(
-        seq,
-        Header {
-            kind: Kind::ConnReq,
-            receiver: 2,
-            sender: 1,
-            sn,
-            cs: 0,
-            ts,
-            cts: 0,
-            fingerprint: ts as u64,
-            leaving: None,
-        },
-    )
 }
 
 // A process that was started anew begins with the same octets: behind another PDU of its end on that channel they open.
 #[test]
 fn opens_with_the_same_octets(rt: HostRuntime) -> Result<(), Fail> {
-    let mut all = CaptureTest::new(rt.alloc())?;
-    for line in [1, 3u64] {
-        let first = told(all.hear(line, &record(line, 0, false), &opening(0, 900, 7))?);
-        assert_true(&rt, first.is_some_and(|remarks| remarks.opens));
-        let beat = told(all.hear(
-            line + 1,
-            &record(line, 0, false),
-            &pdu(1, (1, 2), 901, (9, 0)),
-        )?);
-        assert_true(
-            &rt,
-            beat.is_some_and(|remarks| remarks.together == NumberOrder::Next),
-        );
+    opens_twice(&rt, &mut CaptureTest::new(rt.alloc())?)
+}
+
+fn opens_twice(rt: &impl Abort, all: &mut CaptureTest) -> Result<(), Fail> {
+    let opens = opening(0, 900, 7);
+    let beat = pdu(1, (1, 2), 901, (9, 0));
+    let cases = [
+        (0, opens, (true, First)),
+        (0, beat, (false, Next)),
+        (0, opens, (true, First)),
+        (0, beat, (false, Next)),
+        (1, opens, (false, Repeat(3))),
+    ];
+    for (channel, heard, wanted) in cases {
+        let remarks = all.remarks(channel, false, &heard)?;
+        let found = remarks.map(|remarks| (remarks.opens, remarks.together));
+        assert_equal(rt, found, Some(wanted));
     }
-    let copy = told(all.hear(5, &record(5, 1, false), &opening(0, 900, 7))?);
-    assert_true(
-        &rt,
-        copy.is_some_and(|remarks| !remarks.opens && remarks.together == NumberOrder::Repeat(3)),
-    );
     Ok(())
 }
 
 // A copy more than 31 numbers late changes nothing; a new ConnReq begins all numbers, and a copy of it does not.
 #[test]
 fn opens_again(rt: HostRuntime) -> Result<(), Fail> {
-    let mut all = CaptureTest::new(rt.alloc())?;
+    begins_numbers(&rt, &mut CaptureTest::new(rt.alloc())?)
+}
+
+fn begins_numbers(rt: &impl Abort, all: &mut CaptureTest) -> Result<(), Fail> {
     for seq in 0..50u32 {
-        let at = seq as u64 + 1;
-        let _remark = all.hear(at, &record(at, 0, false), &pdu(seq, (1, 2), seq, (100, 0)))?;
+        let _remark = all.hear(0, false, &pdu(seq, (1, 2), seq, (100, 0)))?;
     }
-    let stale = told(all.hear(51, &record(51, 1, false), &pdu(3, (1, 2), 3, (100, 0)))?);
-    assert_equal(
-        &rt,
-        stale,
-        remarks(1, NumberOrder::First, NumberOrder::Stale, None, None),
-    );
-    let next = told(all.hear(52, &record(52, 0, false), &pdu(50, (1, 2), 50, (150, 0)))?);
-    assert_equal(
-        &rt,
-        next,
-        remarks(
-            0,
-            NumberOrder::Next,
-            NumberOrder::Next,
-            Some(NumberOrder::Next),
-            None,
-        ),
-    );
-    let fresh = Remarks {
+    let opens = Remarks {
         opens: true,
-        route: 0,
-        channel: Some(NumberOrder::First),
-        together: NumberOrder::First,
-        sequence: Some(NumberOrder::First),
-        resent: false,
-        damaged: None,
-        asks: None,
-        age: None,
         waits: Some(0),
-        leaving: None,
+        ..remarks(0, (First, First, Some(First), None))
     };
-    assert_equal(
-        &rt,
-        told(all.hear(53, &record(53, 0, false), &opening(0, 900, 7))?),
-        Some(fresh),
-    );
-    let copy = told(all.hear(54, &record(54, 1, false), &opening(0, 900, 7))?);
-    assert_equal(
-        &rt,
-        copy,
-        remarks(1, NumberOrder::First, NumberOrder::Repeat(53), None, None),
-    );
+    let cases = [
+        (
+            1,
+            pdu(3, (1, 2), 3, (100, 0)),
+            remarks(1, (First, Stale, None, None)),
+        ),
+        (
+            0,
+            pdu(50, (1, 2), 50, (150, 0)),
+            remarks(0, (Next, Next, Some(Next), None)),
+        ),
+        (0, opening(0, 900, 7), opens),
+        (
+            1,
+            opening(0, 900, 7),
+            remarks(1, (First, Repeat(53), None, None)),
+        ),
+    ];
+    for (channel, heard, wanted) in cases {
+        assert_equal(rt, all.remarks(channel, false, &heard)?, Some(wanted));
+    }
     let wanted = Totals {
         heard: 52,
         missing: 0,
@@ -550,51 +481,28 @@ fn opens_again(rt: HostRuntime) -> Result<(), Fail> {
         differing: 0,
         stale: 1,
     };
-    assert_equal(
-        &rt,
-        sum_up(all.following.gone, all.following.connections.as_slice()),
-        wanted,
-    );
+    assert_equal(rt, all.totals(), wanted);
     Ok(())
 }
 
 // A client that heard nothing leaves directly behind its ConnReq and confirms nothing; a later DiscReq confirms.
 #[test]
 fn ages_no_goodbye_that_confirms_nothing(rt: HostRuntime) -> Result<(), Fail> {
-    let mut all = CaptureTest::new(rt.alloc())?;
-    let server = DecodedDatagram::Pdu(9, leaving((2, 1), u32::MAX, (1900, 0)));
-    let _remark = all.hear(1, &record(1, 0, true), &server)?;
-    let _remark = all.hear(2, &record(2, 0, false), &opening(0, u32::MAX, 1600))?;
-    let unheard = told(all.hear(
-        3,
-        &record(3, 0, false),
-        &DecodedDatagram::Pdu(1, leaving((1, 2), 0, (1950, 0))),
-    )?);
-    assert_true(&rt, unheard.is_some_and(|remarks| remarks.age.is_none()));
-    let heard = told(all.hear(
-        4,
-        &record(4, 0, false),
-        &DecodedDatagram::Pdu(2, leaving((1, 2), 1, (1960, 0))),
-    )?);
-    assert_true(&rt, heard.is_some_and(|remarks| remarks.age == Some(1900)));
-    Ok(())
+    ages(&rt, &mut CaptureTest::new(rt.alloc())?)
 }
 
-/// A DiscReq of an end.
-fn leaving(ends: (u32, u32), sn: u32, stamps: (u32, u32)) -> Header {
-    let (sender, receiver) = ends;
-    let (ts, cts) = stamps;
-    Header {
-        kind: Kind::DiscReq,
-        receiver,
-        sender,
-        sn,
-        cs: 0,
-        ts,
-        cts,
-        fingerprint: ts as u64,
-        leaving: None,
+fn ages(rt: &impl Abort, all: &mut CaptureTest) -> Result<(), Fail> {
+    let cases = [
+        (true, leaving(9, (2, 1), u32::MAX, (1900, 0)), None),
+        (false, opening(0, u32::MAX, 1600), None),
+        (false, leaving(1, (1, 2), 0, (1950, 0)), None),
+        (false, leaving(2, (1, 2), 1, (1960, 0)), Some(1900)),
+    ];
+    for (back, heard, age) in cases {
+        let remarks = all.remarks(0, back, &heard)?;
+        assert_equal(rt, remarks.map(|remarks| remarks.age), Some(age));
     }
+    Ok(())
 }
 
 // A datagram that is no PDU counts on its channel, for the end whose address sent it; where two connections have that
@@ -602,145 +510,106 @@ fn leaving(ends: (u32, u32), sn: u32, stamps: (u32, u32)) -> Header {
 #[test]
 fn counts_damage_by_channel(rt: HostRuntime) -> Result<(), Fail> {
     let mut all = CaptureTest::new(rt.alloc())?;
-    let _remark = all.hear(1, &record(1, 0, false), &pdu(0, (1, 2), 10, (100, 0)))?;
-    let _remark = all.hear(2, &record(2, 1, true), &pdu(0, (2, 1), 20, (200, 100)))?;
-    let _remark = all.hear(3, &record(3, 3, false), &pdu(1, (1, 2), 11, (110, 0)))?;
-    let _remark = all.hear(4, &record(4, 1, true), &pdu(0, (5, 4), 30, (300, 0)))?;
-    let broken = DecodedDatagram::NoRed(RedFault::Length);
-    let _remark = all.hear(5, &record(5, 0, true), &broken)?;
-    let _remark = all.hear(6, &record(6, 1, false), &broken)?;
-    let _remark = all.hear(7, &record(7, 1, false), &broken)?;
-    let _remark = all.hear(8, &record(8, 2, false), &broken)?;
-    let _remark = all.hear(9, &record(9, 3, false), &broken)?;
-    assert_equal(&rt, all.following.damaged, 5);
-    match all.following.connections.as_slice() {
-        [first, second] => {
-            let (first, second) = (&first.connection, &second.connection);
-            assert_equal(&rt, first.from_low.damaged, [0, 0, 1, 0]);
-            assert_equal(&rt, first.from_high.damaged, [1, 0, 0, 0]);
-            assert_equal(&rt, second.from_low.damaged, [2, 0, 0, 0]);
-            assert_equal(&rt, second.from_high.damaged, [0, 0, 0, 0]);
-        }
-        _ => assert_true(&rt, false),
+    all.hear_all(&[
+        (0, false, pdu(0, (1, 2), 10, (100, 0))),
+        (1, true, pdu(0, (2, 1), 20, (200, 100))),
+        (3, false, pdu(1, (1, 2), 11, (110, 0))),
+        (1, true, pdu(0, (5, 4), 30, (300, 0))),
+    ])?;
+    for (channel, back) in [(0, true), (1, false), (1, false), (2, false), (3, false)] {
+        let broken = DecodedDatagram::NoRed(RedFault::Length);
+        let _remark = all.hear(channel, back, &broken)?;
     }
+    assert_equal(&rt, all.following.damaged, 5);
+    assert_equal(&rt, damage(&all, 0), Some([[0, 0, 1, 0], [1, 0, 0, 0]]));
+    assert_equal(&rt, damage(&all, 1), Some([[2, 0, 0, 0], [0, 0, 0, 0]]));
+    assert_equal(&rt, damage(&all, 2), None);
     Ok(())
 }
 
-/// A PDU of an end with these SN and CS, TS and CTS; its redundancy number is the last digit of its SN.
-fn confirming(
-    kind: Kind,
-    ends: (u32, u32),
-    numbers: (u32, u32),
-    stamps: (u32, u32),
-) -> DecodedDatagram {
-    let (sender, receiver) = ends;
-    let (sn, cs) = numbers;
-    let (ts, cts) = stamps;
-    DecodedDatagram::Pdu(
-        sn % 10,
-        Header {
-            kind,
-            receiver,
-            sender,
-            sn,
-            cs,
-            ts,
-            cts,
-            fingerprint: ts as u64,
-            leaving: None,
-        },
-    )
+/// How many damaged datagrams each end of a connection has on each channel.
+fn damage(all: &CaptureTest, place: usize) -> Option<[[u64; 4]; 2]> {
+    let connection = &all.following.connections.as_slice().get(place)?.connection;
+    Some([connection.from_low.damaged, connection.from_high.damaged])
 }
+
+/// A PDU on a channel: its type, its sender, SN and CS, TS and CTS.
+type Confirming = (u8, Kind, u32, (u32, u32), (u32, u32));
+
+/// PDUs, each with the age and the wait that are told of it.
+const WAITS: [(Confirming, Option<u32>, Option<u32>); 10] = [
+    ((0, Kind::ConnReq, 1, (900, 0), (5000, 0)), None, Some(0)),
+    (
+        (0, Kind::ConnResp, 2, (10, 900), (70_000, 5000)),
+        Some(0),
+        Some(0),
+    ),
+    (
+        (0, Kind::Heartbeat, 1, (901, 10), (5300, 70_000)),
+        Some(0),
+        Some(300),
+    ),
+    (
+        (0, Kind::Heartbeat, 2, (11, 901), (70_300, 5300)),
+        Some(0),
+        Some(300),
+    ),
+    (
+        (0, Kind::Heartbeat, 2, (12, 901), (70_600, 5300)),
+        Some(0),
+        Some(600),
+    ),
+    (
+        (0, Kind::Heartbeat, 1, (902, 11), (5900, 70_300)),
+        Some(300),
+        Some(600),
+    ),
+    (
+        (0, Kind::DiscReq, 1, (903, 11), (7100, 70_300)),
+        Some(300),
+        Some(1800),
+    ),
+    (
+        (1, Kind::DiscReq, 1, (903, 11), (7100, 70_300)),
+        Some(300),
+        None,
+    ),
+    ((0, Kind::ConnReq, 1, (40, 0), (9000, 0)), None, Some(0)),
+    (
+        (0, Kind::DiscReq, 2, (13, 902), (72_000, 5900)),
+        None,
+        Some(2000),
+    ),
+];
 
 // An end waits from its opening on, and then from the timestamp that the PDU confirms which it took last: one that it did
 // not take does not count. A copy has no wait, and behind a new opening a timestamp from before it has no age.
 #[test]
 fn waits_for_a_confirmation(rt: HostRuntime) -> Result<(), Fail> {
     let mut all = CaptureTest::new(rt.alloc())?;
-    let il = (1u32, 2u32);
-    let fe = (2u32, 1u32);
-    let cases = [
-        (
-            0,
-            confirming(Kind::ConnReq, il, (900, 0), (5000, 0)),
-            None,
-            Some(0),
-        ),
-        (
-            0,
-            confirming(Kind::ConnResp, fe, (10, 900), (70_000, 5000)),
-            Some(0),
-            Some(0),
-        ),
-        (
-            0,
-            confirming(Kind::Heartbeat, il, (901, 10), (5300, 70_000)),
-            Some(0),
-            Some(300),
-        ),
-        (
-            0,
-            confirming(Kind::Heartbeat, fe, (11, 901), (70_300, 5300)),
-            Some(0),
-            Some(300),
-        ),
-        (
-            0,
-            confirming(Kind::Heartbeat, fe, (12, 901), (70_600, 5300)),
-            Some(0),
-            Some(600),
-        ),
-        (
-            0,
-            confirming(Kind::Heartbeat, il, (902, 11), (5900, 70_300)),
-            Some(300),
-            Some(600),
-        ),
-        (
-            0,
-            confirming(Kind::DiscReq, il, (903, 11), (7100, 70_300)),
-            Some(300),
-            Some(1800),
-        ),
-        (
-            1,
-            confirming(Kind::DiscReq, il, (903, 11), (7100, 70_300)),
-            Some(300),
-            None,
-        ),
-        (
-            0,
-            confirming(Kind::ConnReq, il, (40, 0), (9000, 0)),
-            None,
-            Some(0),
-        ),
-        (
-            0,
-            confirming(Kind::DiscReq, fe, (13, 902), (72_000, 5900)),
-            None,
-            Some(2000),
-        ),
-    ];
-    let mut line = 0u64;
-    for (channel, heard, age, waits) in cases {
-        let back = matches!(heard, DecodedDatagram::Pdu(_, header) if header.sender == 2);
-        line = line.wrapping_add(1);
-        let remarks = told(all.hear(line, &record(line, channel, back), &heard)?);
-        assert_true(
-            &rt,
-            remarks.is_some_and(|remarks| remarks.age == age && remarks.waits == waits),
-        );
-    }
-    match all.following.connections.as_slice() {
-        [pair] => {
-            let pair = &pair.connection;
-            assert_equal(
-                &rt,
-                (pair.from_low.tally.longest, pair.from_high.tally.longest),
-                (1800, 2000),
-            );
-        }
-        _ => assert_true(&rt, false),
+    waits(&rt, &mut all)?;
+    assert_equal(&rt, longest_waits(&all), Some((1800, 2000)));
+    Ok(())
+}
+
+fn waits(rt: &impl Abort, all: &mut CaptureTest) -> Result<(), Fail> {
+    for ((channel, kind, sender, numbers, stamps), age, waits) in WAITS {
+        let ends = if sender == 1 { (1, 2) } else { (2, 1) };
+        let heard = DecodedDatagram::Pdu(numbers.0 % 10, header(kind, ends, numbers, stamps));
+        let remarks = all.remarks(channel, sender == 2, &heard)?;
+        let found = remarks.map(|remarks| (remarks.age, remarks.waits));
+        assert_equal(rt, found, Some((age, waits)));
     }
     Ok(())
+}
+
+/// The longest waits of both ends of the one connection.
+fn longest_waits(all: &CaptureTest) -> Option<(u32, u32)> {
+    match all.following.connections.as_slice() {
+        [pair] => {
+            let (low, high) = (&pair.connection.from_low, &pair.connection.from_high);
+            Some((low.tally.longest, high.tally.longest))
+        }
+        _ => None,
+    }
 }

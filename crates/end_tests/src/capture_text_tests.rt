@@ -7,7 +7,7 @@ use capture_text::{
 };
 use md4::INITIAL_VALUE;
 use safe_pdu::{CodeLength, CodeRule, Kind, Leaving};
-use std::alloc::Allocator;
+use std::alloc::{Allocator, Global};
 use std::io::Write;
 use std::process::Abort;
 use std::test::Fail;
@@ -55,20 +55,22 @@ fn heartbeat(seq: u32, numbers: (u32, u32), stamps: (u32, u32)) -> Pdu {
     plain(Kind::Heartbeat, seq, numbers, stamps, "")
 }
 
-/// Puts the front of a line: the time in microseconds, and the addresses of a channel, from the first end or back.
+/// Puts the front of a line: the time in microseconds, and the addresses of the first or the second channel, from the first end or back.
 fn put_front<A: Allocator>(
     lines: &mut Vec<u8, A>,
     time: u32,
     channel: u8,
     back: bool,
 ) -> Result<(), Fail> {
-    let (from, to) = if back { (2, 1) } else { (1, 2) };
+    let way = match (channel, back) {
+        (0, false) => "10.0.0.1\t8001\t10.0.0.2\t8002",
+        (0, true) => "10.0.0.2\t8002\t10.0.0.1\t8001",
+        (_, false) => "10.0.1.1\t8001\t10.0.1.2\t8002",
+        (_, true) => "10.0.1.2\t8002\t10.0.1.1\t8001",
+    };
     let seconds = time / 1_000_000;
     let micros = time % 1_000_000;
-    write!(
-        lines,
-        "170000000{seconds}.{micros:06}000\t10.0.{channel}.{from}\t800{from}\t10.0.{channel}.{to}\t800{to}\t"
-    )?;
+    write!(lines, "170000000{seconds}.{micros:06}000\t{way}\t")?;
     Ok(())
 }
 
@@ -105,6 +107,15 @@ fn put<A: Allocator>(
 /// A line: the time in microseconds, the channel, whether it goes back, and its PDU.
 type Line = (u32, u8, bool, Pdu);
 
+/// Returns the text of lines of PDUs without codes.
+fn text_of(alloc: Global, lines: &[Line]) -> Result<Vec<u8>, Fail> {
+    let mut text = Vec::new(alloc);
+    for (time, channel, back, pdu) in lines {
+        put(&mut text, *time, *channel, *back, *pdu)?;
+    }
+    Ok(text)
+}
+
 /// Follows the lines of PDUs without codes, and compares what is printed.
 fn follows(
     rt: &(impl AllocGlobal + Abort),
@@ -112,10 +123,7 @@ fn follows(
     asked: &FollowOptions,
     wanted: &str,
 ) -> Result<(), Fail> {
-    let mut text = Vec::new(rt.alloc());
-    for (time, channel, back, pdu) in lines {
-        put(&mut text, *time, *channel, *back, *pdu)?;
-    }
+    let text = text_of(rt.alloc(), lines)?;
     prints(rt, text.as_slice(), asked, FollowStatus::Done, wanted, "")
 }
 
@@ -157,43 +165,22 @@ fn asked(length: CodeLength, only: Option<Remarkable>) -> FollowOptions {
     }
 }
 
-// The events of an opening, a loss on one channel, a long wait, a copy, a leaving, and a datagram that is cut off.
-#[test]
-fn tells_events(rt: HostRuntime) -> Result<(), Fail> {
-    let opens = opening(Kind::ConnReq, (100, 0), (1000, 0));
-    let granted = opening(Kind::ConnResp, (500, 100), (7000, 1000));
-    let late = heartbeat(2, (102, 500), (2200, 7000));
-    let leaves = plain(Kind::DiscReq, 3, (103, 500), (2800, 7000), "00000300");
-    let mut text = Vec::new(rt.alloc());
-    put(&mut text, 0, 0, false, opens)?;
-    put(&mut text, 50, 1, false, opens)?;
-    put(&mut text, 10_000, 0, true, granted)?;
-    put(&mut text, 1_200_000, 1, false, late)?;
-    put(&mut text, 1_800_000, 0, false, leaves)?;
-    put(&mut text, 1_800_040, 1, false, leaves)?;
-    put_front(&mut text, 1_900_000, 0, true)?;
-    text.extend_from_slice(b"00\n")?;
-    let choice = FollowOptions {
-        form: OutputForm::Events,
-        only: Some(Remarkable::Fault),
-        ..asked(CodeLength::Zero, None)
-    };
+/// Follows a text to its end, and compares the beginning of what is printed.
+fn begins(rt: &(impl AllocGlobal + Abort), text: &[u8], asked: &FollowOptions, wanted: &str) {
     let mut out = Vec::new(rt.alloc());
     let mut err = Vec::new(rt.alloc());
-    let ended = run(rt.alloc(), text.as_slice(), &choice, &mut out, &mut err);
-    assert_equal(&rt, ended, FollowStatus::Done);
-    let wanted = "\
+    let ended = run(rt.alloc(), text, asked, &mut out, &mut err);
+    assert_equal(rt, ended, FollowStatus::Done);
+    assert_true(rt, out.as_slice().starts_with(wanted.as_bytes()));
+    assert_true(rt, err.as_slice().is_empty());
+}
+
+const DAMAGE: &str = "\
 {\"event\":\"damaged\",\"time\":1.900000,\"line\":7,\"source\":\"10.0.0.2:8002\",\"destination\":\"10.0.0.1:8001\",\
 \"layer\":\"red\",\"fault\":1,\"name\":\"Short\"}
 {\"first\":1700000000000000,\"t_max\":1800,";
-    assert_true(&rt, out.as_slice().starts_with(wanted.as_bytes()));
-    let choice = FollowOptions {
-        only: None,
-        ..choice
-    };
-    let mut out = Vec::new(rt.alloc());
-    let _ended = run(rt.alloc(), text.as_slice(), &choice, &mut out, &mut err);
-    let wanted = "\
+
+const EVENTS: &str = "\
 {\"event\":\"opens\",\"time\":0.000000,\"line\":1,\"from\":1,\"to\":2,\"channel\":1}
 {\"event\":\"up\",\"time\":0.010000,\"line\":3,\"from\":2,\"to\":1,\"channel\":1}
 {\"event\":\"lost\",\"time\":1.200000,\"line\":4,\"from\":1,\"to\":2,\"channel\":2,\"on_every_channel\":false,\"missing\":1}
@@ -205,8 +192,32 @@ fn tells_events(rt: HostRuntime) -> Result<(), Fail> {
 {\"event\":\"damaged\",\"time\":1.900000,\"line\":7,\"source\":\"10.0.0.2:8002\",\"destination\":\"10.0.0.1:8001\",\
 \"layer\":\"red\",\"fault\":1,\"name\":\"Short\"}
 {\"first\":1700000000000000,\"t_max\":1800,";
-    assert_true(&rt, out.as_slice().starts_with(wanted.as_bytes()));
-    assert_true(&rt, err.as_slice().is_empty());
+
+// The events of an opening, a loss on one channel, a long wait, a copy, a leaving, and a datagram that is cut off.
+#[test]
+fn tells_events(rt: HostRuntime) -> Result<(), Fail> {
+    let opens = opening(Kind::ConnReq, (100, 0), (1000, 0));
+    let granted = opening(Kind::ConnResp, (500, 100), (7000, 1000));
+    let late = heartbeat(2, (102, 500), (2200, 7000));
+    let leaves = plain(Kind::DiscReq, 3, (103, 500), (2800, 7000), "00000300");
+    let lines = [
+        (0, 0, false, opens),
+        (50, 1, false, opens),
+        (10_000, 0, true, granted),
+        (1_200_000, 1, false, late),
+        (1_800_000, 0, false, leaves),
+        (1_800_040, 1, false, leaves),
+    ];
+    let mut text = text_of(rt.alloc(), &lines)?;
+    put_front(&mut text, 1_900_000, 0, true)?;
+    text.extend_from_slice(b"00\n")?;
+    for (only, wanted) in [(Some(Remarkable::Fault), DAMAGE), (None, EVENTS)] {
+        let choice = FollowOptions {
+            form: OutputForm::Events,
+            ..asked(CodeLength::Zero, only)
+        };
+        begins(&rt, text.as_slice(), &choice, wanted);
+    }
     Ok(())
 }
 
@@ -332,21 +343,17 @@ sum all datagrams 5 PDUs 5 missing 0 repeats 0 late 0 differs 0 stale 0 damaged 
     follows(&rt, &lines, &asked, wanted)
 }
 
+const FORGED: &str = "\
+1700000000.000000000\t10.0.0.1\t8001\t10.0.0.2\t8002\t\
+2c0000000700000024004c18020000000100000065000000f40100000a000000050000000ded786fc4bf93f2
+1700000000.000500000\t10.0.0.1\t8001\t10.0.0.2\t8002\t\
+2c0000000800000024004c18020000000100000066000000f40100000a000000050000000ded786fc4bf93f2
+what
+";
+
 // A datagram under the code of another one is damaged, and a line that is none is named.
 #[test]
 fn names_what_is_forged(rt: HostRuntime) -> Result<(), Fail> {
-    let mut lines = Vec::new(rt.alloc());
-    put_front(&mut lines, 0, 0, false)?;
-    writeln!(
-        lines,
-        "2c0000000700000024004c18020000000100000065000000f40100000a000000050000000ded786fc4bf93f2"
-    )?;
-    put_front(&mut lines, 500, 0, false)?;
-    writeln!(
-        lines,
-        "2c0000000800000024004c18020000000100000066000000f40100000a000000050000000ded786fc4bf93f2"
-    )?;
-    writeln!(lines, "what")?;
     let wanted = "\
 0.000000 line 1 1->2 ch 1 red 7 HB sn 101 cs 500 ts 10 cts 5
 0.000500 line 2 10.0.0.1:8001->10.0.0.2:8002 red 8 safe fault 3 Code
@@ -365,56 +372,52 @@ sum all datagrams 2 PDUs 1 missing 0 repeats 0 late 0 differs 0 stale 0 damaged 
 ";
     let fault = "line 3: unreadable: not six fields\n";
     let asked = asked(CodeLength::Eight, None);
-    prints(
-        &rt,
-        lines.as_slice(),
-        &asked,
-        FollowStatus::Unreadable,
-        wanted,
-        fault,
-    )
+    let text = FORGED.as_bytes();
+    prints(&rt, text, &asked, FollowStatus::Unreadable, wanted, fault)
 }
+
+const QUIET: Remarks = Remarks {
+    opens: false,
+    route: 0,
+    channel: Some(NumberOrder::First),
+    together: NumberOrder::Next,
+    sequence: Some(NumberOrder::Next),
+    resent: false,
+    damaged: None,
+    asks: None,
+    age: None,
+    waits: Some(899),
+    leaving: None,
+};
+
+const LOUD: Remarks = Remarks {
+    opens: true,
+    route: 0,
+    channel: Some(NumberOrder::Repeat(12)),
+    together: NumberOrder::Late,
+    sequence: Some(NumberOrder::Ahead(2)),
+    resent: true,
+    damaged: Some(10),
+    asks: Some(8),
+    age: Some(45),
+    waits: Some(900),
+    leaving: Some(Leaving {
+        detail: 3,
+        reason: 4,
+    }),
+};
 
 // Nothing is said of a PDU that follows as it should, and each remark has its words.
 #[test]
 fn writes_remarks(rt: HostRuntime) -> Result<(), Fail> {
-    let mut text = Vec::new(rt.alloc());
-    let quiet = Remarks {
-        opens: false,
-        route: 0,
-        channel: Some(NumberOrder::First),
-        together: NumberOrder::Next,
-        sequence: Some(NumberOrder::Next),
-        resent: false,
-        damaged: None,
-        asks: None,
-        age: None,
-        waits: Some(899),
-        leaving: None,
-    };
-    write_remarks(&mut text, 1800, &quiet)?;
-    assert_true(&rt, text.is_empty());
-    let loud = Remarks {
-        opens: true,
-        route: 0,
-        channel: Some(NumberOrder::Repeat(12)),
-        together: NumberOrder::Late,
-        sequence: Some(NumberOrder::Ahead(2)),
-        resent: true,
-        damaged: Some(10),
-        asks: Some(8),
-        age: Some(45),
-        waits: Some(900),
-        leaving: Some(Leaving {
-            detail: 3,
-            reason: 4,
-        }),
-    };
-    write_remarks(&mut text, 1800, &loud)?;
-    let wanted =
+    let loud =
         " opens channel repeat of line 12 all late sn ahead 2 resent after damage in line 10 \
 asks for line 8 age 45 ms waits 900 ms reason 4 service not allowed detail 3 not of this pair";
-    assert_true(&rt, text.as_slice() == wanted.as_bytes());
+    for (remarks, wanted) in [(QUIET, ""), (LOUD, loud)] {
+        let mut text = Vec::new(rt.alloc());
+        write_remarks(&mut text, 1800, &remarks)?;
+        assert_true(&rt, text.as_slice() == wanted.as_bytes());
+    }
     Ok(())
 }
 

@@ -1,6 +1,7 @@
 use crate::assertions::{assert_equal, assert_equal_at, assert_true, assert_true_at};
 use channels::{ChannelFault, Channels, MemChannels, MemoryFault};
 use linked_list_allocator::LocalHeap;
+use std::process::Abort;
 use std::test::Fail;
 use std::time::Duration;
 use udp_channels::{Place, Refusal, UdpFault, Watch, open_udp};
@@ -8,79 +9,86 @@ use udp_channels::{Place, Refusal, UdpFault, Watch, open_udp};
 // Two datagrams are kept as they were sent; a third finds no room, until there is more; one of 1,259 octets is too long.
 #[test]
 fn keeps_what_is_sent(rt: HostRuntime) -> Result<(), Fail> {
-    let mut channels = MemChannels::new(rt.alloc(), 2)?;
-    assert_equal(&rt, channels.send(1, &[1, 2, 3]), Ok(()));
-    assert_equal(&rt, channels.send(4, &[]), Ok(()));
-    assert_equal(&rt, channels.send(2, &[9]), Err(ChannelFault::Room));
+    keeps(&rt, &mut MemChannels::new(rt.alloc(), 2)?)
+}
+
+fn keeps(rt: &impl Abort, channels: &mut MemChannels) -> Result<(), Fail> {
+    assert_equal(rt, channels.send(1, &[1, 2, 3]), Ok(()));
+    assert_equal(rt, channels.send(4, &[]), Ok(()));
+    assert_equal(rt, channels.send(2, &[9]), Err(ChannelFault::Room));
     channels.reserve(1)?;
-    assert_equal(&rt, channels.send(1, &[7; 1259]), Err(ChannelFault::Room));
-    assert_equal(&rt, channels.send(1, &[7; 1258]), Ok(()));
-    for (number, channel, octets) in [
-        (0, 1, [1, 2, 3].as_slice()),
-        (1, 4, [].as_slice()),
-        (2, 1, [7; 1258].as_slice()),
-    ] {
-        let (found, datagram) = channels.sent(number).ok_or("not sent")?;
-        assert_equal_at(&rt, number, found, channel);
-        assert_equal_at(&rt, number, datagram, octets);
+    assert_equal(rt, channels.send(1, &[7; 1259]), Err(ChannelFault::Room));
+    assert_equal(rt, channels.send(1, &[7; 1258]), Ok(()));
+    let sent: [(usize, &[u8]); 3] = [(1, &[1, 2, 3]), (4, &[]), (1, &[7; 1258])];
+    for (number, wanted) in sent.iter().enumerate() {
+        assert_true_at(rt, number, channels.sent(number) == Some(*wanted));
     }
-    assert_true(&rt, channels.sent(3).is_none());
+    assert_true(rt, channels.sent(3).is_none());
     Ok(())
 }
 
 // What was put in is answered in order, cut to the buffer; an answer that nothing has come uses up room too.
 #[test]
 fn answers_what_was_put_in(rt: HostRuntime) -> Result<(), Fail> {
-    let mut channels = MemChannels::new(rt.alloc(), 4)?;
+    answers(&rt, &mut MemChannels::new(rt.alloc(), 4)?)
+}
+
+fn answers(rt: &impl Abort, channels: &mut MemChannels) -> Result<(), Fail> {
     let mut buffer = [0; 4];
     channels.add(3, &[5, 6])?;
     channels.add(1, &[1, 2, 3, 4, 5, 6])?;
-    assert_equal(&rt, channels.receive(&mut buffer), Ok(Some((3, 2))));
-    assert_equal(&rt, buffer, [5, 6, 0, 0]);
-    assert_equal(&rt, channels.receive(&mut buffer), Ok(Some((1, 4))));
-    assert_equal(&rt, buffer, [1, 2, 3, 4]);
-    assert_equal(&rt, channels.receive(&mut buffer), Ok(None));
+    for (came, octets) in [((3, 2), [5, 6, 0, 0]), ((1, 4), [1, 2, 3, 4])] {
+        assert_equal(rt, channels.receive(&mut buffer), Ok(Some(came)));
+        assert_equal(rt, buffer, octets);
+    }
+    assert_equal(rt, channels.receive(&mut buffer), Ok(None));
     channels.add(2, &[8])?;
-    assert_equal(&rt, channels.receive(&mut buffer), Ok(Some((2, 1))));
-    assert_equal(&rt, buffer, [8, 2, 3, 4]);
+    assert_equal(rt, channels.receive(&mut buffer), Ok(Some((2, 1))));
+    assert_equal(rt, buffer, [8, 2, 3, 4]);
     channels.add(2, &[9])?;
-    assert_equal(&rt, channels.receive(&mut buffer), Err(ChannelFault::Room));
+    assert_equal(rt, channels.receive(&mut buffer), Err(ChannelFault::Room));
     channels.reserve(1)?;
-    assert_equal(&rt, channels.receive(&mut buffer), Ok(Some((2, 1))));
+    assert_equal(rt, channels.receive(&mut buffer), Ok(Some((2, 1))));
     Ok(())
 }
 
 // Heaps of rising size: at some the channels are refused, and at some the room or the datagram; sending and receiving take no memory.
 #[test]
 fn takes_memory_where_it_says(rt: HostRuntime) -> Result<(), Fail> {
-    let mut refused = [false; 3];
-    let mut done = false;
+    let mut found = [false; 4];
     for step in 0..256 {
         let heap = LocalHeap::new(rt.alloc(), step * 64)?;
-        let Ok(mut channels) = MemChannels::new(&heap, 2) else {
-            refused[0] = true;
-            continue;
-        };
-        if channels.reserve(1) == Err(MemoryFault::Memory) {
-            refused[1] = true;
-            continue;
+        if let Some(place) = found.get_mut(place_of_refusal(&rt, &heap)) {
+            *place = true;
         }
-        if channels.add(1, &[4; 4000]) == Err(MemoryFault::Memory) {
-            refused[2] = true;
-            assert_equal(&rt, channels.receive(&mut [0; 9]), Ok(None));
-            continue;
-        }
-        let used = heap.used();
-        for _ in 0..3 {
-            assert_equal(&rt, channels.send(1, &[7; 1258]), Ok(()));
-        }
-        assert_equal(&rt, channels.receive(&mut [0; 9]), Ok(Some((1, 9))));
-        assert_equal(&rt, heap.used(), used);
-        done = true;
     }
-    assert_equal(&rt, refused, [true; 3]);
-    assert_true(&rt, done);
+    assert_equal(&rt, found, [true; 4]);
     Ok(())
+}
+
+/// What finds no room in a heap: 0 the channels, 1 more room, 2 a datagram, 3 nothing.
+fn place_of_refusal(rt: &impl Abort, heap: &LocalHeap) -> usize {
+    match MemChannels::new(heap, 2) {
+        Ok(mut channels) => fills(rt, heap, &mut channels),
+        Err(_) => 0,
+    }
+}
+
+fn fills(rt: &impl Abort, heap: &LocalHeap, channels: &mut MemChannels<&LocalHeap>) -> usize {
+    if channels.reserve(1) == Err(MemoryFault::Memory) {
+        return 1;
+    }
+    if channels.add(1, &[4; 4000]) == Err(MemoryFault::Memory) {
+        assert_equal(rt, channels.receive(&mut [0; 9]), Ok(None));
+        return 2;
+    }
+    let used = heap.used();
+    for _ in 0..3 {
+        assert_equal(rt, channels.send(1, &[7; 1258]), Ok(()));
+    }
+    assert_equal(rt, channels.receive(&mut [0; 9]), Ok(Some((1, 9))));
+    assert_equal(rt, heap.used(), used);
+    3
 }
 
 // Two ends over the loopback: what is sent on a channel comes on it, without a wait where it is there already; channels are asked in order;
@@ -115,15 +123,15 @@ fn carries_datagrams_over_sockets(rt: HostRuntime) -> Result<(), Fail> {
     Ok(())
 }
 
-fn text(channel: usize, is_own: bool) -> UdpFault {
-    UdpFault::Address(Place { channel, is_own })
+fn text(channel: usize, is_own: bool) -> Option<UdpFault> {
+    Some(UdpFault::Address(Place { channel, is_own }))
 }
 
-fn refused(channel: usize, error: i32) -> UdpFault {
-    UdpFault::Bind(Refusal {
+fn refused(channel: usize, error: i32) -> Option<UdpFault> {
+    Some(UdpFault::Bind(Refusal {
         channel,
         error: Some(error),
-    })
+    }))
 }
 
 // Lists of unequal or wrong length and texts that are no address are refused before a socket is bound, each by its place; then a port in use
@@ -131,23 +139,28 @@ fn refused(channel: usize, error: i32) -> UdpFault {
 #[test]
 fn refuses_other_addresses(rt: HostRuntime) -> Result<(), Fail> {
     let free = "127.0.0.1:47341";
-    let held = open_udp(rt.alloc(), &rt, &["127.0.0.1:47342"], &[free])?;
-    let lists: [(&[&str], &[&str], UdpFault); 8] = [
-        (&[], &[], UdpFault::Lists),
-        (&[free], &[], UdpFault::Lists),
-        (&[free; 5], &[free; 5], UdpFault::Lists),
-        (&["localhost:47341"], &[free], text(1, true)),
-        (&["127.0.0.1:47342"], &["127.0.0.1"], text(1, false)),
-        (&[free, "127.0.0.1:65536"], &[free; 2], text(2, true)),
-        (&["127.0.0.1:47342"], &[free], refused(1, 98)),
-        (&[free, "192.0.2.1:47341"], &[free; 2], refused(2, 99)),
-    ];
-    for (local, remote, fault) in lists {
-        let opened = open_udp(rt.alloc(), &rt, local, remote);
-        assert_true_at(&rt, local, matches!(opened, Err(found) if found == fault));
-    }
+    let taken = "127.0.0.1:47342";
+    let _held = open_udp(rt.alloc(), &rt, &[taken], &[free])?;
+    let lists = Some(UdpFault::Lists);
+    assert_equal(&rt, fault_of(&rt, &[], &[]), lists);
+    assert_equal(&rt, fault_of(&rt, &[free], &[]), lists);
+    assert_equal(&rt, fault_of(&rt, &[free; 5], &[free; 5]), lists);
+    let found = fault_of(&rt, &["localhost:47341"], &[free]);
+    assert_equal(&rt, found, text(1, true));
+    let found = fault_of(&rt, &[taken], &["127.0.0.1"]);
+    assert_equal(&rt, found, text(1, false));
+    let found = fault_of(&rt, &[free, "127.0.0.1:65536"], &[free; 2]);
+    assert_equal(&rt, found, text(2, true));
+    let found = fault_of(&rt, &[taken], &[free]);
+    assert_equal(&rt, found, refused(1, 98));
+    let found = fault_of(&rt, &[free, "192.0.2.1:47341"], &[free; 2]);
+    assert_equal(&rt, found, refused(2, 99));
     // What was bound before a refusal is free again.
-    let _opened = open_udp(rt.alloc(), &rt, &[free], &["127.0.0.1:47342"])?;
-    let _held = held;
+    let _opened = open_udp(rt.alloc(), &rt, &[free], &[taken])?;
     Ok(())
+}
+
+/// The fault of channels over these addresses, if they are refused.
+fn fault_of(rt: &HostRuntime, local: &[&str], remote: &[&str]) -> Option<UdpFault> {
+    open_udp(rt.alloc(), rt, local, remote).err()
 }

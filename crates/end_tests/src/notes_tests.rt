@@ -177,10 +177,14 @@ fn are(rt: &impl Abort, notes: &[Heard], from: usize, wanted: &[Heard]) {
 // Each telegram taken is told once, in order, with its type and payload, before the datagram that brought it.
 #[test]
 fn tells_each_take_once(rt: HostRuntime) -> Result<(), Fail> {
-    let (il, fe) = (narrow(Side::Interlocking)?, narrow(Side::FieldElement)?);
-    let mut line = Line::open(&rt, il, fe)?;
-    line.establish(&rt);
-    takes_five(&rt, &mut line)
+    takes_five(&rt, &mut established(&rt)?)
+}
+
+fn established(rt: &(impl AllocGlobal + Abort)) -> Result<Line, Fail> {
+    let fe = narrow(Side::FieldElement)?;
+    let mut line = Line::open(rt, narrow(Side::Interlocking)?, fe)?;
+    line.establish(rt);
+    Ok(line)
 }
 
 fn takes_five(rt: &impl Abort, line: &mut Line) -> Result<(), Fail> {
@@ -215,7 +219,12 @@ fn has_five(rt: &impl Abort, fe: &Station, from: usize) {
 fn tells_no_take_of_what_ends_the_session(rt: HostRuntime) -> Result<(), Fail> {
     let mut other = narrow(Side::Interlocking)?;
     other.protocol = 2;
-    let mut line = Line::open(&rt, other, narrow(Side::FieldElement)?)?;
+    let fe = narrow(Side::FieldElement)?;
+    ends(&rt, &mut Line::open(&rt, other, fe)?);
+    Ok(())
+}
+
+fn ends(rt: &impl Abort, line: &mut Line) {
     line.flow();
     let wanted = [
         Heard::State(ConnectionState::Down),
@@ -231,6 +240,5 @@ fn tells_no_take_of_what_ends_the_session(rt: HostRuntime) -> Result<(), Fail> {
         Heard::State(ConnectionState::Closed),
         Heard::Datagram,
     ];
-    are(&rt, line.fe.notes(), 0, &wanted);
-    Ok(())
+    are(rt, line.fe.notes(), 0, &wanted);
 }

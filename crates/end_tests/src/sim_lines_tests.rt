@@ -1,133 +1,127 @@
 use crate::assertions::{assert_equal, assert_true, assert_true_at};
-use end_settings::{EndConfig, Side};
+use crate::settings_file_tests::numbers_of;
+use end_settings::Side;
 use linked_list_allocator::LocalHeap;
 use sim::{Command, Key, Label, ScriptLineFault, ScriptSettings, Setting, read_line};
-use std::alloc::AllocError;
+use std::alloc::{AllocError, Global};
 use std::test::Fail;
 
-// What right lines ask for; hex digits may be of either case, and `-` is no octets.
+// A line of one word, and an empty one.
 #[test]
-fn reads_lines(rt: HostRuntime) -> Result<(), Fail> {
+fn reads_single_words(rt: HostRuntime) -> Result<(), Fail> {
     let alloc = rt.alloc();
-    assert_true(&rt, matches!(read_line(alloc, "")?, Command::Nothing));
-    assert_true(&rt, matches!(read_line(alloc, "   ")?, Command::Nothing));
-    assert_true(
-        &rt,
-        matches!(
-            read_line(alloc, "open fe")?,
-            Command::Open(Side::FieldElement)
-        ),
-    );
-    assert_true(
-        &rt,
-        matches!(
-            read_line(alloc, "close il")?,
-            Command::Close(Side::Interlocking)
-        ),
-    );
-    assert_true(
-        &rt,
-        matches!(
-            read_line(alloc, " clock  il 18446744073709551615 ")?,
-            Command::Clock(Side::Interlocking, u64::MAX)
-        ),
-    );
-    assert_true(
-        &rt,
-        matches!(
-            read_line(alloc, "tick il")?,
-            Command::Tick(Side::Interlocking)
-        ),
-    );
-    assert_true(
-        &rt,
-        matches!(
-            read_line(alloc, "putlen fe 00Ff 1000")?,
-            Command::PutZeros(Side::FieldElement, 255, 1000)
-        ),
-    );
-    assert_true(
-        &rt,
-        matches!(
-            read_line(alloc, "puts il 256 0100")?,
-            Command::PutCounted(Side::Interlocking, 256, 256)
-        ),
-    );
+    for empty in ["", "   "] {
+        assert_true(&rt, matches!(read_line(alloc, empty)?, Command::Nothing));
+    }
     assert_true(&rt, matches!(read_line(alloc, "done")?, Command::InitDone));
     assert_true(&rt, matches!(read_line(alloc, "est")?, Command::Establish));
-    assert_true(
-        &rt,
-        matches!(read_line(alloc, "trace")?, Command::Trace(true)),
-    );
-    assert_true(
-        &rt,
-        matches!(read_line(alloc, "trace off")?, Command::Trace(false)),
-    );
-    let Command::Give(label, 2) = read_line(alloc, "give f12 2")? else {
-        return Err(Fail::from("give"));
-    };
+    for (line, is_on) in [("trace", true), ("trace off", false)] {
+        let command = read_line(alloc, line)?;
+        assert_true(
+            &rt,
+            matches!(command, Command::Trace(found) if found == is_on),
+        );
+    }
+    Ok(())
+}
+
+const IL: Side = Side::Interlocking;
+
+const FE: Side = Side::FieldElement;
+
+// What is asked of an end.
+#[test]
+fn reads_commands_of_an_end(rt: HostRuntime) -> Result<(), Fail> {
+    let alloc = rt.alloc();
+    let command = read_line(alloc, "open fe")?;
+    assert_true(&rt, matches!(command, Command::Open(FE)));
+    let command = read_line(alloc, "close il")?;
+    assert_true(&rt, matches!(command, Command::Close(IL)));
+    let command = read_line(alloc, " clock  il 18446744073709551615 ")?;
+    assert_true(&rt, matches!(command, Command::Clock(IL, u64::MAX)));
+    let command = read_line(alloc, "tick il")?;
+    assert_true(&rt, matches!(command, Command::Tick(IL)));
+    Ok(())
+}
+
+// Telegrams that a line counts or measures.
+#[test]
+fn reads_counted_telegrams(rt: HostRuntime) -> Result<(), Fail> {
+    let alloc = rt.alloc();
+    let command = read_line(alloc, "putlen fe 00Ff 1000")?;
+    assert_true(&rt, matches!(command, Command::PutZeros(FE, 255, 1000)));
+    let command = read_line(alloc, "puts il 256 0100")?;
+    assert_true(&rt, matches!(command, Command::PutCounted(IL, 256, 256)));
+    Ok(())
+}
+
+// What is done with the datagram of a label.
+#[test]
+fn reads_labels(rt: HostRuntime) -> Result<(), Fail> {
+    let alloc = rt.alloc();
     let twelfth = Label {
-        side: Side::FieldElement,
+        side: FE,
         place: 11,
     };
-    assert_equal(&rt, label, twelfth);
+    let command = read_line(alloc, "give f12 2")?;
     assert_true(
         &rt,
-        matches!(
-            read_line(alloc, "hit f12 1 7 aF")?,
-            Command::Hit(_, 1, 7, 0xaf)
-        ),
+        matches!(command, Command::Give(label, 2) if label == twelfth),
     );
+    let command = read_line(alloc, "hit f12 1 7 aF")?;
     assert_true(
         &rt,
-        matches!(read_line(alloc, "lose f12")?, Command::Lose(_)),
+        matches!(command, Command::Hit(label, 1, 7, 0xaf) if label == twelfth),
     );
-    let Command::Put(Side::Interlocking, 0x1a2b, payload) = read_line(alloc, "put il 1A2b 00fF")?
-    else {
-        return Err(Fail::from("put"));
-    };
-    assert_equal(&rt, payload.as_slice(), [0, 255].as_slice());
-    let Command::Put(Side::Interlocking, 0, payload) = read_line(alloc, "put il 0000 -")? else {
-        return Err(Fail::from("put"));
-    };
-    assert_true(&rt, payload.is_empty());
-    let Command::Flow(channels) = read_line(alloc, "flow 1 2 1")? else {
+    let command = read_line(alloc, "lose f12")?;
+    assert_true(
+        &rt,
+        matches!(command, Command::Lose(label) if label == twelfth),
+    );
+    Ok(())
+}
+
+// Payloads: hex digits may be of either case, and `-` is no octets.
+#[test]
+fn reads_payloads(rt: HostRuntime) -> Result<(), Fail> {
+    let cases: [(&str, u16, &[u8]); 2] = [
+        ("put il 1A2b 00fF", 0x1a2b, &[0, 255]),
+        ("put il 0000 -", 0, &[]),
+    ];
+    for (line, kind, wanted) in cases {
+        let Command::Put(IL, found, payload) = read_line(rt.alloc(), line)? else {
+            return Err(Fail::from("put"));
+        };
+        assert_equal(&rt, found, kind);
+        assert_equal(&rt, payload.as_slice(), wanted);
+    }
+    Ok(())
+}
+
+// Lists of channels and of versions may name one twice.
+#[test]
+fn reads_lists(rt: HostRuntime) -> Result<(), Fail> {
+    let Command::Flow(channels) = read_line(rt.alloc(), "flow 1 2 1")? else {
         return Err(Fail::from("flow"));
     };
     assert_equal(&rt, channels.as_slice(), [1, 2, 1].as_slice());
-    let Command::Versions(versions) = read_line(alloc, "versions fe 1 1 255 0")? else {
+    let Command::Versions(versions) = read_line(rt.alloc(), "versions fe 1 1 255 0")? else {
         return Err(Fail::from("versions"));
     };
     assert_equal(&rt, versions.as_slice(), [1, 1, 255, 0].as_slice());
     Ok(())
 }
 
-/// Returns the numbers among the settings of an end.
-fn numbers_of(end: EndConfig) -> [u64; 10] {
-    [
-        end.channels,
-        end.n_sendmax,
-        end.n_maxpacket,
-        end.q,
-        end.t_max,
-        end.t_h,
-        end.t_seq,
-        end.mwa,
-        end.pdu_limit,
-        end.code,
-    ]
-}
-
-// A script's beginning, and what each key changes.
+// A script's beginning.
 #[test]
-fn sets(rt: HostRuntime) -> Result<(), Fail> {
-    let mut settings = ScriptSettings::new().ok_or("settings")?;
-    for side in [Side::Interlocking, Side::FieldElement] {
+fn begins_with_the_profile(rt: HostRuntime) -> Result<(), Fail> {
+    let settings = ScriptSettings::new().ok_or("settings")?;
+    for side in [IL, FE] {
         let end = settings.config(side);
         assert_true(&rt, end.is_fit(side));
         assert_equal(
             &rt,
-            numbers_of(end),
+            numbers_of(&end),
             [2, 20, 3, 4, 1800, 300, 50, 10, 4_294_901_760, 8],
         );
         assert_equal(&rt, end.initial_value, md4::INITIAL_VALUE);
@@ -135,78 +129,76 @@ fn sets(rt: HostRuntime) -> Result<(), Fail> {
         assert_equal(&rt, end.checksum.as_slice().len(), 0);
         assert_equal(&rt, end.protocol, 1);
     }
-    assert_equal(&rt, settings.first_sn(Side::Interlocking), 100);
-    assert_equal(&rt, settings.first_sn(Side::FieldElement), 500);
-    let il = settings.config(Side::Interlocking);
+    assert_equal(
+        &rt,
+        (settings.first_sn(IL), settings.first_sn(FE)),
+        (100, 500),
+    );
+    let il = settings.config(IL);
     assert_equal(&rt, (il.id, il.peer_id), (1, 2));
-    let keys = [
-        "channels",
-        "n_sendmax",
-        "n_maxpacket",
-        "q",
-        "t_max",
-        "t_h",
-        "t_seq",
-        "mwa",
-        "pdu_limit",
-        "code",
-        "sn_il",
-        "sn_fe",
-        "version_il",
-        "version_fe",
-    ];
+    Ok(())
+}
+
+const KEYS: [&str; 14] = [
+    "channels",
+    "n_sendmax",
+    "n_maxpacket",
+    "q",
+    "t_max",
+    "t_h",
+    "t_seq",
+    "mwa",
+    "pdu_limit",
+    "code",
+    "sn_il",
+    "sn_fe",
+    "version_il",
+    "version_fe",
+];
+
+// What each key changes.
+#[test]
+fn sets(rt: HostRuntime) -> Result<(), Fail> {
+    let mut settings = ScriptSettings::new().ok_or("settings")?;
     let mut value = 200u32;
-    for word in keys {
+    for word in KEYS {
         value = value.wrapping_add(1);
         let key = Key::of(word).ok_or("key")?;
         settings.set(Setting { key, value });
     }
-    for side in [Side::Interlocking, Side::FieldElement] {
+    let wanted = [201, 202, 203, 204, 205, 206, 207, 208, 209, 210];
+    for (side, first_sn, version) in [(IL, 211, 213), (FE, 212, 214)] {
         let end = settings.config(side);
-        assert_equal(
-            &rt,
-            numbers_of(end),
-            [201, 202, 203, 204, 205, 206, 207, 208, 209, 210],
-        );
+        assert_equal(&rt, numbers_of(&end), wanted);
+        assert_equal(&rt, settings.first_sn(side), first_sn);
+        assert_equal(&rt, end.versions.as_slice(), [version].as_slice());
     }
-    assert_equal(&rt, settings.first_sn(Side::Interlocking), 211);
-    assert_equal(&rt, settings.first_sn(Side::FieldElement), 212);
-    assert_equal(
-        &rt,
-        settings.config(Side::Interlocking).versions.as_slice(),
-        [213].as_slice(),
-    );
-    assert_equal(
-        &rt,
-        settings.config(Side::FieldElement).versions.as_slice(),
-        [214].as_slice(),
-    );
     Ok(())
 }
 
-// A line is not unreadable where there is no memory for its octets, its numbers or the label of what it makes.
+/// Returns a text that ends with so many times the same.
+fn repeats(alloc: Global, front: &str, again: &str, times: u32) -> Result<String, Fail> {
+    let mut text = String::new(alloc);
+    text.push_str(front)?;
+    for _ in 0..times {
+        text.push_str(again)?;
+    }
+    Ok(text)
+}
+
+// A line is not unreadable if there is no memory for its octets, its numbers or the label of what it makes.
 #[test]
 fn tells_want_of_memory_for_a_line(rt: HostRuntime) -> Result<(), Fail> {
     let heap = LocalHeap::new(rt.alloc(), 0)?;
-    let zeros = "0000000000000000000000000000000000000000000000000000000000000000";
-    let ones = "1 1 1 1 1 1 1 1 1 1 1 1 1 1 1 1";
-    let put = format!(in rt.alloc();
-        "put il 0100 {zeros}{zeros}{zeros}{zeros}{zeros}{zeros}{zeros}{zeros}"
-    )?;
-    let flow = format!(in rt.alloc();
-        "flow {ones} {ones} {ones} {ones} {ones} {ones} {ones} {ones}"
-    )?;
-    for line in [put.as_str(), flow.as_str()] {
-        assert_true_at(
-            &rt,
-            line,
-            matches!(read_line(&heap, line), Err(ScriptLineFault::Memory)),
+    for (front, again) in [("put il 0100 ", "0"), ("flow", " 1")] {
+        let line = repeats(rt.alloc(), front, again, 512)?;
+        let found = matches!(
+            read_line(&heap, line.as_str()),
+            Err(ScriptLineFault::Memory)
         );
+        assert_true_at(&rt, front, found);
     }
-    assert_equal(
-        &rt,
-        ScriptLineFault::from(AllocError),
-        ScriptLineFault::Memory,
-    );
+    let fault = ScriptLineFault::from(AllocError);
+    assert_equal(&rt, fault, ScriptLineFault::Memory);
     Ok(())
 }

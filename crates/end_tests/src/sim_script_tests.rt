@@ -21,69 +21,82 @@ fn stops(
     Ok(())
 }
 
+/// Lines of another form, and with a number too large for its place.
+const UNREADABLE: &str = "\
+opens il
+open
+open li
+open il il
+tick i1
+clock il
+clock il 18446744073709551616
+clock il +1
+clock il -1
+clock il 1x
+put il 010 00
+put il 01000 00
+put il 010g 00
+put il 0100 0
+put il 0100 0g
+put il 0100
+put il 0100 --
+putlen il 0100 1001
+puts il 257 0100
+set q
+set Q 1
+set q 4294967296
+set version_il 256
+set version_fe 256
+versions il 3
+versions fe
+versions fe 1 2 3 4 5
+versions fe 256
+done il
+est 1
+trace on
+trace off off
+give i1
+give 1 1
+give i 1
+give I1 1
+give ix 1
+give i1 0
+give i1 3
+give i1 x
+give i9 3
+hit i1 1 58 01
+hit i1 1 0 1
+hit i1 1 0 100
+hit i1 1 18446744073709551616 01
+hit i9 3 0 01
+lose
+lose i1 1
+flow
+flow 0
+flow 3
+flow 1 3
+flow 1 x
+open\til
+open il\r
+Open il
+";
+
+/// Lines with a label that is not made yet.
+const WITHOUT_LABEL: &str = "\
+give i2 1
+give f1 1
+give i0 1
+give i01 2
+lose i2
+hit f1 1 99 01
+give i99999999999999999999999999 1
+";
+
 // A line of another form, a number too large for its place, a channel beyond the setting, a place beyond the datagram, a
 // label that is not made yet: in this order where several hold. What was printed before stays.
 #[test]
 fn stops_at_a_line(rt: HostRuntime) -> Result<(), Fail> {
-    let unreadable = [
-        "opens il",
-        "open",
-        "open li",
-        "open il il",
-        "tick i1",
-        "clock il",
-        "clock il 18446744073709551616",
-        "clock il +1",
-        "clock il -1",
-        "clock il 1x",
-        "put il 010 00",
-        "put il 01000 00",
-        "put il 010g 00",
-        "put il 0100 0",
-        "put il 0100 0g",
-        "put il 0100",
-        "put il 0100 --",
-        "putlen il 0100 1001",
-        "puts il 257 0100",
-        "set q",
-        "set Q 1",
-        "set q 4294967296",
-        "set version_il 256",
-        "set version_fe 256",
-        "versions il 3",
-        "versions fe",
-        "versions fe 1 2 3 4 5",
-        "versions fe 256",
-        "done il",
-        "est 1",
-        "trace on",
-        "trace off off",
-        "give i1",
-        "give 1 1",
-        "give i 1",
-        "give I1 1",
-        "give ix 1",
-        "give i1 0",
-        "give i1 3",
-        "give i1 x",
-        "give i9 3",
-        "hit i1 1 58 01",
-        "hit i1 1 0 1",
-        "hit i1 1 0 100",
-        "hit i1 1 18446744073709551616 01",
-        "hit i9 3 0 01",
-        "lose",
-        "lose i1 1",
-        "flow",
-        "flow 0",
-        "flow 3",
-        "flow 1 3",
-        "flow 1 x",
-        "open\til",
-        "open il\r",
-        "Open il",
-    ];
-    for line in unreadable {
+    for line in UNREADABLE.split_terminator('\n') {
         let script = format!(in rt.alloc(); "open il\n\n  tick   fe \n{line}\ntick fe\n")?;
         stops(
             &rt,
@@ -92,15 +105,7 @@ fn stops_at_a_line(rt: HostRuntime) -> Result<(), Fail> {
             "line 4: unreadable\n",
         )?;
     }
-    for line in [
-        "give i2 1",
-        "give f1 1",
-        "give i0 1",
-        "give i01 2",
-        "lose i2",
-        "hit f1 1 99 01",
-        "give i99999999999999999999999999 1",
-    ] {
+    for line in WITHOUT_LABEL.split_terminator('\n') {
         let script = format!(in rt.alloc(); "open il\n{line}\n")?;
         stops(&rt, script.as_str(), "", "line 2: no such label\n")?;
     }
