@@ -182,7 +182,7 @@ fn leaving(seq: u32, ends: (u32, u32), sn: u32, stamps: (u32, u32)) -> DecodedDa
     )
 }
 
-/// A capture in a test: each datagram has the line behind the one before it, and its number as its time.
+/// A capture in a test. Each datagram is on the next line, and its time is the number of its line.
 #[derive(Drop)]
 struct CaptureTest {
     following: Follower,
@@ -231,7 +231,7 @@ impl CaptureTest {
     }
 }
 
-/// What is remarkable in the damage before a PDU and in what it asks for.
+/// The line of a damaged datagram before a PDU, and the line of the PDU that a RetrReq requests.
 type Damage = (Option<u64>, Option<u64>);
 
 // A damaged datagram whose good copy the receiver drops as old, and a RetrReq for a PDU that was recorded.
@@ -339,7 +339,7 @@ fn follows(rt: &impl Abort, all: &mut CaptureTest) -> Result<(), Fail> {
     Ok(())
 }
 
-/// Adds a PDU of each of so many ends with the same peer.
+/// Adds one PDU for each of `count` ends with the same peer.
 fn hear_ends(all: &mut CaptureTest, count: u32) -> Result<(), Fail> {
     for end in 0..count {
         let _remark = all.hear(0, false, &pdu(0, (end.wrapping_add(1), 100), 1, (1, 0)))?;
@@ -347,7 +347,7 @@ fn hear_ends(all: &mut CaptureTest, count: u32) -> Result<(), Fail> {
     Ok(())
 }
 
-/// One connection of 257 was forgotten, the one of this end, which had this many PDUs.
+/// One connection of 257 was forgotten: the connection of this end, with this number of PDUs.
 fn forgot(rt: &impl Abort, all: &CaptureTest, end: u32, count: u64) {
     let ends = all.following.connections.as_slice();
     assert_equal(rt, ends.len(), 256);
@@ -536,7 +536,7 @@ fn damage(all: &CaptureTest, place: usize) -> Option<[[u64; 4]; 2]> {
 /// A PDU on a channel: its type, its sender, SN and CS, TS and CTS.
 type Confirming = (u8, Kind, u32, (u32, u32), (u32, u32));
 
-/// PDUs, each with the age and the wait that are told of it.
+/// PDUs, each with its age and its wait.
 const WAITS: [(Confirming, Option<u32>, Option<u32>); 10] = [
     ((0, Kind::ConnReq, 1, (900, 0), (5000, 0)), None, Some(0)),
     (

@@ -165,7 +165,7 @@ fn asked(length: CodeLength, only: Option<Remarkable>) -> FollowOptions {
     }
 }
 
-/// Follows a text to its end, and compares the beginning of what is printed.
+/// Follows a text to its end, and compares the first lines of the output.
 fn begins(rt: &(impl AllocGlobal + Abort), text: &[u8], asked: &FollowOptions, wanted: &str) {
     let mut out = Vec::new(rt.alloc());
     let mut err = Vec::new(rt.alloc());

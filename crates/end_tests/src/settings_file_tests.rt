@@ -39,7 +39,7 @@ fn read(alloc: Global, word: Subcommand, text: &str) -> Result<Ends, SettingsFau
     settings(alloc, word, text)
 }
 
-/// Returns what the second line of a refusal says of a file; `-` if the file is read.
+/// Returns the second line of a refusal of a file; `-` if the file is read.
 fn said(alloc: Global, word: Subcommand, text: &str) -> Result<String, Fail> {
     match read(alloc, word, text) {
         Ok(_) => Ok(String::from_str(alloc, "-")?),
@@ -47,7 +47,7 @@ fn said(alloc: Global, word: Subcommand, text: &str) -> Result<String, Fail> {
     }
 }
 
-/// A file, and what is said of it.
+/// A file, and the lines that are printed about it.
 #[derive(Clone, Copy)]
 struct Case<'a> {
     word: Subcommand,
@@ -56,7 +56,7 @@ struct Case<'a> {
     said: &'a str,
 }
 
-/// Reads a line of a table, `WORD [keep] KEYS -> SAID`; `-` is no keys, or nothing said. A table is one text, since a check takes a third
+/// Reads a line of a table, `WORD [keep] KEYS -> SAID`; `-` stands for no keys, or for no line. A table is one text, since a check takes a third
 /// of a second for each text in an array.
 fn case_of(line: &str) -> Result<Case<'_>, Fail> {
     let (file, said) = line.split_once(" -> ").ok_or("no arrow")?;
@@ -243,7 +243,7 @@ fn has_defaults(rt: &impl Abort, least: &Settings) {
     assert_equal(rt, config.versions.as_slice(), [1].as_slice());
 }
 
-/// Returns the texts of these with ` / ` between them; `-` if there are none.
+/// Returns the texts of a list with ` / ` between them; `-` if the list is empty.
 fn joined<T: Display>(alloc: Global, list: &[T]) -> Result<String, Fail> {
     let mut text = String::new(alloc);
     for it in list {
@@ -282,7 +282,7 @@ fn finds_all_that_is_wrong(rt: HostRuntime) -> Result<(), Fail> {
     Ok(())
 }
 
-/// Limits by the rule of docs/choosing.md, for files that name none.
+/// Limits by the rule of docs/choosing.md, for files without limits.
 const FIT: &str = "n_sendmax=7;mwa=3;q=8";
 
 const WARNINGS: &str = "\
@@ -336,7 +336,7 @@ fn warns_of_mistakes(rt: HostRuntime) -> Result<(), Fail> {
     Ok(())
 }
 
-/// Adds a telegram with a payload of so many bytes to a list.
+/// Adds a telegram with a payload of `size` bytes to a list.
 fn push_put(text: &mut String, kind: &str, size: u32) -> Result<(), Fail> {
     text.push_str(kind)?;
     for _ in 0..size {

@@ -29,7 +29,7 @@ const IL: Side = Side::Interlocking;
 
 const FE: Side = Side::FieldElement;
 
-// What is asked of an end.
+// Commands to one end.
 #[test]
 fn reads_commands_of_an_end(rt: HostRuntime) -> Result<(), Fail> {
     let alloc = rt.alloc();
@@ -55,7 +55,7 @@ fn reads_counted_telegrams(rt: HostRuntime) -> Result<(), Fail> {
     Ok(())
 }
 
-// What is done with the datagram of a label.
+// Commands with the label of a datagram.
 #[test]
 fn reads_labels(rt: HostRuntime) -> Result<(), Fail> {
     let alloc = rt.alloc();
@@ -81,7 +81,7 @@ fn reads_labels(rt: HostRuntime) -> Result<(), Fail> {
     Ok(())
 }
 
-// Payloads: hex digits may be of either case, and `-` is no octets.
+// Payloads: hex digits may be of either case, and `-` stands for an empty payload.
 #[test]
 fn reads_payloads(rt: HostRuntime) -> Result<(), Fail> {
     let cases: [(&str, u16, &[u8]); 2] = [
@@ -112,7 +112,7 @@ fn reads_lists(rt: HostRuntime) -> Result<(), Fail> {
     Ok(())
 }
 
-// A script's beginning.
+// The settings at the start of a script.
 #[test]
 fn begins_with_the_profile(rt: HostRuntime) -> Result<(), Fail> {
     let settings = ScriptSettings::new().ok_or("settings")?;
@@ -176,7 +176,7 @@ fn sets(rt: HostRuntime) -> Result<(), Fail> {
     Ok(())
 }
 
-/// Returns a text that ends with so many times the same.
+/// Returns `front`, and then `again` a number of times.
 fn repeats(alloc: Global, front: &str, again: &str, times: u32) -> Result<String, Fail> {
     let mut text = String::new(alloc);
     text.push_str(front)?;

@@ -81,7 +81,7 @@ open il\r
 Open il
 ";
 
-/// Lines with a label that is not made yet.
+/// Lines with a label that does not exist yet.
 const WITHOUT_LABEL: &str = "\
 give i2 1
 give f1 1

@@ -73,7 +73,7 @@ fn packs_the_first_messages(rt: HostRuntime) -> Result<(), Fail> {
     Ok(())
 }
 
-// A unit has the messages in front, at most this many, from the one of this value to that of the other.
+// A unit has at most `most` messages: those from the value `first` to the value `last`.
 fn hands_out(
     rt: &impl Abort,
     waiting: &mut Waiting,

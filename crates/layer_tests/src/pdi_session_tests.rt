@@ -232,7 +232,7 @@ const FIELD_PHASES: [Phase; 7] = [
     Phase::Ended,
 ];
 
-// Telegrams of every form, and for each form some that are just not of it: the type and the payload in hex digits.
+// Telegrams of each form, and telegrams that nearly have it: the type and the payload in hex digits.
 const TELEGRAMS: &str = "\
 24:03
 24:05
@@ -258,7 +258,7 @@ const TELEGRAMS: &str = "\
 2400:
 ";
 
-// The telegrams of this text.
+// Returns the telegrams of this text.
 fn telegrams(alloc: Global) -> Result<Vec<(u16, Vec<u8>)>, Fail> {
     let mut list = Vec::new(alloc);
     for line in TELEGRAMS.lines() {

@@ -49,7 +49,7 @@ rasta show --code 8 24000000000000001c004c18020000000100000065000000f40100000a00
 rasta --help
 ";
 
-// An output that fails ends each run with status 3; if a fault can't be told, its status stays.
+// If the output fails, each run ends with status 3. If standard error fails, the status does not change.
 #[test]
 fn tells_a_failed_output(rt: HostRuntime) -> Result<(), Fail> {
     for line in PRINTING.lines() {
@@ -82,7 +82,7 @@ fn plain_following() -> FollowRequest<'static> {
     }
 }
 
-/// `follow` reads this to its end or to a fault; then it ends so and tells this fault.
+/// `follow` reads this to its end or to a fault. It ends with this status and prints this fault.
 fn follows<R: Read + Drop, O: Write>(
     rt: &(impl AllocGlobal + Abort),
     reader: R,
@@ -119,7 +119,7 @@ fn stopped(octets: &[u8]) -> Chain<&[u8], Broken> {
     Read::chain(octets, broken)
 }
 
-// A capture that can't be read to its end is a fault of the file, behind what was read.
+// If a capture can't be read to its end, `follow` prints what it read, and then a fault of the file.
 #[test]
 fn tells_what_stops_a_capture(rt: HostRuntime) {
     let mut out = Vec::new(rt.alloc());
@@ -146,7 +146,7 @@ fn tells_want_of_memory_in_reading(rt: HostRuntime) {
     follows(&rt, reader, &mut out, Status::Refused, "fault: memory\n");
 }
 
-// An output that fails ends it, even if nothing more is there to be read, or at the sums alone, behind a capture of no line.
+// If the output fails, `follow` fails, also after the last line, and if it prints only the sums of an empty capture.
 #[test]
 fn tells_an_output_that_fails(rt: HostRuntime) {
     for lines in [EMPTY_DATAGRAM, b""] {
@@ -163,7 +163,7 @@ fn ends_done_if_nobody_reads(rt: HostRuntime) {
     follows(&rt, EMPTY_DATAGRAM, &mut unread, Status::Done, "");
 }
 
-// An output that fails in the middle, where more is to be written than is kept, ends it too.
+// If the output fails before the end of a long capture, `follow` fails too.
 #[test]
 fn tells_an_output_that_fails_in_mid_capture(rt: HostRuntime) -> Result<(), Fail> {
     let mut lines = Vec::new(rt.alloc());
@@ -191,7 +191,7 @@ fn reads_the_line_of_the_longest_datagram(rt: HostRuntime) -> Result<(), Fail> {
     Ok(())
 }
 
-/// A program's path and its words, each behind one space, as octets.
+/// A program's path and its words as octets, with one space before each word.
 #[derive(Clone, Copy)]
 struct Called<'a> {
     words: &'a [u8],

@@ -15,7 +15,7 @@ const HEARTBEAT: &str = "24000000000000001c004c18020000000100000065000000f401000
 
 const OWN_VALUE: &str = "01000000020000000300000004000000";
 
-/// Returns the words of a line, each behind one space.
+/// Returns the words of a line, which are separated by one space.
 pub(crate) fn words_of<'a>(alloc: Global, line: &'a str) -> Result<Vec<&'a str>, Fail> {
     let mut words = Vec::new(alloc);
     for word in line.split(' ') {
@@ -54,7 +54,7 @@ fn refuses(rt: &(impl AllocGlobal + Abort), lines: &str) -> Result<(), Fail> {
     Ok(())
 }
 
-/// The words of a line are answered by a text alone: of a fault, on standard error, or of help.
+/// For the words of a line the program only prints a text: a fault, on standard error, or the help.
 fn tells(rt: &(impl AllocGlobal + Abort), line: &str, is_fault: bool) -> Result<(), Fail> {
     let words = words_of(rt.alloc(), line)?;
     let is_told = match command(rt.alloc(), words.as_slice()) {
@@ -197,7 +197,7 @@ fn rejects_values_of_follow(rt: HostRuntime) -> Result<(), Fail> {
     Ok(())
 }
 
-/// Returns what an end is asked that runs until its session ends.
+/// Returns the request to run an end until its session ends.
 fn until_end(word: Ends) -> RunRequest<'static> {
     RunRequest {
         word,
@@ -259,7 +259,7 @@ fn rejects_words_of_the_ends(rt: HostRuntime) -> Result<(), Fail> {
     rejects(&rt, line, Rejection::TwoLengths)
 }
 
-// An end is kept, and counts are told, if words ask for it.
+// With `--keep` the end is kept, and with `--stats` counts are printed.
 #[test]
 fn accepts_kept_ends_and_counts(rt: HostRuntime) -> Result<(), Fail> {
     let forms = [
@@ -296,7 +296,7 @@ fn counts(
     asks(rt, line, Request::Net(running))
 }
 
-/// Choices of counts that are none.
+/// Words with a wrong choice of counts.
 const NO_COUNTS: &str = "\
 rasta il --until-end il.toml --stats xml
 rasta il --until-end --stats  il.toml
@@ -312,7 +312,7 @@ fn refuses_other_counts(rt: HostRuntime) -> Result<(), Fail> {
     refuses(&rt, NO_COUNTS)
 }
 
-/// Words that are no command.
+/// Words that are not a command.
 const NO_COMMANDS: &str = "\
 rasta
 rasta shew
@@ -339,7 +339,7 @@ fn refuses_other_words(rt: HostRuntime) -> Result<(), Fail> {
     tells(&rt, "rasta --help", false)
 }
 
-/// Returns the text that answers the words of a line.
+/// Returns the text that the program prints for the words of a line.
 fn answer_to(alloc: Global, line: &str) -> Result<String, Fail> {
     let words = words_of(alloc, line)?;
     match command(alloc, words.as_slice()) {
