@@ -1,11 +1,24 @@
-"""Finds the names of functions, clauses, definitions and cases in README.md, docs/ and the pages of crates that do not exist."""
+"""Finds the names of functions, clauses, definitions, cases and files in README.md, docs/ and the pages of crates that do not exist."""
 import os
 import re
-from functions import listed, read
+from fnmatch import fnmatch
+from functions import TOP, code_of, listed, read
 
 FORM = re.compile(r'((?:`[\w:]+`(?:,| and)?\s+)*`[\w:]+`):\s+((?:`\w+`(?:,\s+)?)+)')
 FUNCTION = re.compile(r'`(\w+::\w+)(?:\([^`]*\))?`|`(\w+)\([^`]*\)`')
 DEFINITION = re.compile(r'`([A-Z]\w*)\.(\w+)`')
+OWNED = re.compile(r'((?:`\w+`(?:,| and|, and)?\s+)*`\w+`)\s+of\s+(?:the\s+)?`(\w+)`')
+FILE = re.compile(r'(?:[\w.*-]+/)*[\w.*-]+\.(?:rt|antt|edit|py|sim|toml|lua|c|h)')
+STANDS_FOR_ANY = re.compile(r'\b[A-Z]{3,}(?=_|\b)|\.\.\.')  # as in crates/NAME/specs/FILE.antt
+
+
+def files():
+    """Returns the paths of all files but those that are made: the folders out/, and what git keeps."""
+    found = []
+    for folder, folders, names in os.walk(TOP):
+        folders[:] = [name for name in folders if name != 'out' and not name.startswith('.git')]
+        found += [os.path.relpath(os.path.join(folder, name), TOP) for name in names]
+    return found
 
 
 class Documents:
@@ -15,6 +28,8 @@ class Documents:
         self.crates = crates
         self.definitions = definitions
         self.items = [item for crate in crates.values() for item in crate.items]
+        self.files = files()
+        self.codes = [code_of(read(path)) for path in listed('crates', '*', 'src', '**', '*.rt')]
         self.cases = {test for crate in crates.values() for test in crate.tests}
         for path in listed('crates', '*', 'proofs', '**', '*.antt'):
             self.cases.update(re.findall(r'^([\w-]+) :', read(path), re.M))
@@ -26,7 +41,7 @@ class Documents:
 
     def problems(self):
         for path in ['README.md', *listed('docs', '*.md'), *listed('crates', '*', 'README.md')]:
-            for at, problem in [*self.of_forms(read(path)), *self.of_names(read(path))]:
+            for at, problem in [*self.of_forms(read(path)), *self.of_names(read(path)), *self.of_owners(read(path)), *self.of_files(path)]:
                 yield f'{path}:{at}: {problem}'
             yield from self.of_columns(path)
 
@@ -62,6 +77,33 @@ class Documents:
             for file, name in DEFINITION.findall(line):
                 if name != 'antt' and name not in self.definitions.of_files.get(file, {name}):
                     yield number, f'`{file}.{name}` is not a definition'
+
+    def of_owners(self, text):
+        """Checks names that a page says are of a crate, type, trait or function."""
+        for found in OWNED.finditer(text):
+            for name in re.findall(r'\w+', found[1].replace(' and', '')):
+                if not self.is_of(name, found[2]):
+                    yield text.count('\n', 0, found.start()) + 1, f'`{name}` is not of `{found[2]}`'
+
+    def is_of(self, name, owner):
+        """Whether the owner, or the file that declares it, has the name. An owner that nothing declares has any name."""
+        if owner in self.crates:
+            return (owner, name) in self.types or bool(self.items_named(f'{owner}::{name}', self.items) or listed('crates', owner, 'specs', '**', f'{name}.antt'))
+        declares = re.compile(rf'\b(?:struct|enum|trait|type|fn) {owner}\b')
+        codes = [code for code in self.codes if declares.search(code)]
+        return not codes or any(re.search(rf'\b{name}\b', code) for code in codes)
+
+    def of_files(self, path):
+        """Checks files: a name that begins with `src/` is in the crate that is named last before it."""
+        crate = path.split('/')[1] if path.startswith('crates/') else '*'
+        for number, line in enumerate(read(path).splitlines(), 1):
+            for name in re.findall(r'`([^`\s]+)`', line):
+                crate = next((one for one in (name, name.removeprefix('crates/').split('/')[0]) if one in self.crates), crate)
+                if FILE.fullmatch(name):
+                    wanted = f'crates/{crate}/{name}' if name.startswith('src/') else name
+                    pattern = STANDS_FOR_ANY.sub('*', wanted)
+                    if not any(fnmatch(file, pattern) or fnmatch(file, f'*/{pattern}') for file in self.files):
+                        yield number, f'`{wanted}` is not a file'
 
     def is_type(self, name, called):
         """Whether a name is that of a type with its crate; a form with the word `crate` instead of a crate is neither."""
