@@ -81,7 +81,7 @@ class Documents:
     def of_owners(self, text):
         """Checks names that a page says are of a crate, type, trait or function."""
         for found in OWNED.finditer(text):
-            for name in re.findall(r'\w+', found[1].replace(' and', '')):
+            for name in re.findall(r'`(\w+)`', found[1]):
                 if not self.is_of(name, found[2]):
                     yield text.count('\n', 0, found.start()) + 1, f'`{name}` is not of `{found[2]}`'
 
