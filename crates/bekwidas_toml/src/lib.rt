@@ -70,7 +70,7 @@ pub extern "C" fn bekr_toml_settings(
                 None => BAD_SIDE,
             }
         }
-        Err(fault) => tell(alloc, &fault, said, length),
+        Err(fault) => report(alloc, &fault, said, length),
     }
 }
 
@@ -183,7 +183,7 @@ fn read(alloc: Global, side: Side, text: &[u8]) -> Result<Settings, Unread>
 }
 
 /// Writes the fault to `row`, cut to its length, and returns the code.
-fn tell(alloc: Global, fault: &Unread, row: &mut [u8], length: &mut usize) -> i32
+fn report(alloc: Global, fault: &Unread, row: &mut [u8], length: &mut usize) -> i32
     // The code `NO_SETTINGS` is returned only if the fault is one of the text, not a failed allocation.
     ensures named { result ≡ NO_SETTINGS → fault.now ≢ unread.Memory }
     // The code of a fault is never OK.

@@ -114,7 +114,7 @@ impl<A: Allocator + Copy> Station<A> {
     }
 
     /// Delivers a datagram to the end.
-    fn hear(&mut self, channel: usize, datagram: &[u8]) {
+    fn receive(&mut self, channel: usize, datagram: &[u8]) {
         self.end.arrive(channel, datagram, 0, &mut self.telegrams);
     }
 
@@ -189,7 +189,7 @@ struct Joined {
 /// Delivers to one end everything that the other has sent.
 fn pass(from: &mut Station, to: &mut Station) {
     for datagram in from.said().iter() {
-        to.hear(1, datagram.as_slice());
+        to.receive(1, datagram.as_slice());
     }
 }
 
@@ -235,12 +235,12 @@ pub extern "C" fn bench_end_rows(
         let data = joined.il.said();
         sent = keep(&data, data_row, sent);
         for datagram in data.iter() {
-            joined.fe.hear(1, datagram.as_slice());
+            joined.fe.receive(1, datagram.as_slice());
         }
         let heartbeats = joined.fe.said();
         confirmed = keep(&heartbeats, heartbeat_row, confirmed);
         for datagram in heartbeats.iter() {
-            joined.il.hear(1, datagram.as_slice());
+            joined.il.receive(1, datagram.as_slice());
         }
     }
     joined.fe.telegrams.taken
@@ -283,7 +283,7 @@ pub extern "C" fn bench_end_arrives(
         }
         let (datagram, behind) = row.split_at(size);
         for channel in 0..copies {
-            joined.fe.hear(channel as usize + 1, datagram);
+            joined.fe.receive(channel as usize + 1, datagram);
         }
         row = behind;
     }
@@ -316,7 +316,7 @@ pub extern "C" fn bench_end_puts(
             break;
         }
         let (heartbeat, behind) = row.split_at(size);
-        joined.il.hear(1, heartbeat);
+        joined.il.receive(1, heartbeat);
         row = behind;
     }
     joined.il.tally()

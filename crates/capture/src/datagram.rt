@@ -48,19 +48,19 @@ pub struct Header {
 }
 
 /// Decodes a datagram of any bytes, with this rule of the safety code.
-pub fn hear(octets: &[u8], rule: &CodeRule) -> DecodedDatagram
+pub fn decode(octets: &[u8], rule: &CodeRule) -> DecodedDatagram
     // The result is that of both decoders: the redundancy number and the header fields, with reason and detail of a
     // DiscReq. Otherwise it is the first fault of the layer that rejects it (`datagram_of`).
     ensures { result ≡ datagram_of rule.now octets.now }
 {
     match red_layer::pdu::decode(octets) {
-        Ok(pdu) => hear_upper(pdu.seq, pdu.upper, rule),
+        Ok(pdu) => decode_upper(pdu.seq, pdu.upper, rule),
         Err(fault) => DecodedDatagram::NoRed(fault),
     }
 }
 
 /// Decodes the part of a redundancy PDU.
-fn hear_upper(seq: u32, upper: &[u8], rule: &CodeRule) -> DecodedDatagram
+fn decode_upper(seq: u32, upper: &[u8], rule: &CodeRule) -> DecodedDatagram
     // The result is the header of the safety PDU in `upper`, or its fault, each with the redundancy number `seq`.
     ensures { result ≡ datagram_above seq upper.now (safe_seen rule.now upper.now) }
 {

@@ -95,7 +95,7 @@ impl Follower {
 
     /// Adds a datagram on this line to the capture and returns what is remarkable in it. A connection that it begins is
     /// kept in the entry `spare`.
-    pub fn hear(
+    pub fn add(
         &mut self,
         line: u64,
         record: &Record,

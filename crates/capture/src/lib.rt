@@ -32,7 +32,7 @@ mod words;
 pub use connections::{
     CONNECTIONS, Connection, Connections, Entry, Route, follow, has_identifiers, is_same,
 };
-pub use datagram::{DecodedDatagram, Header, hear, spell};
+pub use datagram::{DecodedDatagram, Header, decode, spell};
 pub use direction::{
     CHANNELS, Confirmation, DAMAGES, Damage, Direction, Peer, Place, Remarks, SessionOpening,
     Tally, follow_pdu, is_first_copy, silence,

@@ -65,8 +65,8 @@ fn pair<H: Read + Drop, T: Read + Drop, O: Write, E: Write>(
     let (here, there) = (here.reading, there.reading);
     pairing.close(here.extent, there.extent);
     print(alloc, asked, &pairing, here.counts, there.counts, out)?;
-    let apart = tell_apart(&pairing, err)?;
-    let left_out = tell_left_out(&pairing, err)?;
+    let apart = report_disjoint(&pairing, err)?;
+    let left_out = report_left_out(&pairing, err)?;
     let unreadable = here
         .counts
         .unreadable
@@ -185,7 +185,7 @@ fn check(written: io::Result<()>) -> Result<(), Stop> {
 }
 
 /// Reports that no datagram is in both recordings, and returns 1 then.
-fn tell_apart<E: Write>(pairing: &Pairing, err: &mut E) -> Result<u64, Stop> {
+fn report_disjoint<E: Write>(pairing: &Pairing, err: &mut E) -> Result<u64, Stop> {
     if !pairing.is_disjoint() {
         return Ok(0);
     }
@@ -196,7 +196,7 @@ fn tell_apart<E: Write>(pairing: &Pairing, err: &mut E) -> Result<u64, Stop> {
 }
 
 /// Reports datagrams for which there was no room, and returns how many they are.
-fn tell_left_out<E: Write>(pairing: &Pairing, err: &mut E) -> Result<u64, Stop> {
+fn report_left_out<E: Write>(pairing: &Pairing, err: &mut E) -> Result<u64, Stop> {
     let left_out = pairing.left_out;
     if left_out == 0 {
         return Ok(0);

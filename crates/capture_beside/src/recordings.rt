@@ -147,7 +147,7 @@ fn take_frame<E: Write>(
     reading.next = datagram_in(content);
     reading.counts.add(&content);
     match content {
-        Content::Unread(fault) => tell(reading.name, reading.counts.frames, fault, err),
+        Content::Unread(fault) => report_frame(reading.name, reading.counts.frames, fault, err),
         Content::Datagram(_) | Content::Strange | Content::Other => Ok(()),
     }
 }
@@ -161,7 +161,12 @@ fn datagram_in(content: Content) -> Option<Arrival> {
 }
 
 /// Writes the fault of a frame, with the name of its file.
-fn tell<E: Write>(name: &str, number: u64, fault: FrameFault, err: &mut E) -> Result<(), Stop> {
+fn report_frame<E: Write>(
+    name: &str,
+    number: u64,
+    fault: FrameFault,
+    err: &mut E,
+) -> Result<(), Stop> {
     let name = name.escape_debug();
     if write!(err, "{name}: ").is_err() {
         return Err(Stop::Output);

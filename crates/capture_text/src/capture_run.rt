@@ -145,8 +145,8 @@ fn follow_input<R: Read + Drop, O: Write, E: Write>(
         Err(error) => return Err(stop_at_output(&error)),
     }
     flush(&mut writer)?;
-    tell_forgotten(&course, err)?;
-    tell_miscoded(&course, err)?;
+    report_forgotten(&course, err)?;
+    report_miscoded(&course, err)?;
     Ok(faults_of(&course))
 }
 
@@ -172,7 +172,7 @@ fn miscoded_count(course: &CaptureReading) -> u64
 }
 
 /// Reports that all datagrams have another safety code.
-fn tell_miscoded<E: Write>(course: &CaptureReading, err: &mut E) -> Result<(), Stop>
+fn report_miscoded<E: Write>(course: &CaptureReading, err: &mut E) -> Result<(), Stop>
     // On success one line with their number is appended to `err` if datagrams have another code, and none has the right
     // one; otherwise nothing is (`miscoded_line`).
     ensures { OnOk result (Appends (E.contents err.old) (E.contents err.new)
@@ -243,7 +243,7 @@ pub fn name_of_foreign(form: ForeignForm) -> &'static str
 
 /// Reports connections that were forgotten.
 #[tactic(auto, unfolding(crate::specs::FaultText::forgotten_text))]
-fn tell_forgotten<E: Write>(course: &CaptureReading, err: &mut E) -> Result<(), Stop>
+fn report_forgotten<E: Write>(course: &CaptureReading, err: &mut E) -> Result<(), Stop>
     // On success one line with their number is appended to `err` if connections were forgotten; otherwise nothing is
     // (`forgotten_line`).
     ensures { OnOk result (Appends (E.contents err.old) (E.contents err.new)
@@ -514,7 +514,7 @@ fn take_text<W: Write, E: Write>(
 {
     match course.take_line(asked, line, buffer, spare, writer) {
         Ok(None) => Ok(()),
-        Ok(Some(fault)) => tell(err, course.lines, fault),
+        Ok(Some(fault)) => report_line(err, course.lines, fault),
         Err(error) => Err(stop_at_output(&error)),
     }
 }
@@ -529,7 +529,7 @@ fn take_long<E: Write>(course: &mut CaptureReading, spare: Entry, err: &mut E) -
 {
     course.following.connections.keep_spare(spare);
     course.pass_long();
-    tell(err, course.lines, LineFault::Long)
+    report_line(err, course.lines, LineFault::Long)
 }
 
 /// Returns why a failed output stops a run.
@@ -565,7 +565,7 @@ fn without_feed(line: &[u8]) -> &[u8]
 }
 
 /// Writes the fault of a line.
-fn tell<E: Write>(err: &mut E, number: u64, fault: LineFault) -> Result<(), Stop>
+fn report_line<E: Write>(err: &mut E, number: u64, fault: LineFault) -> Result<(), Stop>
     // On success the line for the `fault`, with the `number` of its line, is appended to `err`.
     ensures { OnOk result (Appends (E.contents err.old) (E.contents err.new) (fault_text number fault)) }
 {
@@ -673,13 +673,13 @@ fn take_framed<W: Write, E: Write>(
     let octets = &block[framed.start..framed.end];
     match course.take_frame(asked, framed.link, framed.time, octets, spare, writer) {
         Ok(None) => Ok(()),
-        Ok(Some(fault)) => tell_frame(err, course.lines, fault),
+        Ok(Some(fault)) => report_frame(err, course.lines, fault),
         Err(error) => Err(stop_at_output(&error)),
     }
 }
 
 /// Writes the fault of a frame.
-fn tell_frame<E: Write>(err: &mut E, number: u64, fault: FrameFault) -> Result<(), Stop>
+fn report_frame<E: Write>(err: &mut E, number: u64, fault: FrameFault) -> Result<(), Stop>
     // On success the line for the `fault`, with the `number` of its frame, is appended to `err`.
     ensures { OnOk result (Appends (E.contents err.old) (E.contents err.new) (frame_text number fault)) }
 {

@@ -22,7 +22,7 @@ use crate::summary::{CaptureCounts, Scale, write_summary};
 use crate::telegrams::write_telegrams;
 use capture::{
     Buffer, DecodedDatagram, Entry, Follower, LineFault, PAYLOAD_ROOM, Ports, Record, Remark, Span,
-    hear, read_line,
+    decode, read_line,
 };
 use safe_pdu::CodeRule;
 use std::alloc::{AllocError, Global};
@@ -208,10 +208,10 @@ impl CaptureReading {
             (line_datagram asked.now self.old.first (line_of line.now))))) }
     {
         self.lines = self.lines.saturating_add(1);
-        let (size, heard) = hear_line(asked, self.first, line, buffer);
+        let (size, heard) = decode_line(asked, self.first, line, buffer);
         pass_line(&mut self.passed, &heard);
         let found = follow(&mut self.following, self.lines, heard, spare);
-        self.tell(asked, found, &buffer[..size], writer)
+        self.write_found(asked, found, &buffer[..size], writer)
     }
 
     /// Returns an entry for a connection that the next line or frame may begin.
@@ -249,7 +249,7 @@ impl CaptureReading {
     }
 
     /// Writes what is printed of a line.
-    fn tell<W: Write>(
+    fn write_found<W: Write>(
         &mut self,
         asked: &FollowOptions,
         found: Result<(Record, Remark), SkipCause>,
@@ -415,7 +415,7 @@ pub(crate) fn start(first: Option<u64>, time: u64) -> u64
 }
 
 /// Reads a line, and returns the size of its payload and its decoded datagram.
-fn hear_line(
+fn decode_line(
     asked: &FollowOptions,
     first: Option<u64>,
     line: &[u8],
@@ -430,7 +430,7 @@ fn hear_line(
 {
     match read_line(line, buffer) {
         Ok(record) => {
-            let heard = hear_chosen(asked, first, &record, &buffer[..record.size]);
+            let heard = decode_followed(asked, first, &record, &buffer[..record.size]);
             (record.size, heard)
         }
         Err(fault) => (0, Err(SkipCause::Fault(fault))),
@@ -449,7 +449,7 @@ fn pass_line(passed: &mut SkipCounts, heard: &Result<(Record, DecodedDatagram), 
 }
 
 /// Decodes a datagram if it is followed.
-fn hear_chosen(
+fn decode_followed(
     asked: &FollowOptions,
     first: Option<u64>,
     record: &Record,
@@ -459,7 +459,7 @@ fn hear_chosen(
     ensures { result ≡ followed_datagram asked.now first «record».now octets.now }
 {
     match skip(asked, first, record) {
-        None => Ok((*record, hear(octets, &asked.rule))),
+        None => Ok((*record, decode(octets, &asked.rule))),
         Some(why) => Err(SkipCause::Chosen(why)),
     }
 }
@@ -491,7 +491,7 @@ fn follow(
 {
     match heard {
         Ok((record, heard)) => {
-            let remark = following.hear(number, &record, &heard, spare);
+            let remark = following.add(number, &record, &heard, spare);
             Ok((record, remark))
         }
         Err(why) => {

@@ -13,7 +13,7 @@ ghost use Rattle.capture_text.specs.Steps.{first_of, first_skipped, skip_reason,
 
 use crate::course::{CaptureReading, FollowOptions, start, write_wanted};
 use capture::{
-    Entry, FoundDatagram, Link, NoDatagramCause, Record, find_datagram, hear, is_between,
+    Entry, FoundDatagram, Link, NoDatagramCause, Record, decode, find_datagram, is_between,
     is_followed,
 };
 use std::io;
@@ -192,8 +192,8 @@ impl CaptureReading {
             (datagram_of asked.now.rule payload.now)) payload.now)) }
     {
         let number = self.lines;
-        let heard = hear(payload, &asked.rule);
-        let remark = self.following.hear(number, record, &heard, spare);
+        let heard = decode(payload, &asked.rule);
+        let remark = self.following.add(number, record, &heard, spare);
         let first = start(self.first, record.time);
         self.first = Some(first);
         self.latest = record.time;

@@ -108,9 +108,9 @@ pub(crate) fn up(one: &Direction, other: &Direction) -> Option<u64>
     // at that time or later (`is_answered`).
     ensures { result ≡ up_of one.now other.now }
 {
-    if answers(one, other) {
+    if is_answered(one, other) {
         Some(other.tally.opened)
-    } else if answers(other, one) {
+    } else if is_answered(other, one) {
         Some(one.tally.opened)
     } else {
         None
@@ -118,15 +118,15 @@ pub(crate) fn up(one: &Direction, other: &Direction) -> Option<u64>
 }
 
 /// Returns `true` if one end's last opening is a ConnReq, and the other's is a later ConnResp.
-fn answers(one: &Direction, other: &Direction) -> bool
+fn is_answered(one: &Direction, other: &Direction) -> bool
     // The result compares both types and both times of opening (`is_answered`); equal times count.
     ensures { result ≡ is_answered one.now other.now }
 {
-    asks(one.opening) && responds(other.opening) && one.tally.opened <= other.tally.opened
+    is_request(one.opening) && is_response(other.opening) && one.tally.opened <= other.tally.opened
 }
 
 /// Returns `true` if an end's last opening is a ConnReq.
-fn asks(opening: Option<SessionOpening>) -> bool
+fn is_request(opening: Option<SessionOpening>) -> bool
     // The result is false without an `opening` and for a ConnResp.
     ensures { result ≡ has_asked opening }
 {
@@ -137,7 +137,7 @@ fn asks(opening: Option<SessionOpening>) -> bool
 }
 
 /// Returns `true` if an end's last opening is a ConnResp.
-fn responds(opening: Option<SessionOpening>) -> bool
+fn is_response(opening: Option<SessionOpening>) -> bool
     // The result is false without an `opening` and for a ConnReq.
     ensures { result ≡ has_answered opening }
 {

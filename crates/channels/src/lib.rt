@@ -1,5 +1,5 @@
 //! The channels of an end: the transport that datagrams are sent on and received from. Channels see only bytes; they
-//! can hear notes of the end's work.
+//! can receive notes of the end's work.
 //!
 //! Channels are not trusted: they may lose, repeat, delay, reorder and damage datagrams (EN 50159).
 #![tactic(auto)]

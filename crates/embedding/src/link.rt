@@ -98,7 +98,7 @@ pub fn run<R: AllocGlobal + Env + Files + Net + Clock, O: Write>(
         let reported = switch.is_on;
         // A channel that failed is polled again in the next turn; the others continue.
         let _ = turn(&mut end, now, &mut switch);
-        tell(&switch, reported, out)?;
+        report(&switch, reported, out)?;
         let rest = if end.state() == ConnectionState::Closed {
             // The peer must notice the loss, too, before the connection is requested again.
             settings.config.t_max / 4
@@ -213,7 +213,7 @@ fn rest(deadline: Option<Milliseconds>, now: Milliseconds) -> Milliseconds {
 }
 
 /// Prints the reported state of the output, if it has changed.
-fn tell<O: Write>(switch: &Switch, before: Option<bool>, out: &mut O) -> Result<(), Stop> {
+fn report<O: Write>(switch: &Switch, before: Option<bool>, out: &mut O) -> Result<(), Stop> {
     if switch.is_on == before {
         return Ok(());
     }

@@ -72,7 +72,7 @@ impl Model for Notes {
 }
 
 impl Notes {
-    /// Makes room for 128 notes. None is kept until `hear` is called.
+    /// Makes room for 128 notes. None is kept until `set_kept` is called.
     ///
     /// # Errors
     ///
@@ -89,7 +89,7 @@ impl Notes {
     }
 
     /// Keeps notes from now on, or no longer. Those that wait are dropped.
-    pub(crate) fn hear(&mut self, hears: bool)
+    pub(crate) fn set_kept(&mut self, hears: bool)
         // No note waits, and later ones are kept if and only if `hears` is true.
         ensures { self.new ≡ heard_anew hears }
     {

@@ -175,7 +175,7 @@ impl Outbox {
         // Only the notes change: they are kept if and only if `hears` is true, and none waits.
         ensures { self.new ≡ record self.old { out = record self.old.out { notes = heard_anew hears } } }
     {
-        self.notes.hear(hears);
+        self.notes.set_kept(hears);
     }
 
     /// Removes the oldest note, as [`Notes::next`] does.

@@ -168,7 +168,7 @@ impl Station {
         // An accepted `arrive` sets the station's time to `now`.
         ensures time { OnOk result (self.new.time ≡ now) }
     {
-        self.may_hear(now)?;
+        self.may_receive(now)?;
         let before = self.unsent();
         let channels = self.channels();
         set_aside(&mut self.end, channels);
@@ -201,7 +201,7 @@ impl Station {
         // An accepted `tick` sets the station's time to `now`.
         ensures time { OnOk result (self.new.time ≡ now) }
     {
-        self.may_hear(now)?;
+        self.may_receive(now)?;
         let before = self.unsent();
         let channels = self.channels();
         set_aside(&mut self.end, channels);
@@ -573,7 +573,7 @@ impl Station {
     }
 
     /// Checks the conditions of a call that may deliver telegrams, too.
-    fn may_hear(&self, now: Milliseconds) -> Result<(), CallFault>
+    fn may_receive(&self, now: Milliseconds) -> Result<(), CallFault>
         // The result is the first of Time, Lost, TakeFirst and SendFirst that applies, if any (`refusal`).
         ensures answer { MatchResult result (λ _. refusal now self.now ≡ None) (λ f. refusal now self.now ≡ Some f) }
         // If a delivering call may go on, its time is in range.

@@ -4,7 +4,7 @@ use crate::assertions::{assert_equal, assert_true};
 use capture::NumberOrder::{Ahead, Anew, Differs, First, Late, Next, Repeat, Stale};
 use capture::{
     Address, DecodedDatagram, Follower, Header, Host, Instant, LineFault, NumberOrder,
-    PAYLOAD_ROOM, Record, Remark, Remarks, Span, Totals, Window, hear, is_between, judge, note,
+    PAYLOAD_ROOM, Record, Remark, Remarks, Span, Totals, Window, decode, is_between, judge, note,
     read_instant, read_line, sum_up,
 };
 use red_layer::pdu::RedFault;
@@ -37,7 +37,7 @@ fn reads_a_heartbeat(rt: HostRuntime) {
         length: CodeLength::Zero,
         initial_value: [0; 4],
     };
-    match hear(buffer.get(..36).unwrap_or(&[]), &rule) {
+    match decode(buffer.get(..36).unwrap_or(&[]), &rule) {
         DecodedDatagram::Pdu(seq, header) => {
             assert_equal(&rt, seq, 0);
             assert_equal(&rt, header.kind, Kind::Heartbeat);
@@ -49,7 +49,7 @@ fn reads_a_heartbeat(rt: HostRuntime) {
     }
     assert_equal(
         &rt,
-        hear(buffer.get(..7).unwrap_or(&[]), &rule),
+        decode(buffer.get(..7).unwrap_or(&[]), &rule),
         DecodedDatagram::NoRed(RedFault::Short),
     );
 }
@@ -197,11 +197,11 @@ impl CaptureTest {
     }
 
     /// Adds a datagram, and returns what is remarkable in it.
-    fn hear(&mut self, channel: u8, back: bool, heard: &DecodedDatagram) -> Result<Remark, Fail> {
+    fn add(&mut self, channel: u8, back: bool, heard: &DecodedDatagram) -> Result<Remark, Fail> {
         let line = self.following.datagrams.wrapping_add(1);
         let spare = self.following.connections.take_spare()?;
         let record = record(line, channel, back);
-        Ok(self.following.hear(line, &record, heard, spare))
+        Ok(self.following.add(line, &record, heard, spare))
     }
 
     /// Adds a datagram, and returns what is remarkable in its PDU, if it has one.
@@ -211,16 +211,16 @@ impl CaptureTest {
         back: bool,
         heard: &DecodedDatagram,
     ) -> Result<Option<Remarks>, Fail> {
-        Ok(match self.hear(channel, back, heard)? {
+        Ok(match self.add(channel, back, heard)? {
             Remark::Pdu(_, _, remarks) => Some(remarks),
             Remark::NoRed(_) | Remark::NoSafe(_, _) => None,
         })
     }
 
     /// Adds datagrams: of each its channel and whether it goes back.
-    fn hear_all(&mut self, datagrams: &[(u8, bool, DecodedDatagram)]) -> Result<(), Fail> {
+    fn add_all(&mut self, datagrams: &[(u8, bool, DecodedDatagram)]) -> Result<(), Fail> {
         for (channel, back, heard) in datagrams {
-            let _remark = self.hear(*channel, *back, heard)?;
+            let _remark = self.add(*channel, *back, heard)?;
         }
         Ok(())
     }
@@ -243,7 +243,7 @@ fn names_damage_and_what_is_asked_for(rt: HostRuntime) -> Result<(), Fail> {
 fn names_damage(rt: &impl Abort, all: &mut CaptureTest) -> Result<(), Fail> {
     let first = pdu(5, (1, 2), 10, (100, 0));
     let damaged = DecodedDatagram::NoSafe(6, SafeFault::Code);
-    all.hear_all(&[(0, false, first), (1, false, first), (0, false, damaged)])?;
+    all.add_all(&[(0, false, first), (1, false, first), (0, false, damaged)])?;
     let second = pdu(6, (1, 2), 11, (200, 0));
     let asks = |seq, sn, cs| {
         DecodedDatagram::Pdu(seq, header(Kind::RetrReq, (2, 1), (sn, cs), (50, 100)))
@@ -314,7 +314,7 @@ const TWO_CHANNELS: [(Numbers, Order); 6] = [
 fn follows_two_channels(rt: HostRuntime) -> Result<(), Fail> {
     let mut all = CaptureTest::new(rt.alloc())?;
     follows(&rt, &mut all)?;
-    let broken = all.hear(0, false, &DecodedDatagram::NoRed(RedFault::Length))?;
+    let broken = all.add(0, false, &DecodedDatagram::NoRed(RedFault::Length))?;
     assert_equal(&rt, broken, Remark::NoRed(RedFault::Length));
     assert_equal(&rt, all.following.damaged, 1);
     let wanted = Totals {
@@ -340,9 +340,9 @@ fn follows(rt: &impl Abort, all: &mut CaptureTest) -> Result<(), Fail> {
 }
 
 /// Adds one PDU for each of `count` ends with the same peer.
-fn hear_ends(all: &mut CaptureTest, count: u32) -> Result<(), Fail> {
+fn add_ends(all: &mut CaptureTest, count: u32) -> Result<(), Fail> {
     for end in 0..count {
-        let _remark = all.hear(0, false, &pdu(0, (end.wrapping_add(1), 100), 1, (1, 0)))?;
+        let _remark = all.add(0, false, &pdu(0, (end.wrapping_add(1), 100), 1, (1, 0)))?;
     }
     Ok(())
 }
@@ -361,7 +361,7 @@ fn forgot(rt: &impl Abort, all: &CaptureTest, end: u32, count: u64) {
 #[test]
 fn forgets_the_one_silent_longest(rt: HostRuntime) -> Result<(), Fail> {
     let mut all = CaptureTest::new(rt.alloc())?;
-    hear_ends(&mut all, 257)?;
+    add_ends(&mut all, 257)?;
     forgot(&rt, &all, 1, 1);
     Ok(())
 }
@@ -370,10 +370,10 @@ fn forgets_the_one_silent_longest(rt: HostRuntime) -> Result<(), Fail> {
 #[test]
 fn forgets_the_one_that_was_left(rt: HostRuntime) -> Result<(), Fail> {
     let mut all = CaptureTest::new(rt.alloc())?;
-    hear_ends(&mut all, 256)?;
+    add_ends(&mut all, 256)?;
     let leaves = leaving(1, (30, 100), 2, (2, 0));
     let further = pdu(0, (257, 100), 1, (1, 0));
-    all.hear_all(&[(0, false, leaves), (0, false, further)])?;
+    all.add_all(&[(0, false, leaves), (0, false, further)])?;
     forgot(&rt, &all, 30, 2);
     Ok(())
 }
@@ -445,7 +445,7 @@ fn opens_again(rt: HostRuntime) -> Result<(), Fail> {
 
 fn begins_numbers(rt: &impl Abort, all: &mut CaptureTest) -> Result<(), Fail> {
     for seq in 0..50u32 {
-        let _remark = all.hear(0, false, &pdu(seq, (1, 2), seq, (100, 0)))?;
+        let _remark = all.add(0, false, &pdu(seq, (1, 2), seq, (100, 0)))?;
     }
     let opens = Remarks {
         opens: true,
@@ -510,7 +510,7 @@ fn ages(rt: &impl Abort, all: &mut CaptureTest) -> Result<(), Fail> {
 #[test]
 fn counts_damage_by_channel(rt: HostRuntime) -> Result<(), Fail> {
     let mut all = CaptureTest::new(rt.alloc())?;
-    all.hear_all(&[
+    all.add_all(&[
         (0, false, pdu(0, (1, 2), 10, (100, 0))),
         (1, true, pdu(0, (2, 1), 20, (200, 100))),
         (3, false, pdu(1, (1, 2), 11, (110, 0))),
@@ -518,7 +518,7 @@ fn counts_damage_by_channel(rt: HostRuntime) -> Result<(), Fail> {
     ])?;
     for (channel, back) in [(0, true), (1, false), (1, false), (2, false), (3, false)] {
         let broken = DecodedDatagram::NoRed(RedFault::Length);
-        let _remark = all.hear(channel, back, &broken)?;
+        let _remark = all.add(channel, back, &broken)?;
     }
     assert_equal(&rt, all.following.damaged, 5);
     assert_equal(&rt, damage(&all, 0), Some([[0, 0, 1, 0], [1, 0, 0, 0]]));

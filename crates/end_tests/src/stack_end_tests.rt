@@ -104,7 +104,7 @@ impl Station {
         }
     }
 
-    fn hear(&mut self, channel: usize, octets: &[u8]) {
+    fn receive(&mut self, channel: usize, octets: &[u8]) {
         self.end
             .arrive(channel, octets, self.clock, &mut self.taken);
     }
@@ -137,7 +137,7 @@ impl Station {
             };
             self.heard = self.heard.wrapping_add(1);
             if channel == on {
-                self.hear(channel, octets);
+                self.receive(channel, octets);
                 return true;
             }
         }

@@ -101,7 +101,7 @@ impl Seat {
     }
 
     // Hands a telegram over. None where there is no room for an answer.
-    fn hear(&mut self, telegram: &Telegram<'_>) -> Option<Result<(), SessionEnd>> {
+    fn receive(&mut self, telegram: &Telegram<'_>) -> Option<Result<(), SessionEnd>> {
         if self.waiting.len() >= WAITING_MAX {
             return None;
         }
@@ -113,7 +113,7 @@ impl Seat {
 
     // Hands a message over. None where it is no telegram, or where there is no room for an answer.
     fn read(&mut self, message: &[u8]) -> Option<Result<(), SessionEnd>> {
-        self.hear(&decode(message).ok()?)
+        self.receive(&decode(message).ok()?)
     }
 
     fn put(&mut self, kind: u16, payload: &[u8]) -> Result<(), PutFault> {
@@ -149,7 +149,7 @@ impl Seat {
 }
 
 // Hands a telegram of the peer over. The first name is the peer's.
-fn tell(
+fn receive(
     seat: &mut Seat,
     names: [&str; 2],
     kind: u16,
@@ -162,7 +162,7 @@ fn tell(
         receiver: Name::new(names[1])?,
         payload,
     };
-    let answer = seat.hear(&telegram).ok_or("room")?;
+    let answer = seat.receive(&telegram).ok_or("room")?;
     Ok(answer.err().map(|end| end.detail))
 }
 
@@ -178,7 +178,7 @@ fn interlocking_in(rt: &HostRuntime, phase: Phase) -> Result<Seat, Fail> {
         if il.phase() == phase {
             return Ok(il);
         }
-        tell(&mut il, ["FE1", "IL1"], kind, payload)?;
+        receive(&mut il, ["FE1", "IL1"], kind, payload)?;
     }
     if phase == Phase::Ended {
         il.end();
@@ -194,7 +194,7 @@ fn field_in(rt: &HostRuntime, phase: Phase) -> Result<Seat, Fail> {
     }
     fe.up().ok_or("up")?;
     if phase == Phase::Refused {
-        tell(&mut fe, ["IL1", "FE1"], 0x24, &[5])?;
+        receive(&mut fe, ["IL1", "FE1"], 0x24, &[5])?;
         return Ok(fe);
     }
     let way: [(u16, &[u8]); 2] = [(0x24, &[3]), (0x21, &[])];
@@ -202,7 +202,7 @@ fn field_in(rt: &HostRuntime, phase: Phase) -> Result<Seat, Fail> {
         if fe.phase() == phase {
             return Ok(fe);
         }
-        tell(&mut fe, ["IL1", "FE1"], kind, payload)?;
+        receive(&mut fe, ["IL1", "FE1"], kind, payload)?;
     }
     if phase == Phase::Established {
         fe.init_done()?;
@@ -311,7 +311,7 @@ fn makes(
     assert_equal(rt, seat.phase(), phase);
     let before = seat.waiting.len();
     let (kind, payload) = telegram;
-    assert_true_at(rt, place, tell(seat, names, kind, payload)? == detail);
+    assert_true_at(rt, place, receive(seat, names, kind, payload)? == detail);
     seat.is(rt, next, before.wrapping_add(added));
     assert_equal(rt, seat.log.kinds.len(), taken);
     Ok(())
@@ -444,7 +444,7 @@ fn parts(
     kind: u16,
     payload: &[u8],
 ) -> Result<(), Fail> {
-    let answer = tell(seat, names, kind, payload)?;
+    let answer = receive(seat, names, kind, payload)?;
     assert_true(rt, answer == Some(SessionDetail::NotOfThisPair));
     assert_equal(rt, seat.phase(), Phase::Ended);
     assert_true(rt, seat.log.kinds.is_empty());
@@ -453,7 +453,10 @@ fn parts(
 
 // A telegram ends the session of an end.
 fn ends(rt: &impl Abort, seat: &mut Seat, telegram: &Telegram<'_>, detail: SessionDetail) {
-    assert_true(rt, seat.hear(telegram) == Some(Err(SessionEnd { detail })));
+    assert_true(
+        rt,
+        seat.receive(telegram) == Some(Err(SessionEnd { detail })),
+    );
     assert_equal(rt, seat.phase(), Phase::Ended);
 }
 

@@ -20,7 +20,7 @@ struct Heard {
 }
 
 /// Hands it to a machine with identifier 2.
-fn hear<A: Allocator>(seat: &mut Seat<A>, heard: Heard, now: u64) -> Step {
+fn receive<A: Allocator>(seat: &mut Seat<A>, heard: Heard, now: u64) -> Step {
     let opening = [0x30, 0x33, 0x30, 0x33, 20, 0, 0, 0, 0, 0, 0, 0, 0, 0];
     let unit = [7; 45];
     let body = match heard.kind {
@@ -41,7 +41,7 @@ fn hear<A: Allocator>(seat: &mut Seat<A>, heard: Heard, now: u64) -> Step {
     };
     let mut buffer = [0; SAFE_PDU_MAX];
     let size = encode(&pdu, &RULE, &mut buffer);
-    seat.hear(&buffer[..size], now)
+    seat.receive(&buffer[..size], now)
 }
 
 /// A PDU of the peer.
@@ -58,8 +58,8 @@ fn from_peer(kind: Kind, sn: u32, cs: u32) -> Heard {
 /// A server with first number 500 that took ConnReq 100 and HB 101.
 fn server<A: Allocator>(alloc: A) -> Result<Seat<A>, MachineFault> {
     let mut seat = Seat::open(alloc, SERVER, Role::Server, 500)?;
-    hear(&mut seat, from_peer(Kind::ConnReq, 100, 0), 0);
-    hear(&mut seat, from_peer(Kind::Heartbeat, 101, 500), 0);
+    receive(&mut seat, from_peer(Kind::ConnReq, 100, 0), 0);
+    receive(&mut seat, from_peer(Kind::Heartbeat, 101, 500), 0);
     Ok(seat)
 }
 
@@ -72,7 +72,7 @@ fn arrives<A: Allocator>(
     step: Step,
     pdus: &[Told],
 ) {
-    assert_equal(rt, hear(seat, heard, now), step);
+    assert_equal(rt, receive(seat, heard, now), step);
     seat.made(rt, 1, pdus);
 }
 
@@ -137,7 +137,7 @@ fn server_up_one_arrival(rt: HostRuntime) -> Result<(), Fail> {
 
 /// A request for retransmission at a server that is up and sends two units, and the same once more, are answered so, and these PDUs
 /// are made.
-fn asks<A: Allocator>(
+fn answers<A: Allocator>(
     rt: &impl Abort,
     seat: &mut Seat<A>,
     request: Heard,
@@ -146,8 +146,8 @@ fn asks<A: Allocator>(
 ) {
     let _ = seat.send(1);
     let _ = seat.send(2);
-    assert_equal(rt, hear(seat, request, 0), steps.0);
-    assert_equal(rt, hear(seat, request, 0), steps.1);
+    assert_equal(rt, receive(seat, request, 0), steps.0);
+    assert_equal(rt, receive(seat, request, 0), steps.1);
     seat.made(rt, 3, pdus);
 }
 
@@ -191,7 +191,7 @@ fn server_answers_requests(rt: HostRuntime) -> Result<(), Fail> {
         ),
     ] {
         let request = from_peer(Kind::RetrReq, sn, cs);
-        asks(&rt, &mut server(rt.alloc())?, request, steps, pdus);
+        answers(&rt, &mut server(rt.alloc())?, request, steps, pdus);
     }
     Ok(())
 }

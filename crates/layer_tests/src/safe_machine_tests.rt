@@ -1,4 +1,4 @@
-//! Two machines that hear one another, with numbers and times from outside.
+//! Two machines that receive from one another, with numbers and times from outside.
 
 ghost use Rattle.std.specs.Prelude.{◌≤◌, ◌*◌};
 
@@ -121,7 +121,7 @@ impl<A: Allocator> Seat<A> {
     }
 
     /// A PDU comes.
-    pub(crate) fn hear(&mut self, pdu: &[u8], now: u64) -> Step {
+    pub(crate) fn receive(&mut self, pdu: &[u8], now: u64) -> Step {
         let Some(heard) = self.heard.checked_add(1) else {
             return Step::Nothing;
         };
@@ -131,9 +131,9 @@ impl<A: Allocator> Seat<A> {
     }
 
     /// The PDU at a place among those that another made comes; Nothing where there is none.
-    fn hear_from(&mut self, other: &Wire, place: usize, now: u64) -> Step {
+    fn receive_from(&mut self, other: &Wire, place: usize, now: u64) -> Step {
         match other.octets.as_slice().get(place) {
-            Some(pdu) => self.hear(pdu.as_slice(), now),
+            Some(pdu) => self.receive(pdu.as_slice(), now),
             None => Step::Nothing,
         }
     }
@@ -252,10 +252,10 @@ impl<A: Allocator> Ends<A> {
             FeSends(last) => assert_true(rt, self.fe.send(last).is_ok()),
             FeTicks(now) => self.fe.tick(now),
             ToFe(place, now, answer) => {
-                assert_equal(rt, self.fe.hear_from(&self.il.made, place, now), answer);
+                assert_equal(rt, self.fe.receive_from(&self.il.made, place, now), answer);
             }
             ToIl(place, now, answer) => {
-                assert_equal(rt, self.il.hear_from(&self.fe.made, place, now), answer);
+                assert_equal(rt, self.il.receive_from(&self.fe.made, place, now), answer);
             }
         }
     }

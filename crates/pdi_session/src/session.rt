@@ -219,7 +219,7 @@ impl Session {
         self.names.decode_known(message)
     }
 
-    /// Processes a telegram as `arrive` does. The caller has it from `known`, so the names are not compared again.
+    /// Processes a telegram as `arrive` does. The caller has it from `decode_known`, so the names are not compared again.
     ///
     /// # Errors
     ///

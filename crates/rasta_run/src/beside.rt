@@ -25,16 +25,16 @@ pub fn run_beside<H: Read + Drop, T: Read + Drop, O: Write, E: Write>(
     // `run_beside` never returns `WrongWords`.
     ensures { result ≢ Status.WrongWords }
 {
-    let asked = ask_for(following, beside);
+    let asked = request_for(following, beside);
     let ended = capture_beside::run(alloc, here, there, &asked, out, err);
     end(err, ended)
 }
 
 /// Returns the choices of `follow` in the form that `capture_beside` expects.
-fn ask_for<'a>(following: &FollowRequest<'a>, beside: &'a str) -> Request<'a>
-    // `ask_for` passes the ports and the form on.
+fn request_for<'a>(following: &FollowRequest<'a>, beside: &'a str) -> Request<'a>
+    // `request_for` passes the ports and the form on.
     ensures choices { (result.ports ≡ following.now.ports) × (result.json ≡ following.now.json) }
-    // `ask_for` passes both names on.
+    // `request_for` passes both names on.
     ensures names { (result.here.now ≡ following.now.file.now) × (result.there.now ≡ beside.now) }
 {
     Request {

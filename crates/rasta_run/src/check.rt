@@ -6,7 +6,7 @@ ghost use Rattle.settings_file.specs.FileContents.{ends_seen};
 ghost use Rattle.settings_text.specs.InForce.{settings_text};
 ghost use Rattle.rasta_run.specs.CheckOutput.{HasChecked, check_result_of};
 
-use crate::opening_faults::tell_unread;
+use crate::opening_faults::report_unread;
 use crate::settings::{NoAddress, check_ends, refuse, warn};
 use end_settings::Side;
 use rasta_words::{Fault, Status, report};
@@ -41,7 +41,7 @@ pub fn run_check<O: Write, E: Write>(
     };
     if !are_addresses(&ends) {
         let status = refuse(file, None, &NoAddress, err);
-        tell_addresses(&ends, err);
+        report_addresses(&ends, err);
         return status;
     }
     warn(alloc, false, &ends, err);
@@ -79,13 +79,13 @@ fn are_all_addresses(texts: &[String]) -> bool {
 }
 
 /// Prints each text that is not an address.
-fn tell_addresses<E: Write>(ends: &Ends, err: &mut E) {
+fn report_addresses<E: Write>(ends: &Ends, err: &mut E) {
     match ends {
-        Ends::Il(il) => tell_unread(il, Side::Interlocking, err),
-        Ends::Fe(fe) => tell_unread(fe, Side::FieldElement, err),
+        Ends::Il(il) => report_unread(il, Side::Interlocking, err),
+        Ends::Fe(fe) => report_unread(fe, Side::FieldElement, err),
         Ends::Pair(il, fe) => {
-            tell_unread(il, Side::Interlocking, err);
-            tell_unread(fe, Side::FieldElement, err);
+            report_unread(il, Side::Interlocking, err);
+            report_unread(fe, Side::FieldElement, err);
         }
     }
 }

@@ -127,13 +127,13 @@ impl CountsPrinter {
     /// # Errors
     ///
     /// - The error of the writer; what it wrote before stays written.
-    pub fn tell<E: Write>(
+    pub fn log_counts<E: Write>(
         &self,
         counted: &RunCounts,
         now: Milliseconds,
         err: &mut E,
     ) -> io::Result<()>
-        // If `tell` succeeds, it has appended a line for each channel and one for the connection, or nothing without
+        // If `log_counts` succeeds, it has appended a line for each channel and one for the connection, or nothing without
         // a form that has lines.
         ensures { OnOk result (Appends (E.contents err.old) (E.contents err.new)
             (counts.printed_counts self.now now counted.now)) }

@@ -76,8 +76,8 @@ impl<C: Channels, A: Allocator + Copy> Actor<'_, C, A> {
     /// # Errors
     ///
     /// - The error of the writer; what it wrote before stays written.
-    pub fn tell_unread<E: Write>(&self, now: Milliseconds, err: &mut E) -> io::Result<()>
-        // If `tell_unread` succeeds, it has appended the line of that notice, if the log is not off.
+    pub fn report_unread<E: Write>(&self, now: Milliseconds, err: &mut E) -> io::Result<()>
+        // If `report_unread` succeeds, it has appended the line of that notice, if the log is not off.
         ensures { OnOk result (LogsNotice (Some notice.Unread) self.now.log now (E.contents err.old) (E.contents err.new)) }
     {
         self.log.notice(Some(Notice::Unread), now, err)
@@ -90,7 +90,7 @@ impl<C: Channels, A: Allocator + Copy> Actor<'_, C, A> {
         ensures { self.new ≡ record self.old { log = self.new.log } }
     {
         self.log_events(now, err);
-        let _ = self.tell_counts(now, err);
+        let _ = self.log_counts(now, err);
         if !met || !self.log.is_off() {
             let _ = self.log_ending(now, err);
         }
@@ -125,8 +125,8 @@ impl<C: Channels, A: Allocator + Copy> Actor<'_, C, A> {
     /// # Errors
     ///
     /// - The error of the writer; what it wrote before stays written.
-    pub fn tell_undone<E: Write>(&self, left: Leftovers, err: &mut E) -> io::Result<()>
-        // If `tell_undone` succeeds, it has appended the line of what is left undone, or nothing if nothing is.
+    pub fn report_undone<E: Write>(&self, left: Leftovers, err: &mut E) -> io::Result<()>
+        // If `report_undone` succeeds, it has appended the line of what is left undone, or nothing if nothing is.
         ensures { OnOk result (Appends (E.contents err.old) (E.contents err.new) (undone.printed_line self.now.side left)) }
     {
         left.write_if(err, self.side)
@@ -190,10 +190,10 @@ impl<C: Channels, A: Allocator + Copy> Actor<'_, C, A> {
     }
 
     /// Prints the lines of counts, if they are due. Returns whether counts are due.
-    pub fn tell_due<E: Write>(&mut self, now: Milliseconds, err: &mut E) -> bool
-        // `tell_due` returns true if and only if counts are printed and their time is reached.
+    pub fn report_due<E: Write>(&mut self, now: Milliseconds, err: &mut E) -> bool
+        // `report_due` returns true if and only if counts are printed and their time is reached.
         ensures due { result ≡ counts.is_printing_due self.old.teller now }
-        // `tell_due` records which channels received something, if counts are printed, and when they are printed
+        // `report_due` records which channels received something, if counts are printed, and when they are printed
         // next; it changes nothing else.
         ensures kept { self.new ≡ record self.old {
           teller = counts.look self.old.teller (run_counts_of self.old.earlier.sums
@@ -207,7 +207,7 @@ impl<C: Channels, A: Allocator + Copy> Actor<'_, C, A> {
         if !self.teller.look(&counted, now) {
             return false;
         }
-        let _ = self.tell_counts(now, err);
+        let _ = self.log_counts(now, err);
         true
     }
 }

@@ -32,7 +32,7 @@ pub fn run_follow<R: Read + Drop, O: Write, E: Write>(
     // `run_follow` never returns `WrongWords`.
     ensures words { result ≢ Status.WrongWords }
 {
-    let Some(asked) = ask_for(following) else {
+    let Some(asked) = options_for(following) else {
         return report(err, Fault::Hex);
     };
     match capture_text::run(alloc, reader, &asked, out, err) {
@@ -43,8 +43,8 @@ pub fn run_follow<R: Read + Drop, O: Write, E: Write>(
 
 /// Returns the choices of `follow` in the form that `capture_text` expects; `None` if the initial value is not 32
 /// hex digits.
-fn ask_for(following: &FollowRequest<'_>) -> Option<FollowOptions>
-    // `ask_for` passes each choice on, with the words of the initial value, and returns `None` if there are none.
+fn options_for(following: &FollowRequest<'_>) -> Option<FollowOptions>
+    // `options_for` passes each choice on, with the words of the initial value, and returns `None` if there are none.
     ensures { result ≡ options_under following.now (initial_value_of (option_copied following.now.iv)) }
 {
     let initial_value = initial_value(following.iv)?;

@@ -202,7 +202,7 @@ impl Log {
         'events: for number in self.told..recorder.happened {
             match recorder.event(number) {
                 Some(happening) => {
-                    self.tell_explained(
+                    self.log_explained(
                         happening,
                         departure,
                         recorder.last_data.as_slice(),
@@ -234,7 +234,7 @@ impl Log {
 
     /// Logs one event, after the one that explains it. If that is a fault of the session, the messages of the last Data
     /// follow, and what these settings expect in them.
-    fn tell_explained<E: Write>(
+    fn log_explained<E: Write>(
         &mut self,
         happening: EndEvent,
         departure: Option<Departure>,
@@ -243,7 +243,7 @@ impl Log {
         now: Milliseconds,
         err: &mut E,
     )
-        // `tell_explained` changes only which causes are known, how often they came, and whether openings are only counted.
+        // `log_explained` changes only which causes are known, how often they came, and whether openings are only counted.
         ensures { self.new ≡ record self.old {
           causes = self.new.causes;
           cause_count = self.new.cause_count;
@@ -252,10 +252,10 @@ impl Log {
         } }
     {
         if let Some(explanation) = explanation_of(happening, departure) {
-            let _ = self.tell(explanation, now, err);
+            let _ = self.log_event(explanation, now, err);
             let _ = self.show_data(explanation, last, config, err);
         }
-        let _ = self.tell(happening, now, err);
+        let _ = self.log_event(happening, now, err);
     }
 
     /// Writes the messages of a Data, as `rasta show` does, and what these settings expect in them, if the event is that
@@ -289,19 +289,19 @@ impl Log {
     /// # Errors
     ///
     /// - The error of the writer; what it wrote before stays written.
-    pub fn tell<E: Write>(
+    pub fn log_event<E: Write>(
         &mut self,
         happening: EndEvent,
         now: Milliseconds,
         err: &mut E,
     ) -> io::Result<()>
-        // If `tell` succeeds, it has appended the line of the event if the level includes it. At the level of states
+        // If `log_event` succeeds, it has appended the line of the event if the level includes it. At the level of states
         // a drop counts only if its cause is `new`.
         ensures told { OnOk result ((new : Bool) × LogsEvent (telling.is_logged self.old.level self.new.is_quiet new happening)
             self.new now happening (E.contents err.old) (E.contents err.new)) }
-        // Once the session is established, `tell` no longer leaves openings out.
+        // Once the session is established, `log_event` no longer leaves openings out.
         ensures quiet { self.new.is_quiet ≡ telling.quiet_after happening self.old.is_quiet }
-        // `tell` changes only which causes are known, how often they came, and whether openings are only counted.
+        // `log_event` changes only which causes are known, how often they came, and whether openings are only counted.
         ensures kept { self.new ≡ record self.old {
           causes = self.new.causes;
           cause_count = self.new.cause_count;
@@ -309,7 +309,7 @@ impl Log {
           drops = self.new.drops;
         } }
     {
-        if !self.tells(happening) {
+        if !self.note_event(happening) {
             return write_text(err, "");
         }
         self.write(happening, now, err)
@@ -369,14 +369,14 @@ impl Log {
     }
 
     /// Returns whether an event is logged, and records its cause.
-    fn tells(&mut self, happening: EndEvent) -> bool
-        // `tells` returns whether the level includes the event; at the level of states a drop is included only if its
+    fn note_event(&mut self, happening: EndEvent) -> bool
+        // `note_event` returns whether the level includes the event; at the level of states a drop is included only if its
         // cause is `new`, and else it is counted, unless it is a copy.
         ensures told { (new : Bool) × (result ≡ telling.is_logged self.old.level self.new.is_quiet new happening)
             × (self.new.drops ≡ telling.drops_by self.old.level new happening self.old.drops) }
-        // After `tells` openings are only counted if they were before and this is not a session.
+        // After `note_event` openings are only counted if they were before and this is not a session.
         ensures quiet { self.new.is_quiet ≡ telling.quiet_after happening self.old.is_quiet }
-        // `tells` changes only which causes are known, how often they came, and whether openings are only counted.
+        // `note_event` changes only which causes are known, how often they came, and whether openings are only counted.
         ensures kept { self.new ≡ record self.old {
           causes = self.new.causes;
           cause_count = self.new.cause_count;
@@ -516,18 +516,18 @@ impl Log {
         }
         let came = sums.channels[place].received;
         let said = self.channels[place].look(came, now, self.t_max);
-        self.tell_change(said, place + 1, now, err)
+        self.log_change(said, place + 1, now, err)
     }
 
     /// Logs the change of a channel, numbered from 1.
-    fn tell_change<E: Write>(
+    fn log_change<E: Write>(
         &self,
         said: SilenceChange,
         channel: usize,
         now: Milliseconds,
         err: &mut E,
     ) -> io::Result<()>
-        // If `tell_change` succeeds, it has appended the line of the change, or nothing without a change or if the
+        // If `log_change` succeeds, it has appended the line of the change, or nothing without a change or if the
         // log is off.
         ensures { OnOk result (LogsChange said channel self.now now (E.contents err.old) (E.contents err.new)) }
     {
@@ -695,12 +695,12 @@ impl Log {
     /// # Errors
     ///
     /// - The error of the writer; what it wrote before stays written.
-    pub fn tell_drops<E: Write>(&mut self, now: Milliseconds, err: &mut E) -> io::Result<()>
-        // If there are some and the last count is a minute ago, `tell_drops` begins to count again; else it changes
+    pub fn log_drops<E: Write>(&mut self, now: Milliseconds, err: &mut E) -> io::Result<()>
+        // If there are some and the last count is a minute ago, `log_drops` begins to count again; else it changes
         // nothing.
         ensures kept { self.new ≡ (if telling.are_drops_due self.old.drops self.old.drops_at now
             then record self.old { drops = 0; drops_at = now } else self.old) }
-        // If `tell_drops` succeeds, it has appended the line with their number, if that is due, or nothing.
+        // If `log_drops` succeeds, it has appended the line with their number, if that is due, or nothing.
         ensures told { OnOk result (LogsNotice (telling.drops_notice (telling.are_drops_due self.old.drops self.old.drops_at now)
             self.old.drops) self.new now (E.contents err.old) (E.contents err.new)) }
     {

@@ -159,7 +159,7 @@ fn stop<E: Write>(stopped: StopCause, ends: &Ends, file: &str, err: &mut E) -> S
         let _ = writeln!(err, "{file}: {NoAddress}");
     }
     if let StopCause::Unopened(unopened) = stopped {
-        unopened.tell(ends, err);
+        unopened.report(ends, err);
     }
     status
 }
@@ -273,7 +273,7 @@ fn open_side<'a, R: Net + Clock + Files, E: Write>(
     let mut source = Random { system: rt };
     let mut actor = open_end(&mut source, alloc, channels, side, settings, run, now)?;
     actor.look_at_clock(rt, now);
-    actor.tell_opened(settings, now, err);
+    actor.report_opened(settings, now, err);
     Ok(actor)
 }
 

@@ -26,10 +26,10 @@ pub struct UnopenedChannels {
 impl UnopenedChannels {
     /// Prints each channel with its address and the reason, if addresses are the reason. A failing output is
     /// ignored.
-    pub fn tell<E: Write>(&self, ends: &Ends, err: &mut E) {
+    pub fn report<E: Write>(&self, ends: &Ends, err: &mut E) {
         let settings = settings_of(ends, self.side);
         match self.fault {
-            UdpFault::Address(_) => tell_unread(settings, self.side, err),
+            UdpFault::Address(_) => report_unread(settings, self.side, err),
             UdpFault::Bind(refusal) => {
                 let text = text_at(settings.local.as_slice(), refusal.channel);
                 let error = number_of(refusal.error);
@@ -84,16 +84,16 @@ pub(crate) fn fault_of(fault: UdpFault) -> Fault
 }
 
 /// Prints each text of `local` and `remote` that is not an address.
-pub(crate) fn tell_unread<E: Write>(settings: &Settings, side: Side, err: &mut E) {
+pub(crate) fn report_unread<E: Write>(settings: &Settings, side: Side, err: &mut E) {
     let pairs = settings.local.iter().zip(settings.remote.iter());
     for (number, (own, peer)) in pairs.enumerate() {
-        tell_if_unread(side, number.wrapping_add(1), true, own.as_str(), err);
-        tell_if_unread(side, number.wrapping_add(1), false, peer.as_str(), err);
+        report_if_unread(side, number.wrapping_add(1), true, own.as_str(), err);
+        report_if_unread(side, number.wrapping_add(1), false, peer.as_str(), err);
     }
 }
 
 /// Prints a text if it is not an address.
-fn tell_if_unread<E: Write>(side: Side, channel: usize, is_own: bool, text: &str, err: &mut E) {
+fn report_if_unread<E: Write>(side: Side, channel: usize, is_own: bool, text: &str, err: &mut E) {
     if !is_address(text) {
         let _ = write_unread(err, side, channel, is_own, text);
     }

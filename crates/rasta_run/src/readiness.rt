@@ -121,7 +121,7 @@ impl Readiness {
     }
 
     /// Asks the system once for a stream that is watched, and waits for it no longer than this.
-    fn ask(&mut self, stream: Stream, limit: Duration) -> bool {
+    fn poll_stream(&mut self, stream: Stream, limit: Duration) -> bool {
         let place = stream.descriptor();
         let descriptor = i32::from(place);
         let token = Token(usize::from(place));
@@ -148,7 +148,7 @@ impl Gate for Readiness {
         }
         let limit = Duration::from_millis(self.patience.min(SLICE));
         'slices: for _ in 0..=self.patience / SLICE {
-            if self.ask(stream, limit) {
+            if self.poll_stream(stream, limit) {
                 return true;
             }
         }

@@ -49,14 +49,14 @@ impl<C: Channels> Channels for RecordedChannels<C> {
 
     fn send(&mut self, channel: usize, datagram: &[u8]) -> Result<(), ChannelFault> {
         let result = self.inner.send(channel, datagram);
-        self.recorder.hear_sent(channel, datagram, result.is_ok());
+        self.recorder.record_sent(channel, datagram, result.is_ok());
         result
     }
 
     fn receive(&mut self, buffer: &mut [u8]) -> Result<Option<(usize, usize)>, ChannelFault> {
         let result = self.inner.receive(buffer);
         if let Ok(Some((channel, size))) = result {
-            self.recorder.hear_came(channel, &buffer[..size]);
+            self.recorder.record_received(channel, &buffer[..size]);
         }
         result
     }
@@ -70,6 +70,6 @@ impl<C: Channels> Channels for RecordedChannels<C> {
     }
 
     fn note(&mut self, note: &Note<'_>) {
-        self.recorder.hear_note(note);
+        self.recorder.record_note(note);
     }
 }

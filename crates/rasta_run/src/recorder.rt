@@ -132,11 +132,11 @@ impl Recorder {
 
     /// Records a datagram that was to be sent on a channel, and whether it was. Its event counts only on the first
     /// channel, since all channels carry the same.
-    pub(crate) fn hear_sent(&mut self, channel: usize, datagram: &[u8], went: bool)
+    pub(crate) fn record_sent(&mut self, channel: usize, datagram: &[u8], went: bool)
         // If the recorder listens, the datagram is counted at its channel, by whether it was sent.
         ensures channels { self.old.listens ≡ true
             → self.new.channels ≡ counting.count_sent_on channel went self.old.channels }
-        // `hear_sent` does not change the number of parts that ended a connection.
+        // `record_sent` does not change the number of parts that ended a connection.
         ensures closing { self.new.closing ≡ self.old.closing }
         // If the recorder listens, it also keeps the event of a datagram of the first channel; it changes nothing else.
         ensures kept { self.old.listens ≡ true → self.new ≡ recording.after_send channel datagram.now went self.old }
@@ -151,7 +151,7 @@ impl Recorder {
     }
 
     /// Records a datagram that was received on a channel.
-    pub(crate) fn hear_came(&mut self, channel: usize, datagram: &[u8])
+    pub(crate) fn record_received(&mut self, channel: usize, datagram: &[u8])
         // If the recorder listens, it keeps the channel and the header of the datagram, and whether it is a ConnReq, and
         // changes nothing else.
         ensures came { self.old.listens ≡ true → self.new ≡ record self.old {
@@ -174,7 +174,7 @@ impl Recorder {
     }
 
     /// Records a note of the end.
-    pub(crate) fn hear_note(&mut self, note: &Note<'_>)
+    pub(crate) fn record_note(&mut self, note: &Note<'_>)
         // If the recorder listens and the note is a step that dropped the part of the last datagram, it counts at
         // the datagram's channel.
         ensures channels { self.old.listens ≡ true → (number : ℕ) (step : Step) → note.now ≡ Note.Step number step
@@ -200,8 +200,8 @@ impl Recorder {
             return;
         }
         match note {
-            Note::Redundancy(_, event) => self.hear_event(*event),
-            Note::Step(number, step) => self.hear_step(*number, *step),
+            Note::Redundancy(_, event) => self.record_event(*event),
+            Note::Step(number, step) => self.record_step(*number, *step),
             Note::State(state) => self.keep(EndEvent::State(*state)),
             Note::Phase(phase) => self.keep(EndEvent::Phase(*phase)),
             Note::Take(_, _) => {}
@@ -209,8 +209,8 @@ impl Recorder {
     }
 
     /// Records how the redundancy layer handled a datagram.
-    fn hear_event(&mut self, event: RedEvent)
-        // `hear_event` keeps that the last datagram was dropped and why, if it was; it changes nothing else.
+    fn record_event(&mut self, event: RedEvent)
+        // `record_event` keeps that the last datagram was dropped and why, if it was; it changes nothing else.
         ensures { self.new ≡ recording.after_event event self.old }
     {
         let (channel, _) = self.came;
@@ -220,27 +220,27 @@ impl Recorder {
     }
 
     /// Records how the safety machine handled a part.
-    fn hear_step(&mut self, number: u32, step: Step)
+    fn record_step(&mut self, number: u32, step: Step)
         // A dropped part of the last datagram counts at its channel; no other step changes the counts of channels.
         ensures channels { self.new.channels
             ≡ counting.count_step_on step number self.old.came.0 self.old.came.1 self.old.channels }
         // A part that ended the connection or came after its end is counted, and no other.
         ensures closing { self.new.closing ≡ counting.closing_count_after step self.old.closing }
-        // `hear_step` also keeps that a part was dropped and why, and a version for which the end disconnected; it changes
+        // `record_step` also keeps that a part was dropped and why, and a version for which the end disconnected; it changes
         // nothing else.
         ensures kept { self.new ≡ recording.after_step number step self.old }
     {
         match step {
-            Step::Dropped(cause) => self.hear_dropped(number, cause),
-            Step::Left(reason, _) => self.hear_left(number, reason),
+            Step::Dropped(cause) => self.record_drop(number, cause),
+            Step::Left(reason, _) => self.record_departure(number, reason),
             Step::Nothing => self.closing = self.closing.wrapping_add(1),
             Step::Taken | Step::Gap => {}
         }
     }
 
     /// Records that the end disconnected because of a part.
-    fn hear_left(&mut self, number: u32, reason: Reason)
-        // `hear_left` counts the part, and keeps its version if that is the reason; it changes nothing else.
+    fn record_departure(&mut self, number: u32, reason: Reason)
+        // `record_departure` counts the part, and keeps its version if that is the reason; it changes nothing else.
         ensures { self.new ≡ record self.old {
           closing = one_more self.old.closing;
           version = recording.version_after reason (recording.header_under number self.old.came.1) self.old.version;
@@ -253,13 +253,13 @@ impl Recorder {
 
     /// Records a part that was dropped. If it is not that of the last datagram, it was deferred, and its channel
     /// is not known.
-    fn hear_dropped(&mut self, number: u32, cause: DropCause)
-        // `hear_dropped` counts the part at the channel of the last datagram, if it is its part.
+    fn record_drop(&mut self, number: u32, cause: DropCause)
+        // `record_drop` counts the part at the channel of the last datagram, if it is its part.
         ensures channels { self.new.channels ≡ counting.count_dropped_on
             (counting.channel_under number self.old.came.0 self.old.came.1) cause self.old.channels }
-        // `hear_dropped` does not change the number of parts that ended a connection.
+        // `record_drop` does not change the number of parts that ended a connection.
         ensures closing { self.new.closing ≡ self.old.closing }
-        // `hear_dropped` also keeps the channel and the cause, with the identifiers of a stranger or another length of
+        // `record_drop` also keeps the channel and the cause, with the identifiers of a stranger or another length of
         // the safety code, and what was expected, if they are known; it changes nothing else.
         ensures kept { self.new ≡ recording.after_part number cause self.old }
     {

@@ -137,7 +137,7 @@ impl<C: Channels + Drop, A: Allocator + Copy> Actor<'_, C, A> {
         if let Some(count) = self.keeper.count(now) {
             let _ = self.log.notice(Some(Notice::Fruitless(count)), now, err);
         }
-        let _ = self.log.tell(EndEvent::Anew(first_sn), now, err);
+        let _ = self.log.log_event(EndEvent::Anew(first_sn), now, err);
         self.log_events(now, err);
     }
 }

@@ -273,8 +273,8 @@ impl Runner<'_> {
         let mut source = Random { system: rt };
         let second = keep_second(&mut self.second, &mut source, alloc, now, err)?;
         let first = self.first.keep(&mut source, alloc, now, err)?;
-        if self.first.tell_due(now, err) {
-            let _ = self.tell_block(now, err);
+        if self.first.report_due(now, err) {
+            let _ = self.report_block(now, err);
         }
         Ok(first || second)
     }
@@ -284,7 +284,7 @@ impl Runner<'_> {
     /// # Errors
     ///
     /// - The error of the writer; what it wrote before stays written.
-    fn tell_block<E: Write>(&self, now: Milliseconds, err: &mut E) -> io::Result<()> {
+    fn report_block<E: Write>(&self, now: Milliseconds, err: &mut E) -> io::Result<()> {
         if !self.first.teller.has_block() {
             return Ok(());
         }
@@ -351,9 +351,9 @@ impl Runner<'_> {
             let _ = streams.print_rest()?;
         }
         if is_until_end {
-            self.tell_undone(first_undone, second_undone, &mut streams.err);
+            self.report_undone(first_undone, second_undone, &mut streams.err);
         }
-        let is_read = streams.tell_unread(left_out);
+        let is_read = streams.report_unread(left_out);
         self.conclude(first_met, second_met, now, &mut streams.err);
         let is_finished = first_undone.is_nothing() && second_undone.is_nothing();
         Ok(Outcome {
@@ -369,9 +369,9 @@ impl Runner<'_> {
         requires later { (self.old.first.end.time ≤ now) × IfSome self.old.second (λ a. a.end.time ≤ now) }
     {
         if left_out > 0 {
-            let _ = self.first.tell_unread(now, err);
+            let _ = self.first.report_unread(now, err);
             if let Some(second) = &self.second {
-                let _ = second.tell_unread(now, err);
+                let _ = second.report_unread(now, err);
             }
         }
         if is_until_end || left_out > 0 {
@@ -392,15 +392,15 @@ impl Runner<'_> {
     }
 
     /// Prints what each end leaves undone, if it is anything. A failing output is ignored.
-    fn tell_undone<E: Write>(
+    fn report_undone<E: Write>(
         &self,
         first_undone: Leftovers,
         second_undone: Leftovers,
         err: &mut E,
     ) {
-        let _ = self.first.tell_undone(first_undone, err);
+        let _ = self.first.report_undone(first_undone, err);
         if let Some(second) = &self.second {
-            let _ = second.tell_undone(second_undone, err);
+            let _ = second.report_undone(second_undone, err);
         }
     }
 
@@ -418,7 +418,7 @@ impl Runner<'_> {
             second.note_failures();
             second.conclude(now, second_met, err);
         }
-        let _ = self.tell_block(now, err);
+        let _ = self.report_block(now, err);
     }
 }
 
@@ -480,7 +480,7 @@ fn keep_second<R: Files, E: Write>(
         None => Ok(false),
         Some(actor) => {
             let anew = actor.keep(source, alloc, now, err)?;
-            let _due = actor.tell_due(now, err);
+            let _due = actor.report_due(now, err);
             Ok(anew)
         }
     }

@@ -164,7 +164,7 @@ impl<O: Write, E: Write, G: Gate> Streams<O, E, G> {
     /// failed gets nothing more.
     pub fn give_up(&mut self, fault: Fault) {
         if fault != Fault::Output && self.print_rest().is_ok() {
-            let _ = self.tell_unread(0);
+            let _ = self.report_unread(0);
         }
     }
 
@@ -186,10 +186,10 @@ impl<O: Write, E: Write, G: Gate> Streams<O, E, G> {
     }
 
     /// Logs how many lines of standard output were not printed, if any were not. Returns whether all were.
-    pub fn tell_unread(&mut self, left_out: u64) -> bool
-        // `tell_unread` returns true if and only if no line was left out and none waits.
+    pub fn report_unread(&mut self, left_out: u64) -> bool
+        // `report_unread` returns true if and only if no line was left out and none waits.
         ensures read { result ≡ (unread_lines left_out self.old.out.octets.items == 0) }
-        // `tell_unread` does not change standard output.
+        // `report_unread` does not change standard output.
         ensures kept { self.new.out ≡ self.old.out }
     {
         let unread = left_out.saturating_add(self.out.waiting_count());

@@ -208,7 +208,7 @@ impl<C: Channels, A: Allocator + Copy> Actor<'_, C, A> {
         // `log_refusal` changes nothing but the log.
         ensures { self.new ≡ record self.old { log = self.new.log } }
     {
-        let _ = self.log.tell(EndEvent::PutRefused(fault), now, err);
+        let _ = self.log.log_event(EndEvent::PutRefused(fault), now, err);
         let _ = write_refused(err, origin, kind, fault.name());
     }
 
@@ -348,7 +348,7 @@ impl<C: Channels, A: Allocator + Copy> Actor<'_, C, A> {
             Ok(()) | Err(InitFault::Full) => Ok(()),
             Err(InitFault::NotInitialising) => {
                 let fault = InitFault::NotInitialising;
-                let _ = self.log.tell(EndEvent::InitRefused(fault), now, err);
+                let _ = self.log.log_event(EndEvent::InitRefused(fault), now, err);
                 app.refuse(fault.name())
             }
         }

@@ -162,8 +162,8 @@ impl<'a, C: Channels, A: Allocator + Copy> Actor<'a, C, A> {
     }
 
     /// Logs the channels with which the end was opened, and the events of its opening.
-    pub fn tell_opened<E: Write>(&mut self, settings: &Settings, now: Milliseconds, err: &mut E)
-        // `tell_opened` changes nothing but the log.
+    pub fn report_opened<E: Write>(&mut self, settings: &Settings, now: Milliseconds, err: &mut E)
+        // `report_opened` changes nothing but the log.
         ensures { self.new ≡ record self.old { log = self.new.log } }
     {
         self.log.open(settings, now, err);
@@ -189,7 +189,7 @@ impl<'a, C: Channels, A: Allocator + Copy> Actor<'a, C, A> {
         let _ = self.log.look_at_request(self.end.state(), now, err);
         let _ = self.log.look_for_request(recorder.has_request, now, err);
         let _ = self.log.look_for_version(recorder.version, now, err);
-        let _ = self.log.tell_drops(now, err);
+        let _ = self.log.log_drops(now, err);
     }
 
     /// Returns all that is counted of the end.
@@ -215,14 +215,14 @@ impl<'a, C: Channels, A: Allocator + Copy> Actor<'a, C, A> {
     /// # Errors
     ///
     /// - The error of the writer; what it wrote before stays written.
-    pub fn tell_counts<E: Write>(&self, now: Milliseconds, err: &mut E) -> io::Result<()>
-        // If `tell_counts` succeeds, it has appended the lines of what the end counted in all its openings, and of
+    pub fn log_counts<E: Write>(&self, now: Milliseconds, err: &mut E) -> io::Result<()>
+        // If `log_counts` succeeds, it has appended the lines of what the end counted in all its openings, and of
         // what is counted beside.
         ensures { OnOk result (Appends (E.contents err.old) (E.contents err.new)
             (printed_counts self.now.teller now (run_counts_of self.now.earlier.sums (statistics_of self.now.end)
             (channels_of self.now.end).recorder.value self.now.failures self.now.put self.now.taken))) }
     {
-        self.teller.tell(&self.run_counts(), now, err)
+        self.teller.log_counts(&self.run_counts(), now, err)
     }
 
     /// Takes one turn: the end receives. Then an interlocking with an established session, or a field element that
@@ -260,7 +260,7 @@ impl<'a, C: Channels, A: Allocator + Copy> Actor<'a, C, A> {
         ensures time { self.new.end.time ≤ now }
     {
         let _ = self.note_turn(now, err);
-        let works = self.hear(now, app)?;
+        let works = self.poll_end(now, app)?;
         self.log_events(now, err);
         self.note_reception(works);
         let _ = self.note_loss(now, err);
@@ -270,21 +270,21 @@ impl<'a, C: Channels, A: Allocator + Copy> Actor<'a, C, A> {
 
     /// Receives what has come. Returns whether all receptions succeeded. If one fails, time passes all the same, so
     /// that deadlines are met.
-    fn hear<T: Application>(&mut self, now: Milliseconds, app: &mut T) -> Result<bool, Fault>
+    fn poll_end<T: Application>(&mut self, now: Milliseconds, app: &mut T) -> Result<bool, Fault>
         requires now { now ≤ TIME_MAX }
         requires later { self.old.end.time ≤ now }
-        // If `hear` succeeds, the end was polled, and time has passed even if a reception failed.
+        // If `poll_end` succeeds, the end was polled, and time has passed even if a reception failed.
         ensures heard { IfOk result (λ works. turning.PollsEnd (λ o. C.told o.inner) T.takes works now
             (self.old.end, app.old) (self.new.end, app.new)) }
-        // If `hear` succeeds, the application has lost nothing that it took.
+        // If `poll_end` succeeds, the application has lost nothing that it took.
         ensures taken { OnOk result (T.has_lost app.new ≡ false) }
-        // `hear` fails only with `Output`: a reception that fails is not a fault.
+        // `poll_end` fails only with `Output`: a reception that fails is not a fault.
         ensures refused { IfErr result (λ why. why ≡ Fault.Output) }
-        // After `hear` the end's time is `now`: it has ticked, whether or not a reception failed.
+        // After `poll_end` the end's time is `now`: it has ticked, whether or not a reception failed.
         ensures ticked { self.new.end.time ≡ now }
-        // After `hear` the end's time is at most `now`.
+        // After `poll_end` the end's time is at most `now`.
         ensures time { self.new.end.time ≤ now }
-        // `hear` changes nothing but the end.
+        // `poll_end` changes nothing but the end.
         ensures kept { self.new ≡ record self.old { end = self.new.end } }
     {
         let works = poll_or_tick(&mut self.end, now, app);

@@ -180,7 +180,7 @@ impl<W: Write + Drop, A: Allocator + Copy> Script<W, A> {
     /// Applies an event that is not a delivery, and prints what it did or why it was refused.
     fn happen(&mut self, event: &Event<'_>, is_tick: bool) -> Result<(), ScriptLineFault> {
         match self.pair.apply(event) {
-            Ok(()) => self.tell(TracedEvent {
+            Ok(()) => self.print_event(TracedEvent {
                 side: event.side,
                 came: None,
                 is_tick,
@@ -190,12 +190,12 @@ impl<W: Write + Drop, A: Allocator + Copy> Script<W, A> {
     }
 
     /// Prints what the last event did.
-    fn tell(&mut self, happening: TracedEvent) -> Result<(), ScriptLineFault> {
+    fn print_event(&mut self, happening: TracedEvent) -> Result<(), ScriptLineFault> {
         self.trace.begin();
         if let Some(notes) = self.pair.notes() {
             for place in 0..notes.len() {
                 if let Some(told) = notes.get(place) {
-                    self.trace.tell(happening, told)?;
+                    self.trace.add(happening, told)?;
                 }
             }
         }
@@ -215,7 +215,7 @@ impl<W: Write + Drop, A: Allocator + Copy> Script<W, A> {
         match self.pair.apply(&event) {
             Ok(()) => {
                 self.trace.forget_waiting(side);
-                self.tell(TracedEvent {
+                self.print_event(TracedEvent {
                     side,
                     came: None,
                     is_tick: false,
@@ -367,7 +367,7 @@ impl<W: Write + Drop, A: Allocator + Copy> Script<W, A> {
             self.trace.warn(label)?;
         }
         match arrival.answer {
-            Ok(()) => self.tell(TracedEvent {
+            Ok(()) => self.print_event(TracedEvent {
                 side: other(label.side),
                 came: Some(label),
                 is_tick: false,

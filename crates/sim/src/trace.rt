@@ -93,7 +93,7 @@ impl<W: Write + Drop, A: Allocator + Copy> Trace<W, A> {
     /// Handles the next note of an event.
     ///
     /// A PDU is printed after what its machine step drops and delivers, so it is held back until the step is noted.
-    pub fn tell(&mut self, event: TracedEvent, told: NoteView<'_>) -> Result<(), ScriptLineFault> {
+    pub fn add(&mut self, event: TracedEvent, told: NoteView<'_>) -> Result<(), ScriptLineFault> {
         match told {
             NoteView::Made(datagram) => {
                 if self.progress.in_step {

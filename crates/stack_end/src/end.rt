@@ -325,7 +325,7 @@ impl<C: Channels, A: Allocator> End<C, A> {
         ensures time { self.new.time ≤ now }
     {
         let mut buffer = [0; POLL_BUFFER];
-        match self.hear_all(&mut buffer, now, taker) {
+        match self.receive_all(&mut buffer, now, taker) {
             Ok(()) => {
                 self.tick(now, taker);
                 Ok(())
@@ -335,7 +335,7 @@ impl<C: Channels, A: Allocator> End<C, A> {
     }
 
     /// Processes received datagrams, up to the limit of one poll.
-    fn hear_all<T: Taker>(
+    fn receive_all<T: Taker>(
         &mut self,
         buffer: &mut [u8],
         now: Milliseconds,
@@ -354,7 +354,7 @@ impl<C: Channels, A: Allocator> End<C, A> {
         ensures time { self.new.time ≤ now }
     {
         for _ in 0..POLL_DATAGRAMS {
-            match self.hear_next(buffer, now, taker) {
+            match self.receive_next(buffer, now, taker) {
                 Ok(true) => {}
                 Ok(false) => return Ok(()),
                 Err(fault) => return Err(fault),
@@ -364,7 +364,7 @@ impl<C: Channels, A: Allocator> End<C, A> {
     }
 
     /// Processes the next received datagram. Returns `false` if none has come.
-    fn hear_next<T: Taker>(
+    fn receive_next<T: Taker>(
         &mut self,
         buffer: &mut [u8],
         now: Milliseconds,
@@ -381,7 +381,7 @@ impl<C: Channels, A: Allocator> End<C, A> {
         // The end's time is at most `now`, whether or not a datagram came.
         ensures time { self.new.time ≤ now }
     {
-        match self.ask(buffer) {
+        match self.request_datagram(buffer) {
             Ok(Some((channel, size))) => {
                 self.arrive(channel, &buffer[..size], now, taker);
                 Ok(true)
@@ -392,7 +392,10 @@ impl<C: Channels, A: Allocator> End<C, A> {
     }
 
     /// Requests a datagram from the channels.
-    fn ask(&mut self, buffer: &mut [u8]) -> Result<Option<(usize, usize)>, ChannelFault>
+    fn request_datagram(
+        &mut self,
+        buffer: &mut [u8],
+    ) -> Result<Option<(usize, usize)>, ChannelFault>
         requires { length buffer.old ≡ buffer_size }
         // The channels were asked once with the whole buffer; nothing else of the end has changed.
         ensures asked { RequestsDatagram C.told result buffer.new self.old self.new }

@@ -9,7 +9,7 @@ ghost use Rattle.stack_end.specs.LayerBounds.{KeepsLayerBounds};
 ghost use Rattle.stack_end.specs.Reopening.{reopening_turn};
 ghost use Rattle.stack_end.specs.Turns.{upper_turn, arrival_turn, close_turn, init_done_turn, event_of, expires_deferral, input_and_send_turn, tick_expires_deferral, time_turn, put_turn, red_event};
 
-use crate::notes::{tell_change, tell_opened};
+use crate::notes::{report_change, report_opened};
 use crate::upper::UpperLayers;
 use channels::Channels;
 use octets::Milliseconds;
@@ -52,7 +52,7 @@ impl<C: Channels, A: Allocator> Layers<C, A> {
                 let seen = self.upper.moment();
                 self.upper.guard(now);
                 let after = self.upper.moment();
-                tell_change(&mut self.upper.channels, seen, after);
+                report_change(&mut self.upper.channels, seen, after);
                 self.deliver(octets, now, taker)
             }
         }
@@ -116,7 +116,7 @@ impl<C: Channels, A: Allocator> Layers<C, A> {
                 let seen = self.upper.moment();
                 self.upper.tick(now);
                 let after = self.upper.moment();
-                tell_change(&mut self.upper.channels, seen, after);
+                report_change(&mut self.upper.channels, seen, after);
                 self.wait(now, taker)
             }
         }
@@ -158,7 +158,7 @@ impl<C: Channels, A: Allocator> Layers<C, A> {
         self.red.reopen();
         self.upper.reopen(first_sn, now);
         let state = self.upper.machine.state();
-        tell_opened(&mut self.upper.channels, state);
+        report_opened(&mut self.upper.channels, state);
     }
 
     /// Queues a command or status, and sends what the peer's window allows.
@@ -217,6 +217,6 @@ impl<C: Channels, A: Allocator> Layers<C, A> {
         let seen = self.upper.moment();
         self.upper.close(now);
         let after = self.upper.moment();
-        tell_change(&mut self.upper.channels, seen, after);
+        report_change(&mut self.upper.channels, seen, after);
     }
 }

@@ -20,7 +20,7 @@ pub(crate) struct EndMoment {
 }
 
 /// Notes the state of an end that was opened.
-pub(crate) fn tell_opened<C: Channels>(channels: &mut C, state: ConnectionState)
+pub(crate) fn report_opened<C: Channels>(channels: &mut C, state: ConnectionState)
     // The note of an opening changes nothing that `told` shows of the channels.
     ensures { C.told channels.new ≡ C.told channels.old }
 {
@@ -28,7 +28,7 @@ pub(crate) fn tell_opened<C: Channels>(channels: &mut C, state: ConnectionState)
 }
 
 /// Notes what the redundancy layer did with a datagram.
-pub(crate) fn tell_event<C: Channels>(channels: &mut C, octets: &[u8], event: RedEvent)
+pub(crate) fn report_event<C: Channels>(channels: &mut C, octets: &[u8], event: RedEvent)
     // The note of a datagram changes nothing that `told` shows of the channels.
     ensures { C.told channels.new ≡ C.told channels.old }
 {
@@ -44,7 +44,7 @@ pub(crate) fn tell_event<C: Channels>(channels: &mut C, octets: &[u8], event: Re
 
 /// Notes the machine's result for a part, then for each message of its unit that it was taken, or the phase that the
 /// session changed to.
-pub(crate) fn tell_step<C: Channels>(
+pub(crate) fn report_step<C: Channels>(
     channels: &mut C,
     number: u32,
     step: Step,
@@ -74,7 +74,7 @@ pub(crate) fn tell_step<C: Channels>(
     let mut before = phase;
     for (message, judged) in messages.iter().zip(judged) {
         if judged.is_taken {
-            tell_take(channels, message);
+            report_take(channels, message);
         } else if judged.phase != before {
             channels.note(&Note::Phase(judged.phase));
         }
@@ -83,7 +83,7 @@ pub(crate) fn tell_step<C: Channels>(
 }
 
 /// Notes a telegram that was taken.
-fn tell_take<C: Channels>(channels: &mut C, message: &[u8])
+fn report_take<C: Channels>(channels: &mut C, message: &[u8])
     // The note of a taken telegram changes nothing that `told` shows of the channels.
     ensures { C.told channels.new ≡ C.told channels.old }
 {
@@ -93,7 +93,7 @@ fn tell_take<C: Channels>(channels: &mut C, message: &[u8])
 }
 
 /// Notes state and phase, each if it has changed.
-pub(crate) fn tell_change<C: Channels>(channels: &mut C, before: EndMoment, after: EndMoment)
+pub(crate) fn report_change<C: Channels>(channels: &mut C, before: EndMoment, after: EndMoment)
     // The notes of a new state and phase change nothing that `told` shows of the channels.
     ensures { C.told channels.new ≡ C.told channels.old }
 {

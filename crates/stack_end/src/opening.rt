@@ -20,7 +20,7 @@ ghost use Rattle.stack_end.specs.declared.OpenFault.TheVariants.{BadConfig};
 
 use crate::OpenFault;
 use crate::layers::Layers;
-use crate::notes::tell_opened;
+use crate::notes::report_opened;
 use crate::sender::ToChannels;
 use crate::statistics::{MadeCounts, PartCounts};
 use crate::upper::UpperLayers;
@@ -85,7 +85,7 @@ pub(crate) fn open<C: Channels, A: Allocator + Copy>(
     ) else {
         return Err((OpenFault::Memory, channels));
     };
-    tell_opened(&mut channels, machine.state());
+    report_opened(&mut channels, machine.state());
     let upper = UpperLayers {
         channels,
         numbers,

@@ -17,7 +17,7 @@ ghost use Rattle.stack_end.specs.Reopening.{empty_fields, machine_reopening_turn
 
 use crate::departure::{Departure, closes, own_departure, part_departure, user_leaves};
 use crate::judge::{JudgedMessages, ToSession};
-use crate::notes::{EndMoment, tell_change, tell_event, tell_step};
+use crate::notes::{EndMoment, report_change, report_event, report_step};
 use crate::sender::ToChannels;
 use crate::statistics::{MadeCounts, PartCounts};
 use arrayvec::ArrayVec;
@@ -81,7 +81,12 @@ struct PartOutcome {
 
 impl<C: Channels, A: Allocator> UpperLayers<C, A> {
     /// Passes a part to the machine, and the unit that it delivers to the session.
-    fn hear<T: Taker>(&mut self, octets: &[u8], now: Milliseconds, taker: &mut T) -> PartOutcome
+    fn process_part<T: Taker>(
+        &mut self,
+        octets: &[u8],
+        now: Milliseconds,
+        taker: &mut T,
+    ) -> PartOutcome
         requires reach { self.old.machine.expected < 2 ^ 62 }
         requires few { FewWait self.old.session self.old.waiting }
         // The machine processes the part and sends the PDUs that it makes; then the session judges the units
@@ -239,7 +244,7 @@ impl<C: Channels, A: Allocator> UpperLayers<C, A> {
     {
         let before = self.machine.state();
         let waited = self.waiting_time(now);
-        let (step, asked) = self.hear_and_tell(number, octets, now, taker);
+        let (step, asked) = self.process_and_report(number, octets, now, taker);
         let seen = self.moment();
         let after = self.machine.state();
         let shut = closes(before, after);
@@ -250,12 +255,12 @@ impl<C: Channels, A: Allocator> UpperLayers<C, A> {
         self.depart(part_departure(step, asked, shut, octets, now));
         self.count(step, waited, now);
         let after = self.moment();
-        tell_change(&mut self.channels, seen, after);
+        report_change(&mut self.channels, seen, after);
     }
 
     /// Passes a part to machine and session, and makes the notes of it. Returns the machine's result, and why the end
     /// has to disconnect.
-    fn hear_and_tell<T: Taker>(
+    fn process_and_report<T: Taker>(
         &mut self,
         number: u32,
         octets: &[u8],
@@ -275,9 +280,9 @@ impl<C: Channels, A: Allocator> UpperLayers<C, A> {
         ensures keeps { KeepsBounds index_step self.old self.new }
     {
         let before = self.moment();
-        let heard = self.hear(octets, now, taker);
+        let heard = self.process_part(octets, now, taker);
         let phase = self.session.phase();
-        tell_step(
+        report_step(
             &mut self.channels,
             number,
             heard.step,
@@ -291,7 +296,7 @@ impl<C: Channels, A: Allocator> UpperLayers<C, A> {
             phase,
         };
         let after = self.moment();
-        tell_change(&mut self.channels, seen, after);
+        report_change(&mut self.channels, seen, after);
         (heard.step, heard.asked)
     }
 
@@ -503,7 +508,7 @@ impl<C: Channels, A: Allocator> UpperLayers<C, A> {
         match self.session.init_done(&mut self.waiting) {
             Ok(()) => {
                 let after = self.moment();
-                tell_change(&mut self.channels, seen, after);
+                report_change(&mut self.channels, seen, after);
                 self.send_waiting(now);
                 Ok(())
             }
@@ -627,7 +632,7 @@ impl<C: Channels, A: Allocator> UpperLayers<C, A> {
             now,
         };
         let event = red.arrive(octets, now, &mut up);
-        tell_event(&mut self.channels, octets, event);
+        report_event(&mut self.channels, octets, event);
         event
     }
 

@@ -151,7 +151,7 @@ impl<S: Socket> SocketChannel<S> {
     }
 
     /// Asks the socket once for a datagram, and counts a refusal with its cause.
-    fn ask(&mut self, buffer: &mut [u8]) -> Reception
+    fn receive(&mut self, buffer: &mut [u8]) -> Reception
         // The socket makes one reception, and this channel counts a refusal with its cause.
         ensures asked { IsAsked S.receives (length buffer.old) result (octets_of result buffer.new) self.old self.new }
         // What the socket gives has at most the length of the buffer.
@@ -260,7 +260,7 @@ impl<S: Socket, A: Allocator> Channels for SocketChannels<S, A> {
         // The fault is `Room` if there is no such channel, else `System`.
         ensures fault { IfErr result (λ why. why ≡ fault_on channel self.old.channels) }
     {
-        let result = tell(self.list.as_mut_slice(), channel, datagram);
+        let result = send_on(self.list.as_mut_slice(), channel, datagram);
         if result.is_err() {
             self.failed_sends = self.failed_sends.wrapping_add(1);
         }
@@ -291,7 +291,7 @@ impl<S: Socket, A: Allocator> Channels for SocketChannels<S, A> {
         // The only fault of `receive` is `System`.
         ensures fault { IfErr result (λ why. why ≡ channel_fault.System) }
     {
-        let result = ask_around(self.list.as_mut_slice(), self.last, buffer);
+        let result = receive_from_any(self.list.as_mut_slice(), self.last, buffer);
         if let Ok(Some((channel, _))) = result {
             self.last = channel;
             self.received = self.received.wrapping_add(1);
@@ -312,15 +312,15 @@ impl<S: Socket, A: Allocator> Channels for SocketChannels<S, A> {
 }
 
 /// Sends a datagram on a channel.
-fn tell<S: Socket>(
+fn send_on<S: Socket>(
     list: &mut [SocketChannel<S>],
     channel: usize,
     datagram: &[u8],
 ) -> Result<(), ChannelFault>
-    // The channel makes one send, and no other channel changes; `tell` succeeds if and only if its socket
+    // The channel makes one send, and no other channel changes; `send_on` succeeds if and only if its socket
     // accepts the datagram.
     ensures sent { SendsOn S.sends channel datagram.now (is_ok result) list.old list.new }
-    // The fault of `tell` is `Room` if there is no such channel, else `System`.
+    // The fault of `send_on` is `Room` if there is no such channel, else `System`.
     ensures fault { IfErr result (λ why. why ≡ fault_on channel list.old) }
 {
     if channel == 0 || channel > list.len() {
@@ -333,54 +333,54 @@ fn tell<S: Socket>(
 }
 
 /// Asks the channels after the one of number `last`, then those up to it, until one gives a datagram.
-fn ask_around<S: Socket>(
+fn receive_from_any<S: Socket>(
     list: &mut [SocketChannel<S>],
     last: usize,
     buffer: &mut [u8],
 ) -> Result<Option<(usize, usize)>, ChannelFault>
     requires last { last ≤ length list.old }
     requires counted { length list.old + 1 < 2 ^ 64 }
-    // `ask_around` asks the channels in a circle, from the one after `last` on.
+    // `receive_from_any` asks the channels in a circle, from the one after `last` on.
     ensures asked { AsksAround S.receives (length buffer.old) last (answers_of result buffer.new) list.old list.new }
-    // The size that `ask_around` returns is at most the length of the buffer.
+    // The size that `receive_from_any` returns is at most the length of the buffer.
     ensures fits { IfOk result (λ came. IfSome came (λ p. p.1 ≤ length buffer.new)) }
-    // The channel that `ask_around` returns is one of the list.
+    // The channel that `receive_from_any` returns is one of the list.
     ensures within { IfOk result (λ came. IfSome came (λ p. p.0 ≤ length list.new)) }
-    // The only fault of `ask_around` is `System`.
+    // The only fault of `receive_from_any` is `System`.
     ensures fault { IfErr result (λ why. why ≡ channel_fault.System) }
 {
     let (earlier, later) = list.split_at_mut(last);
-    match ask(later, last + 1, buffer) {
+    match receive_in_order(later, last + 1, buffer) {
         Ok(Some(came)) => Ok(Some(came)),
-        Ok(None) => or_nothing(ask(earlier, 1, buffer)),
-        Err(_) => ask(earlier, 1, buffer),
+        Ok(None) => or_nothing(receive_in_order(earlier, 1, buffer)),
+        Err(_) => receive_in_order(earlier, 1, buffer),
     }
 }
 
 /// Asks channels in order until one gives a datagram. `first` is the number of the first channel.
-fn ask<S: Socket>(
+fn receive_in_order<S: Socket>(
     list: &mut [SocketChannel<S>],
     first: usize,
     buffer: &mut [u8],
 ) -> Result<Option<(usize, usize)>, ChannelFault>
     requires { first + length list.old < 2 ^ 64 }
-    // `ask` asks the channels in order until one gives a datagram, which is returned with its number. One that
-    // refuses counts it and stops nothing. `ask` fails if and only if all refuse.
+    // `receive_in_order` asks the channels in order until one gives a datagram, which is returned with its number. One that
+    // refuses counts it and stops nothing. `receive_in_order` fails if and only if all refuse.
     ensures asked { AsksChannels S.receives (length buffer.old) first (answers_of result buffer.new) list.old list.new }
-    // The size that `ask` returns is at most the length of the buffer.
+    // The size that `receive_in_order` returns is at most the length of the buffer.
     ensures fits { IfOk result (λ came. IfSome came (λ p. p.1 ≤ length buffer.new)) }
-    // The channel that `ask` returns is one of the list.
+    // The channel that `receive_in_order` returns is one of the list.
     ensures within { IfOk result (λ came. IfSome came (λ p. p.0 < first + length list.new)) }
-    // The only fault of `ask` is `System`.
+    // The only fault of `receive_in_order` is `System`.
     ensures fault { IfErr result (λ why. why ≡ channel_fault.System) }
 {
     let Some((next, others)) = list.split_first_mut() else {
         return Err(ChannelFault::System);
     };
-    match next.ask(buffer) {
+    match next.receive(buffer) {
         Reception::Came(size) => Ok(Some((first, size))),
-        Reception::Nothing => or_nothing(ask(others, first + 1, buffer)),
-        Reception::Refused(_) => ask(others, first + 1, buffer),
+        Reception::Nothing => or_nothing(receive_in_order(others, first + 1, buffer)),
+        Reception::Refused(_) => receive_in_order(others, first + 1, buffer),
     }
 }
 

@@ -31,5 +31,5 @@ invariant_of-self c =
     c.self.inside.end c.set_aside.new.end c.tick.new.self
     c.set_aside.ensures.same c.tick.ensures.turns.left c.self.invariant.3 in
     let late = (and_parts (nat_le c.args.self.now.time c.args.now) (nat_le c.args.now TIME_MAX)
-    c.in_ok-may_hear.ensures.time).1 in
+    c.in_ok-may_receive.ensures.time).1 in
     (omega (arith, c.tick.ensures.time), leb-true c.args.now TIME_MAX late, c.self.invariant.2, ready)

@@ -11,7 +11,7 @@ returns-in_default-clause-does g c =
     let v = inside_of c.args.self.now in
     let t = upper_turn (tick_turn now) v in
     let one = went-alone takes t _ _ _ _ (above-went (tick_turn now) v _ _ _
-    (alone-told (tick_turn now v.upper) _ _ _ _ c.tell_change.ensures c.tick.ensures.does)) in
+    (alone-told (tick_turn now v.upper) _ _ _ _ c.report_change.ensures c.tick.ensures.does)) in
     open-went takes v (turn_then t (input_and_send_turn now i)) c.state.result _ _ _ _ _ c.state.ensures.state
     c.in_default.not-Closed
     (went-then takes t (input_and_send_turn now i) _ _ _ _ _ _ _ _ one c.wait.ensures.does)

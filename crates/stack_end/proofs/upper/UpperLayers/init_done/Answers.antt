@@ -9,6 +9,6 @@ returns-in-Ok-clause-does g c =
     let event = InitDone (length v.waiting) in
     let t = session_turn (process_event event (dialogue_of v)) v in
     alone-then t (send_turn c.args.now) _ _ _ _ _
-    (alone-told t _ _ _ _ c.tell_change.ensures
+    (alone-told t _ _ _ _ c.report_change.ensures
     (event-went event v _ _ _ c.init_done.ensures.left c.init_done.ensures.added refl))
     c.send_waiting.ensures.does

@@ -17,12 +17,12 @@ returns-clause-does g c =
     let octets = c.args.octets.now in
     let v = fields_of c.args.self.now in
     let before = c.state-before.result in
-    let why = c.hear_and_tell-step.result.1 in
+    let why = c.process_and_report-step.result.1 in
     let t0 = judge_turn now octets v in
     let t1 = turn_then t0 (note_request_turn before octets) in
     let t2 = turn_then t1 (up_turn before) in
     let t3 = turn_then t2 (leave_turn now why) in
-    let h1 = went-then takes t0 (note_request_turn before octets) _ _ _ _ _ _ _ _ c.hear_and_tell-step.ensures.does
+    let h1 = went-then takes t0 (note_request_turn before octets) _ _ _ _ _ _ _ _ c.process_and_report-step.ensures.does
     (went-alone takes _ _ _ _ _ c.note_request.ensures.does) in
     let h2 = went-then takes t1 (up_turn before) _ _ _ _ _ _ _ _ h1 (went-alone takes _ _ _ _ _ c.rise.ensures.does) in
     let h3 = went-then takes t2 (leave_turn now why) _ _ _ _ _ _ _ _ h2
@@ -32,12 +32,12 @@ returns-clause-does g c =
     let h5 = went-then takes (turn_then t3 end_session_turn) (departure_turn c.part_departure.result) _ _ _ _ _ _ _ _ h4
     (went-alone takes _ _ _ _ _ c.depart.ensures.does) in
     let t5 = turn_then (turn_then t3 end_session_turn) (departure_turn c.part_departure.result) in
-    let step = c.hear_and_tell-step.result.0 in
+    let step = c.process_and_report-step.result.0 in
     let long = c.waiting_time-waited.result in
     let h6 = went-then takes t5 (count_turn step long now) _ _ _ _ _ _ _ _ h5
     (went-alone takes _ _ _ _ _ c.count.ensures.does) in
-    let told = went-told takes (turn_then t5 (count_turn step long now)) _ _ _ _ _ _ c.tell_change.ensures h6 in
-    let heard = c.hear_and_tell-step.ensures in
+    let told = went-told takes (turn_then t5 (count_turn step long now)) _ _ _ _ _ _ c.report_change.ensures h6 in
+    let heard = c.process_and_report-step.ensures in
     let answer = decoded_answer (safe_seen v.machine.settings.rule octets) now v.machine in
     let asked = (judge_part now octets v).leaving in
     let shut : c.closes-shut.result ≡ (not (is_closed v.machine.connection)
@@ -46,7 +46,7 @@ returns-clause-does g c =
     ∙ ap (λ q. not (is_closed v.machine.connection) && is_closed q)
     (c.state-after.ensures.state ∙ ap (λ (w : Fields). w.machine.connection) heard.does.left) in
     let cause : c.part_departure.result ≡ closing_departure now octets v =
-    c.part_departure.ensures ∙ ap (λ s. part_departure s c.hear_and_tell-step.result.1 c.closes-shut.result octets now)
+    c.part_departure.ensures ∙ ap (λ s. part_departure s c.process_and_report-step.result.1 c.closes-shut.result octets now)
     heard.answer
     ∙ ap (λ a. part_departure answer a c.closes-shut.result octets now) heard.asks
     ∙ ap (λ b. part_departure answer asked b octets now) shut in
@@ -55,7 +55,7 @@ returns-clause-does g c =
     (turn_then (turn_then t0 (note_request_turn q octets)) (up_turn q)) (leave_turn now r)) end_session_turn)
     (departure_turn d)) (count_turn s n now) in
     let is = ap (λ q. by_state q why c.part_departure.result step long) c.state-before.ensures.state
-    ∙ ap (λ r. by_state v.machine.connection r c.part_departure.result step long) c.hear_and_tell-step.ensures.asks
+    ∙ ap (λ r. by_state v.machine.connection r c.part_departure.result step long) c.process_and_report-step.ensures.asks
     ∙ ap (λ d. by_state v.machine.connection asked d step long) cause
     ∙ ap (λ s. by_state v.machine.connection asked (closing_departure now octets v) s long) heard.answer
     ∙ ap (by_state v.machine.connection asked (closing_departure now octets v) answer) c.waiting_time-waited.ensures in
@@ -63,7 +63,7 @@ returns-clause-does g c =
 
 pub returns-clause-keeps : goal.returns-clause-keeps
 returns-clause-keeps g c =
-    let noted = keeps-then index_step 0 _ _ _ c.hear_and_tell-step.ensures.keeps c.note_request.ensures.keeps in
+    let noted = keeps-then index_step 0 _ _ _ c.process_and_report-step.ensures.keeps c.note_request.ensures.keeps in
     let risen = keeps-then index_step 0 _ _ _ noted c.rise.ensures.keeps in
     let left = keeps-then index_step 0 _ _ _ risen c.leave.ensures.keeps in
     let all = keeps-then index_step 0 _ _ _ left c.settle.ensures.keeps in

@@ -1,6 +1,6 @@
 use Rattle.stack_end.proofs.Words.{arith, inl, inr, refl}
 use Rattle.stack_end.proofs.CallParts.{heard-more}
-use Rattle.stack_end.proofs.end.End.hear_all.Goals as goal
+use Rattle.stack_end.proofs.end.End.receive_all.Goals as goal
 
 pub returns-in-Ok-false-clause-done : goal.returns-in-Ok-false-clause-done
 returns-in-Ok-false-clause-done g c =
@@ -19,7 +19,7 @@ returns-in-Err-clause-failed g c =
 pub loop-preserved : goal.loop-preserved
 loop-preserved g c =
     record {
-      time = c.hear_next.ensures.time;
+      time = c.receive_next.ensures.time;
       along = heard-more _ _ _ _ _ c.loop.invariant.along (rw c.in-Ok-true.field-0-test at c.in-Ok-true.ensures.heard);
     }
 

@@ -1,6 +1,6 @@
 use Rattle.stack_end.proofs.Words.{FoldsTo, length, List, ℕ, ◌≡◌, ◌≤◌}
 use Rattle.stack_end.specs.Poll.{ProcessesDatagram}
-use Rattle.stack_end.proofs.end.End.hear_all.Given as goal
+use Rattle.stack_end.proofs.end.End.receive_all.Given as goal
 
 abbrev pub invariant-loop : goal.invariant-loop
 invariant-loop g l =

@@ -1,6 +1,6 @@
 use Rattle.std.proofs.Common.{rules}
 use Rattle.udp_channels.proofs.SocketLemmas.{sends-on}
-use Rattle.udp_channels.proofs.sockets.tell.Goals as goal
+use Rattle.udp_channels.proofs.sockets.send_on.Goals as goal
 
 pub returns-in-Ok-clause-sent : goal.returns-in-Ok-clause-sent
 returns-in-Ok-clause-sent g c =

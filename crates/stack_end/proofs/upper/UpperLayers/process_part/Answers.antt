@@ -1,7 +1,7 @@
 use Rattle.stack_end.proofs.Words.{dialogue_of, fields_of, FoldsTo-keeps, octets_units, judge_part, machine_octets_turn, machine_turn, refl, rules, session_turn, talk}
 use Rattle.stack_end.specs.Turns.{with_units}
 use Rattle.stack_end.proofs.CallParts.{judges-units, machine-went, session-went, went-alone, went-then}
-use Rattle.stack_end.proofs.upper.UpperLayers.hear.Goals as goal
+use Rattle.stack_end.proofs.upper.UpperLayers.process_part.Goals as goal
 
 pub shape_of-self : goal.shape_of-self
 shape_of-self g c = FoldsTo-keeps (λ s. s.made.ghost_name) _ (λ s x t h. h.2) _ _ _ c.arrive-step.ensures.made
