@@ -615,6 +615,11 @@ def instant(text):
         (found[2] or '').ljust(6, '0')[:6]), False
 
 
+def is_reversed(start, end):
+    """Whether both instants are given in one form, and the last is before the first."""
+    return start is not None and end is not None and start[1] == end[1] and end[0] < start[0]
+
+
 def is_within(first, time, start, end):
     """Whether a time is not before one instant, and not after the other."""
     from_time, to_time = (None if limit is None else limit[0] + (first if limit[1] else 0) for limit in (start, end))
@@ -768,6 +773,8 @@ def main(words):
     parser.add_argument('--choose', action='store_true')
     parser.add_argument('file')
     asked = parser.parse_args(words)
+    if is_reversed(asked.start, asked.end):
+        parser.error("'--to' is before '--from'")
     with open(asked.file, 'rb') as file:
         out, err, status = followed(file, asked.code, asked.only, asked.t_max, asked.ports, asked.json, asked.time, asked.start, asked.end, asked.every, asked.events, asked.choose)
     sys.stdout.write(out)

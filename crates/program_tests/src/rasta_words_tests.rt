@@ -25,7 +25,7 @@ pub(crate) fn words_of<'a>(alloc: Global, line: &'a str) -> Result<Vec<&'a str>,
 }
 
 /// The words of a line ask for this.
-fn asks(rt: &(impl AllocGlobal + Abort), line: &str, wanted: Request<'_>) -> Result<(), Fail> {
+fn reads_as(rt: &(impl AllocGlobal + Abort), line: &str, wanted: Request<'_>) -> Result<(), Fail> {
     let words = words_of(rt.alloc(), line)?;
     match command(rt.alloc(), words.as_slice()) {
         Ok(found) => assert_equal_at(rt, line, found, wanted),
@@ -55,7 +55,7 @@ fn refuses(rt: &(impl AllocGlobal + Abort), lines: &str) -> Result<(), Fail> {
 }
 
 /// For the words of a line the program only prints a text: a fault, on standard error, or the help.
-fn tells(rt: &(impl AllocGlobal + Abort), line: &str, is_fault: bool) -> Result<(), Fail> {
+fn only_prints(rt: &(impl AllocGlobal + Abort), line: &str, is_fault: bool) -> Result<(), Fail> {
     let words = words_of(rt.alloc(), line)?;
     let is_told = match command(rt.alloc(), words.as_slice()) {
         Err(WordsFault::Words(error)) => error.use_stderr() == is_fault,
@@ -116,20 +116,20 @@ fn shows(
     iv: Option<&str>,
 ) -> Result<(), Fail> {
     let hex = HEARTBEAT;
-    asks(rt, line, Request::Show { code, iv, hex })
+    reads_as(rt, line, Request::Show { code, iv, hex })
 }
 
 #[test]
 fn accepts_the_words_of_md4(rt: HostRuntime) -> Result<(), Fail> {
-    asks(&rt, "rasta md4 empty", Request::Digest { hex: "empty" })?;
-    asks(&rt, "rasta md4 616263", Request::Digest { hex: "616263" })
+    reads_as(&rt, "rasta md4 empty", Request::Digest { hex: "empty" })?;
+    reads_as(&rt, "rasta md4 616263", Request::Digest { hex: "616263" })
 }
 
 // The defaults of `follow`, and each of its options.
 #[test]
 fn accepts_the_words_of_follow(rt: HostRuntime) -> Result<(), Fail> {
     let plain = plain_follow("night.tsv");
-    asks(&rt, "rasta follow night.tsv", Request::Follow(plain))?;
+    reads_as(&rt, "rasta follow night.tsv", Request::Follow(plain))?;
     let line =
         "rasta follow --messages --code 16 --only age --t-max 900 --iv 01000000020000000300000004000000 \
 --ports 46101-46102,5000 --json --events --choose --time utc --from 90.5 --to 2026-11-27T03:12:00Z --every 60 -";
@@ -155,7 +155,7 @@ fn accepts_the_words_of_follow(rt: HostRuntime) -> Result<(), Fail> {
         times,
         beside: None,
     };
-    asks(&rt, line, Request::Follow(wanted))
+    reads_as(&rt, line, Request::Follow(wanted))
 }
 
 /// Options of `follow`, each with a value that it does not accept.
@@ -194,6 +194,10 @@ fn rejects_values_of_follow(rt: HostRuntime) -> Result<(), Fail> {
         let option = *option;
         rejects(&rt, line.as_str(), Rejection::Value { option, value })?;
     }
+    for times in ["--from 7 --to 6.9", "--to @7 --from 1970-01-01T00:00:08"] {
+        let line = format!(in rt.alloc(); "rasta follow {times} night.tsv")?;
+        rejects(&rt, line.as_str(), Rejection::Reversed)?;
+    }
     Ok(())
 }
 
@@ -221,7 +225,7 @@ fn accepts_numbers_of_turns(rt: HostRuntime) -> Result<(), Fail> {
                 length: RunLength::Turns(turns),
                 ..until_end(word)
             };
-            asks(&rt, line.as_str(), Request::Net(running))?;
+            reads_as(&rt, line.as_str(), Request::Net(running))?;
         }
         for text in "0 1000001 4294967297  1e3 1,000 -1".split(' ') {
             let line = format!(in rt.alloc(); "rasta {name} ends.toml --turns {text}")?;
@@ -235,15 +239,15 @@ fn accepts_numbers_of_turns(rt: HostRuntime) -> Result<(), Fail> {
 fn accepts_the_words_of_the_ends(rt: HostRuntime) -> Result<(), Fail> {
     let running = until_end(Ends::Fe);
     let line = "rasta fe --until-end ends.toml";
-    asks(&rt, line, Request::Net(running))?;
+    reads_as(&rt, line, Request::Net(running))?;
     let line = "rasta fe --until-end --time utc ends.toml";
-    asks(&rt, line, Request::Net(running))?;
+    reads_as(&rt, line, Request::Net(running))?;
     let time = LogTime::Run;
     let line = "rasta fe --until-end --time run ends.toml";
-    asks(&rt, line, Request::Net(RunRequest { time, ..running }))?;
+    reads_as(&rt, line, Request::Net(RunRequest { time, ..running }))?;
     let stamp = true;
     let line = "rasta fe --until-end --stamp ends.toml";
-    asks(&rt, line, Request::Net(RunRequest { stamp, ..running }))
+    reads_as(&rt, line, Request::Net(RunRequest { stamp, ..running }))
 }
 
 #[test]
@@ -293,7 +297,7 @@ fn counts(
         counts: Some(CountsRequest { form, every }),
         ..until_end(Ends::Il)
     };
-    asks(rt, line, Request::Net(running))
+    reads_as(rt, line, Request::Net(running))
 }
 
 /// Words with a wrong choice of counts.
@@ -334,9 +338,9 @@ fn refuses_other_words(rt: HostRuntime) -> Result<(), Fail> {
     };
     rejects(&rt, "rasta show --code 9 00", rejection)?;
     for line in NO_COMMANDS.lines() {
-        tells(&rt, line, true)?;
+        only_prints(&rt, line, true)?;
     }
-    tells(&rt, "rasta --help", false)
+    only_prints(&rt, "rasta --help", false)
 }
 
 /// Returns the text that the program prints for the words of a line.

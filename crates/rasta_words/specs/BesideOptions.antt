@@ -7,7 +7,7 @@ use Rattle.rasta_words.specs.Choices.{ArePortsChosen, IsAgeChosen, IsCodeChosen,
 use Rattle.rasta_words.specs.Times.{HasTimes}
 use Rattle.rasta_words.specs.declared.command_line.FollowRequest.{FollowRequest}
 use Rattle.rasta_words.specs.declared.rejection.Rejection.{Rejection}
-use Rattle.rasta_words.specs.declared.rejection.Rejection.TheVariants.{Value, NoLength, TwoLengths, EveryAlone, Missing, NotBeside, OneInput}
+use Rattle.rasta_words.specs.declared.rejection.Rejection.TheVariants.{Value, NoLength, TwoLengths, EveryAlone, Missing, NotBeside, OneInput, Reversed}
 
 -- an option with a value was given
 abbrev pub is_given : Text → List Row → Bool
@@ -57,6 +57,7 @@ NamesUnpaired found NoLength = ⊥
 NamesUnpaired found TwoLengths = ⊥
 NamesUnpaired found EveryAlone = ⊥
 NamesUnpaired found OneInput = ⊥
+NamesUnpaired found Reversed = ⊥
 NamesUnpaired found Missing = ⊥
 
 -- why a recording cannot stand beside a file

@@ -15,10 +15,10 @@ use Rattle.rasta_words.specs.declared.status.RunLength.{RunLength}
 use Rattle.rasta_words.specs.declared.rejection.Choice.{Choice}
 use Rattle.rasta_words.specs.declared.rejection.Choice.TheVariants.{ShowCode, Turns, Log, LogTime, Expect, Stats, Every, Code, Only, TMax, Ports, Times, From, To, Period}
 use Rattle.rasta_words.specs.declared.rejection.Rejection.{Rejection}
-use Rattle.rasta_words.specs.declared.rejection.Rejection.TheVariants.{Value, NoLength, TwoLengths, EveryAlone, Missing, NotBeside, OneInput}
+use Rattle.rasta_words.specs.declared.rejection.Rejection.TheVariants.{Value, NoLength, TwoLengths, EveryAlone, Missing, NotBeside, OneInput, Reversed}
 use Rattle.rasta_words.specs.Choices.{ArePortsChosen, IsAgeChosen, IsCodeChosen, IsMilliseconds, IsPorts, IsRemarkChosen, IsWritten, code_word, is_flagged}
 use Rattle.rasta_words.specs.Seconds.{IsSeconds}
-use Rattle.rasta_words.specs.Times.{HasForm as HasTimeForm, HasFrom, HasTimes, HasTo, IsInstant, times_word}
+use Rattle.rasta_words.specs.Times.{HasEachTime, HasForm as HasTimeForm, HasFrom, HasTimes, HasTo, IsInstant, is_reversed, times_word}
 use Rattle.rasta_words.specs.BesideOptions.{IsBesideRejected}
 use Rattle.rasta_words.specs.declared.command_line.FollowTimes.{FollowTimes}
 use Rattle.rasta_words.specs.Runs.{IsEndChosen, IsLengthChosen, IsLogChosen, IsTimeChosen, IsTurns, ends_word, expected_word, form_word, log_word, time_word}
@@ -67,6 +67,7 @@ NamesOption choice word TwoLengths = ⊥
 NamesOption choice word EveryAlone = ⊥
 NamesOption choice word (NotBeside option) = ⊥
 NamesOption choice word OneInput = ⊥
+NamesOption choice word Reversed = ⊥
 NamesOption choice word Missing = ⊥
 
 -- the same, of an option that may be absent
@@ -135,13 +136,15 @@ IsShowRejected rows r =
 abbrev pub HasPorts : List Row → Type 0
 HasPorts rows = (ports : Option (List (Option PortRange))) × ArePortsChosen (first_of (codes "ports") rows) ports
 
--- why the times of `follow` are not valid: the first of its options, in the order --time, --from, --to, --every
+-- why the times of `follow` are not valid: the first of its options, in the order --time, --from, --to, --every; if
+-- each is valid, that `--to` is before `--from`
 abbrev pub AreTimesRejected : List Row → Rejection → Type 0
 AreTimesRejected rows r =
     NamesGivenOption Times (first_of (codes "time") rows) r
     ⊎ (HasTimeForm rows × NamesGivenOption From (first_of (codes "from") rows) r)
     ⊎ (HasTimeForm rows × HasFrom rows × NamesGivenOption To (first_of (codes "to") rows) r)
     ⊎ (HasTimeForm rows × HasFrom rows × HasTo rows × NamesGivenOption Period (first_of (codes "every") rows) r)
+    ⊎ ((t : FollowTimes) × HasEachTime rows t × (is_reversed t.span ≡ true) × (r ≡ Reversed))
 
 -- the times of `follow` are valid
 abbrev pub HasAllTimes : List Row → Type 0

@@ -152,7 +152,7 @@ fn with_times<'a>(alloc: Global, command: Command<'a>) -> Result<Command<'a>, Al
         alloc,
         command,
         "to",
-        "Read only datagrams up to this instant [default: the end]",
+        "Read only datagrams up to this instant, which must not be before --from [default: the end]",
     )?;
     with_option(
         alloc,

@@ -7,7 +7,7 @@ ghost use Rattle.capture.specs.declared.instants.Instant.{Instant as TheInstant}
 ghost use Rattle.capture_text.specs.declared.pieces.TimeForm.{TimeForm as TheForm};
 ghost use Rattle.rasta_words.specs.Rejections.{AreTimesRejected, NamesGivenOption};
 ghost use Rattle.rasta_words.specs.Seconds.{AreSecondsChosen};
-ghost use Rattle.rasta_words.specs.Times.{HasNoTimes, HasTimes, IsFormChosen, IsInstantChosen};
+ghost use Rattle.rasta_words.specs.Times.{HasNoTimes, HasTimes, IsFormChosen, IsInstantChosen, is_reversed};
 ghost use Rattle.rasta_words.specs.declared.rejection.Choice.TheVariants as choice;
 
 use crate::command_line::FollowTimes;
@@ -19,24 +19,37 @@ use capture_text::TimeForm;
 use clap::ArgMatches;
 
 /// Returns the times of the entries of `follow`. The options are read in the order `--time`, `--from`, `--to`,
-/// `--every`.
+/// `--every`. Then the last instant must not be before the first.
 pub fn chosen_times<'a>(entries: &ArgMatches<'a>) -> Result<FollowTimes, Rejection<'a>>
     // The times that `chosen_times` returns have the values of the entries.
     ensures found { IfOk result (HasTimes (rows_of (found_of entries.now))) }
-    // If `chosen_times` fails, no times have the values of the entries.
+    // If `chosen_times` fails, no times have the values of the entries, or they end before they begin.
     ensures none { IsErr result → HasNoTimes (rows_of (found_of entries.now)) }
-    // If `chosen_times` fails, it names the first option in its order that is not valid.
+    // If `chosen_times` fails, it names the first option in its order that is not valid; if each is valid, the fault is
+    // `Reversed`.
     ensures refused { IfErr result (AreTimesRejected (rows_of (found_of entries.now))) }
 {
     let form = chosen_form(entry(entries, "time"))?;
     let from = chosen_start(entry(entries, "from"))?;
     let to = chosen_end(entry(entries, "to"))?;
     let every = chosen_period(entry(entries, "every"))?;
-    Ok(FollowTimes {
-        form,
-        span: Span { from, to },
-        every,
-    })
+    let span = Span { from, to };
+    if is_reversed(&span) {
+        return Err(Rejection::Reversed);
+    }
+    Ok(FollowTimes { form, span, every })
+}
+
+/// Returns `true` if a span ends before it begins. Instants of two forms are not compared: only a recording has both.
+fn is_reversed(span: &Span) -> bool
+    // The result is true if and only if both instants have one form, and the last is before the first.
+    ensures { result ≡ is_reversed span.now }
+{
+    match (span.from, span.to) {
+        (Some(Instant::Since(from)), Some(Instant::Since(to)))
+        | (Some(Instant::At(from)), Some(Instant::At(to))) => to < from,
+        _ => false,
+    }
 }
 
 /// Returns the form of times that a word names: seconds since the first datagram if there is no word.

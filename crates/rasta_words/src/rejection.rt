@@ -63,6 +63,8 @@ pub enum Rejection<'a> {
     },
     /// Both recordings are standard input.
     OneInput,
+    /// `--to` of `follow` is before its `--from`.
+    Reversed,
     /// A subcommand or a required argument is missing. clap reports that itself, so this is never printed.
     Missing,
 }
@@ -170,6 +172,7 @@ impl fmt::Display for Rejection<'_> {
                 f,
                 "error: only one of both recordings can be standard input\n\n{FOLLOW_USAGE}"
             ),
+            Rejection::Reversed => write!(f, "error: '--to' is before '--from'\n\n{FOLLOW_USAGE}"),
             Rejection::Missing => write!(f, "error: an argument is missing\n\n{USAGE}"),
         }
     }
