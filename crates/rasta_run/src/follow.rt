@@ -44,7 +44,7 @@ pub fn run_follow<R: Read + Drop, O: Write, E: Write>(
 /// Returns the choices of `follow` in the form that `capture_text` expects; `None` if the initial value is not 32
 /// hex digits.
 fn options_for(following: &FollowRequest<'_>) -> Option<FollowOptions>
-    // `options_for` passes each choice on, with the words of the initial value, and returns `None` if there are none.
+    // `options_for` returns the choices with the octets of the initial value; `None` if it is not 32 hex digits.
     ensures { result ≡ options_under following.now (initial_value_of (option_copied following.now.iv)) }
 {
     let initial_value = initial_value(following.iv)?;

@@ -51,7 +51,7 @@ HasEachTime rows t =
 abbrev pub HasTimes : List Row → FollowTimes → Type 0
 HasTimes rows t = HasEachTime rows t × (is_reversed t.span ≡ false)
 
--- no times have the values of these entries
+--- these entries give no times: a value is invalid, or the end is before the beginning
 abbrev pub HasNoTimes : List Row → Type 0
 HasNoTimes rows = (t : FollowTimes) → ¬ HasTimes rows t
 
