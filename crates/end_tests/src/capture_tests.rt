@@ -197,11 +197,11 @@ impl CaptureTest {
     }
 
     /// Adds a datagram, and returns what is remarkable in it.
-    fn add(&mut self, channel: u8, back: bool, heard: &DecodedDatagram) -> Result<Remark, Fail> {
+    fn add(&mut self, channel: u8, back: bool, datagram: &DecodedDatagram) -> Result<Remark, Fail> {
         let line = self.following.datagrams.wrapping_add(1);
         let spare = self.following.connections.take_spare()?;
         let record = record(line, channel, back);
-        Ok(self.following.add(line, &record, heard, spare))
+        Ok(self.following.add(line, &record, datagram, spare))
     }
 
     /// Adds a datagram, and returns what is remarkable in its PDU, if it has one.
@@ -209,9 +209,9 @@ impl CaptureTest {
         &mut self,
         channel: u8,
         back: bool,
-        heard: &DecodedDatagram,
+        datagram: &DecodedDatagram,
     ) -> Result<Option<Remarks>, Fail> {
-        Ok(match self.add(channel, back, heard)? {
+        Ok(match self.add(channel, back, datagram)? {
             Remark::Pdu(_, _, remarks) => Some(remarks),
             Remark::NoRed(_) | Remark::NoSafe(_, _) => None,
         })
@@ -219,8 +219,8 @@ impl CaptureTest {
 
     /// Adds datagrams: of each its channel and whether it goes back.
     fn add_all(&mut self, datagrams: &[(u8, bool, DecodedDatagram)]) -> Result<(), Fail> {
-        for (channel, back, heard) in datagrams {
-            let _remark = self.add(*channel, *back, heard)?;
+        for (channel, back, datagram) in datagrams {
+            let _remark = self.add(*channel, *back, datagram)?;
         }
         Ok(())
     }
@@ -256,8 +256,8 @@ fn names_damage(rt: &impl Abort, all: &mut CaptureTest) -> Result<(), Fail> {
         (1, true, asks(0, 900, 10), (None, None)),
         (0, true, asks(1, 901, 12), (None, None)),
     ];
-    for (channel, back, heard, wanted) in cases {
-        let remarks = all.remarks(channel, back, &heard)?;
+    for (channel, back, datagram, wanted) in cases {
+        let remarks = all.remarks(channel, back, &datagram)?;
         let found = remarks.map(|remarks| (remarks.damaged, remarks.asks));
         assert_equal(rt, found, Some(wanted));
     }
@@ -366,7 +366,7 @@ fn forgets_the_one_silent_longest(rt: HostRuntime) -> Result<(), Fail> {
     Ok(())
 }
 
-// A connection that an end has left gives way first, even if it was heard last.
+// A connection that an end has left gives way first, even if its datagram came last.
 #[test]
 fn forgets_the_one_that_was_left(rt: HostRuntime) -> Result<(), Fail> {
     let mut all = CaptureTest::new(rt.alloc())?;
@@ -429,8 +429,8 @@ fn opens_twice(rt: &impl Abort, all: &mut CaptureTest) -> Result<(), Fail> {
         (0, beat, (false, Next)),
         (1, opens, (false, Repeat(3))),
     ];
-    for (channel, heard, wanted) in cases {
-        let remarks = all.remarks(channel, false, &heard)?;
+    for (channel, datagram, wanted) in cases {
+        let remarks = all.remarks(channel, false, &datagram)?;
         let found = remarks.map(|remarks| (remarks.opens, remarks.together));
         assert_equal(rt, found, Some(wanted));
     }
@@ -470,8 +470,8 @@ fn begins_numbers(rt: &impl Abort, all: &mut CaptureTest) -> Result<(), Fail> {
             remarks(1, (First, Repeat(53), None, None)),
         ),
     ];
-    for (channel, heard, wanted) in cases {
-        assert_equal(rt, all.remarks(channel, false, &heard)?, Some(wanted));
+    for (channel, datagram, wanted) in cases {
+        assert_equal(rt, all.remarks(channel, false, &datagram)?, Some(wanted));
     }
     let wanted = Totals {
         heard: 52,
@@ -485,7 +485,7 @@ fn begins_numbers(rt: &impl Abort, all: &mut CaptureTest) -> Result<(), Fail> {
     Ok(())
 }
 
-// A client that heard nothing leaves directly behind its ConnReq and confirms nothing; a later DiscReq confirms.
+// A client that received nothing disconnects directly after its ConnReq and confirms nothing; a later DiscReq confirms.
 #[test]
 fn ages_no_goodbye_that_confirms_nothing(rt: HostRuntime) -> Result<(), Fail> {
     ages(&rt, &mut CaptureTest::new(rt.alloc())?)
@@ -498,15 +498,15 @@ fn ages(rt: &impl Abort, all: &mut CaptureTest) -> Result<(), Fail> {
         (false, leaving(1, (1, 2), 0, (1950, 0)), None),
         (false, leaving(2, (1, 2), 1, (1960, 0)), Some(1900)),
     ];
-    for (back, heard, age) in cases {
-        let remarks = all.remarks(0, back, &heard)?;
+    for (back, datagram, age) in cases {
+        let remarks = all.remarks(0, back, &datagram)?;
         assert_equal(rt, remarks.map(|remarks| remarks.age), Some(age));
     }
     Ok(())
 }
 
-// A datagram that is no PDU counts on its channel, for the end whose address sent it; where two connections have that
-// channel the one heard last counts it, and on an unknown pair of addresses none does.
+// A datagram that is not a PDU counts on its channel, for the end whose address sent it. If two connections have that channel, the
+// one whose datagram came last counts it. On an unknown pair of addresses none counts it.
 #[test]
 fn counts_damage_by_channel(rt: HostRuntime) -> Result<(), Fail> {
     let mut all = CaptureTest::new(rt.alloc())?;
@@ -595,8 +595,8 @@ fn waits_for_a_confirmation(rt: HostRuntime) -> Result<(), Fail> {
 fn waits(rt: &impl Abort, all: &mut CaptureTest) -> Result<(), Fail> {
     for ((channel, kind, sender, numbers, stamps), age, waits) in WAITS {
         let ends = if sender == 1 { (1, 2) } else { (2, 1) };
-        let heard = DecodedDatagram::Pdu(numbers.0 % 10, header(kind, ends, numbers, stamps));
-        let remarks = all.remarks(channel, sender == 2, &heard)?;
+        let datagram = DecodedDatagram::Pdu(numbers.0 % 10, header(kind, ends, numbers, stamps));
+        let remarks = all.remarks(channel, sender == 2, &datagram)?;
         let found = remarks.map(|remarks| (remarks.age, remarks.waits));
         assert_equal(rt, found, Some((age, waits)));
     }
