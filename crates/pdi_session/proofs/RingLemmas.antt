@@ -1,110 +1,83 @@
--- Messages in a ring of places: those that wait from a place on, and the effect of writing the place after them.
-use Rattle.std.proofs.Common.{Bool, if◌then◌else◌, ◌≡◌, ◌≢◌, ◌<◌, ℕ, zero, suc, ◌+◌, ◌-◌, List, [], ◌∷◌, ◌++◌, drop, length, refl, ap, sym, subst, ◌∙◌, arith}
-use Rattle.std.specs.List.{slice_set, slice_index_or}
-use Rattle.std.proofs.lemmas.List.{get_or-set_same, get_or-set_other}
-use Rattle.std.proofs.lemmas.List.Elements.{All-append, All-cons, All-nil}
+-- Messages in a ring of places: the place at a distance from the first one, and a place that moves to the end.
+use Rattle.std.proofs.Common.{Bool, if◌then◌else◌, ◌≡◌, ◌<◌, ◌≤◌, ℕ, zero, suc, ◌+◌, ◌-◌, List, [], ◌∷◌, ◌++◌, drop, take, length, slice_get, Some, refl, ap, sym, subst, ◌∙◌, arith}
+use Rattle.std.proofs.lemmas.List.{length-append, take-append-le}
+use Rattle.std.proofs.lemmas.List.Elements.{All-drop}
 use Rattle.arrayvec.specs.ArrayVec.{ArrayVec}
-use Rattle.octets.specs.declared.limits.TheConstants.{WAITING_MAX}
 use Rattle.pdi_session.specs.packing.UnitText.{AreMessages, IsMessage, piece}
-use Rattle.octets.proofs.RingPlaces.{behind-inside, far_next, far_none, far_other}
-use Rattle.octets.specs.RingPlaces.{IsFar, place_behind}
-use Rattle.pdi_session.specs.packing.Ring.{IsMoved, IsRing, messages_from, no_message}
+use Rattle.pdi_session.specs.packing.Ring.{IsMoved, messages_of_places}
 use Rattle.pdi_session.specs.TelegramCounts.{is_item, items_in}
 use Rattle.pdi_session.specs.telegram.Places.{tele_seen}
 
-pub length-messages_from : (ps : List (ArrayVec ℕ)) (p k : ℕ) → length (messages_from ps p k) ≡ k
-length-messages_from ps p zero = refl
-length-messages_from ps p (suc k) = ap suc (length-messages_from ps (place_behind WAITING_MAX p) k)
+-- the first place moves to the end, and one place less is in use: those in use are the same but for the first
+pub rotated : {X : Type 0} (xs : List X) (x : X) (count : ℕ) → count ≤ length xs
+    → take (count - 1) (drop 1 xs ++ x ∷ []) ≡ drop 1 (take count xs)
+rotated [] x zero le = refl
+rotated [] x (suc n) le = absurd (omega arith)
+rotated (y ∷ xs) x zero le = refl
+rotated (y ∷ xs) x (suc n) le = let less : suc n - 1 ≡ n = omega arith in rw less
+    (take-append-le n xs (x ∷ []) (omega arith))
 
--- writing the place after them adds one
-pub messages_from-more : (ps : List (ArrayVec ℕ)) (p q : ℕ) (w : ArrayVec ℕ) (k : ℕ) → length ps ≡ WAITING_MAX
-    → p < WAITING_MAX → k < WAITING_MAX
-    → IsFar WAITING_MAX p k q → messages_from (slice_set ps q w) p (suc k) ≡ messages_from ps p k ++ w.items ∷ []
-messages_from-more ps p q w zero long lt near h =
-    rw (far_none WAITING_MAX p q lt h, get_or-set_same ps p w no_message (omega (arith, lt, long))) refl
-messages_from-more ps p q w (suc k) long lt near h =
-    let head : slice_index_or (slice_set ps q w) p no_message ≡ slice_index_or ps p no_message =
-    get_or-set_other ps q p w no_message (far_other WAITING_MAX p k q near h) in
-    rw (
-      head,
-      messages_from-more ps (place_behind WAITING_MAX p) q w k long (behind-inside WAITING_MAX p lt)
-          (omega arith) (far_next WAITING_MAX p k q lt h),
-    ) refl
+-- the message in the place at a distance from the first one
+pub message_at : (ps : List (ArrayVec ℕ)) (i count : ℕ) (p : ArrayVec ℕ) → slice_get ps i ≡ Some p → i < count
+    → slice_get (messages_of_places (take count ps)) i ≡ Some p.items
+message_at [] i count p e lt = absurd cc
+message_at (q ∷ ps) i zero p e lt = absurd (omega arith)
+message_at (q ∷ ps) zero (suc n) p e lt = let same : q ≡ p = cc in rw same refl
+message_at (q ∷ ps) (suc i) (suc n) p e lt = message_at ps i n p e (omega arith)
 
-pub ring_more : (p k : ℕ) → k ≢ WAITING_MAX → IsRing p k → IsRing p (k + 1)
-ring_more p k near ring = (ring.0, omega (arith, near, ring.1))
+first_and_rest : (ms : List (List ℕ)) (m : List ℕ) → slice_get ms 0 ≡ Some m → ms ≡ m ∷ drop 1 ms
+first_and_rest [] m e = absurd cc
+first_and_rest (n ∷ ms) m e = let same : n ≡ m = cc in rw same refl
 
--- the first one, and those after it
-pub messages_from-front : (ps : List (ArrayVec ℕ)) (p k : ℕ) → 0 < k
-    → messages_from ps p k ≡ (slice_index_or ps p no_message).items ∷ messages_from ps (place_behind WAITING_MAX p)
-    (k - 1)
-messages_from-front ps p zero some = absurd (omega arith)
-messages_from-front ps p (suc k) some = let less : suc k - 1 ≡ k = omega arith in rw less refl
-
--- the value read at a place is the one in it
-pub same_at : (ps : List (ArrayVec ℕ)) (q : ℕ) (u : ArrayVec ℕ) → q < length ps → u ≡ slice_index_or ps q u
-    → slice_index_or ps q no_message ≡ u
-same_at [] q u lt e = absurd (omega arith)
-same_at (p ∷ ps) zero u lt e = sym e
-same_at (p ∷ ps) (suc q) u lt e = same_at ps q u (omega arith) e
-
-pub drop-messages_from : (ps : List (ArrayVec ℕ)) (p k : ℕ) → 0 < k
-    → drop 1 (messages_from ps p k) ≡ messages_from ps (place_behind WAITING_MAX p) (k - 1)
-drop-messages_from ps p k some = rw (messages_from-front ps p k some) refl
-
--- the effect of a message written after the others
-pub message_more : (ps : List (ArrayVec ℕ)) (p q k : ℕ) (w : ArrayVec ℕ) (message : List ℕ) (old : List (List ℕ))
-    → length ps ≡ WAITING_MAX
-    → k ≢ WAITING_MAX → IsRing p k → IsFar WAITING_MAX p k q → w.items ≡ message → messages_from ps p k ≡ old
-    → messages_from (slice_set ps q w) p (k + 1) ≡ old ++ message ∷ []
-message_more ps p q k w message old long near ring far is before =
-    let one : k + 1 ≡ suc k = omega arith in
-    ap (λ (n : ℕ). messages_from (slice_set ps q w) p n) one
-    ∙ messages_from-more ps p q w k long ring.0 (omega (arith, near, ring.1)) far
-    ∙ ap (λ (m : List ℕ). messages_from ps p k ++ m ∷ []) is
-    ∙ ap (λ (ms : List (List ℕ)). ms ++ message ∷ []) before
-
-pub all_more : (ps : List (ArrayVec ℕ)) (p q k : ℕ) (w : ArrayVec ℕ) (message : List ℕ) → length ps ≡ WAITING_MAX
-    → k ≢ WAITING_MAX → IsRing p k
-    → IsFar WAITING_MAX p k q → w.items ≡ message → AreMessages (messages_from ps p k) → IsMessage message
-    → AreMessages (messages_from (slice_set ps q w) p (k + 1))
-all_more ps p q k w message long near ring far is all one =
-    rw (message_more ps p q k w message (messages_from ps p k) long near ring far is refl)
-    (All-append IsMessage (messages_from ps p k) (message ∷ []) all
-    (All-cons IsMessage message [] one (All-nil IsMessage)))
+messages-rest : (ps : List (ArrayVec ℕ)) → messages_of_places (drop 1 ps) ≡ drop 1 (messages_of_places ps)
+messages-rest [] = refl
+messages-rest (p ∷ ps) = refl
 
 head_is : (xs : List (List ℕ)) (x : List ℕ) (rest : List (List ℕ)) → xs ≡ x ∷ rest → AreMessages xs → IsMessage x
 head_is xs x rest e all = subst (λ (ys : List (List ℕ)). AreMessages ys) e all 0 [] (omega arith)
 
 -- the first message, moved to the end of a unit
-pub moved : (ps : List (ArrayVec ℕ)) (p k q : ℕ) (u : ArrayVec ℕ) (message unit more : List ℕ) (old : List (List ℕ))
-    → length ps ≡ WAITING_MAX
-    → IsRing p k → 0 < k → u ≡ slice_index_or ps p u → message ≡ u.items → q ≡ place_behind WAITING_MAX p
-    → AreMessages (messages_from ps p k)
-    → messages_from ps p k ≡ old → more ≡ unit ++ piece message → IsMoved old unit (messages_from ps q (k - 1)) more
-moved ps p k q u message unit more old long ring some at is next all before put =
-    let stands : (slice_index_or ps p no_message).items ≡ message =
-    ap (λ (w : ArrayVec ℕ). w.items) (same_at ps p u (omega (arith, long, ring.0)) at) ∙ sym is
-    in
-    let front : messages_from ps p k ≡ message ∷ messages_from ps q (k - 1) = rw (next, ← stands)
-    (messages_from-front ps p k some) in
+pub moved : (ps left : List (ArrayVec ℕ)) (count : ℕ) (p : ArrayVec ℕ) (message unit more : List ℕ)
+    (old : List (List ℕ))
+    → slice_get ps 0 ≡ Some p → 0 < count → message ≡ p.items
+    → AreMessages (messages_of_places (take count ps))
+    → messages_of_places (take count ps) ≡ old → left ≡ drop 1 (take count ps)
+    → more ≡ unit ++ piece message → IsMoved old unit (messages_of_places left) more
+moved ps left count p message unit more old at some is all before rest put =
+    let front = first_and_rest (messages_of_places (take count ps)) p.items (message_at ps 0 count p at some) in
+    let behind : messages_of_places left ≡ drop 1 (messages_of_places (take count ps)) =
+    ap messages_of_places rest ∙ messages-rest (take count ps) in
+    let whole : messages_of_places (take count ps) ≡ message ∷ messages_of_places left = rw (is, behind) front in
     record {
       message = message;
-      first = sym before
-          ∙ front;
-      sized = head_is (messages_from ps p k) message (messages_from ps q (k - 1)) front all;
+      first = sym before ∙ whole;
+      sized = head_is (messages_of_places (take count ps)) message (messages_of_places left) whole all;
       put = put;
     }
 
--- the first message is counted, and then those after it
-pub items_next : (ps : List (ArrayVec ℕ)) (p q k : ℕ) (u : ArrayVec ℕ) (message : List ℕ) (is : Bool) → p < length ps
-    → 0 < k → u ≡ slice_index_or ps p u
-    → message ≡ u.items → q ≡ place_behind WAITING_MAX p → is ≡ is_item (tele_seen message)
-    → items_in (messages_from ps p k) ≡ (if is then 1 else 0) + items_in (messages_from ps q (k - 1))
-items_next ps p q k u message is lt some e m next test =
-    ap items_in (messages_from-front ps p k some)
-    ∙ ap (λ (w : ArrayVec ℕ). items_in (w.items ∷ messages_from ps (place_behind WAITING_MAX p) (k - 1)))
-    (same_at ps p u lt e)
-    ∙ ap (λ (ms : List ℕ). items_in (ms ∷ messages_from ps (place_behind WAITING_MAX p) (k - 1))) (sym m)
-    ∙ ap (λ (r : ℕ). items_in (message ∷ messages_from ps r (k - 1))) (sym next)
-    ∙ ap (λ (b : Bool). (if b then 1 else 0) + items_in (messages_from ps q (k - 1))) (sym test)
+pub all_rest : (ps left : List (ArrayVec ℕ)) (count : ℕ) → AreMessages (messages_of_places (take count ps))
+    → left ≡ drop 1 (take count ps) → AreMessages (messages_of_places left)
+all_rest ps left count all rest =
+    rw (ap messages_of_places rest ∙ messages-rest (take count ps))
+    (All-drop IsMessage 1 (messages_of_places (take count ps)) all)
+
+-- after the turn there are as many places as before
+pub length-rotated : {X : Type 0} (xs : List X) (x : X) → 0 < length xs → length (drop 1 xs ++ x ∷ []) ≡ length xs
+length-rotated [] x some = absurd (omega arith)
+length-rotated (y ∷ xs) x some = omega (arith, length-append xs (x ∷ []))
+
+-- the message at a distance is counted, and then those after it
+next_items : (ms : List (List ℕ)) (i : ℕ) (m : List ℕ) → slice_get ms i ≡ Some m
+    → items_in (drop i ms) ≡ (if is_item (tele_seen m) then 1 else 0) + items_in (drop (suc i) ms)
+next_items [] i m e = absurd cc
+next_items (n ∷ ms) zero m e = let same : n ≡ m = cc in rw same refl
+next_items (n ∷ ms) (suc i) m e = next_items ms i m e
+
+pub items_next : (ps : List (ArrayVec ℕ)) (i count : ℕ) (p : ArrayVec ℕ) (message : List ℕ) (is : Bool)
+    → slice_get ps i ≡ Some p → i < count → message ≡ p.items → is ≡ is_item (tele_seen message)
+    → items_in (drop i (messages_of_places (take count ps)))
+    ≡ (if is then 1 else 0) + items_in (drop (i + 1) (messages_of_places (take count ps)))
+items_next ps i count p message is at lt same test =
+    let more : i + 1 ≡ suc i = omega arith in
+    rw (more, test, same)
+    (next_items (messages_of_places (take count ps)) i p.items (message_at ps i count p at lt))

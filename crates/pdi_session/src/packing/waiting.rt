@@ -4,15 +4,15 @@ ghost use Rattle.std.specs.Prelude.{◌≡◌, ◌==◌, ◌<◌, ◌≤◌, ◌
 ghost use Rattle.arrayvec.specs.ArrayVec.{array_vec_len};
 ghost use Rattle.octets.specs.declared.limits.TheConstants.{UNIT_MAX, UNIT_MIN};
 ghost use Rattle.pdi_session.specs.TelegramCounts.{items_in};
-ghost use Rattle.pdi_session.specs.packing.Ring.{IsMoved, IsRing, messages_from};
+ghost use Rattle.pdi_session.specs.packing.Ring.{IsMoved};
 ghost use Rattle.pdi_session.specs.packing.UnitText.{AreMessages, IsMessage, UnitText, messages_of};
 
 use super::unit::{put_message, unpack};
 use super::{Full, Messages, PackFault, Unit, WAITING_MAX};
 use crate::counts::is_item;
 use arrayvec::ArrayVec;
+use circular_buffer::HeapCircularBuffer;
 use octets::limits::{MESSAGE_LENGTH, MESSAGE_MAX, UNIT_MAX, UNIT_MESSAGES};
-use octets::rings::{next_place, place_at};
 use std::alloc::{AllocError, Allocator, Global};
 use std::marker::Model;
 
@@ -25,26 +25,23 @@ type Message = ArrayVec<u8, MESSAGE_MAX>;
 /// of a place.
 #[derive(Drop)]
 pub struct Waiting<A: Allocator = Global> {
-    /// One place for each message that fits.
-    places: Vec<Message, A>,
-    /// The place of the oldest message. The others follow it in a ring.
-    first: usize,
+    /// One place for each message that fits: first those of the waiting messages, in order. A place that is free
+    /// again moves to the end.
+    places: HeapCircularBuffer<Message, A>,
     /// The number of waiting messages. The places of no waiting message are never read.
     count: usize,
 }
 
 impl<A: Allocator> Model for Waiting<A> {
-    ghost use Rattle.std.specs.Prelude.{◌≡◌, ℕ, List, vec_len};
-    ghost use Rattle.pdi_session.specs.packing.Ring.{IsRing, messages_from};
+    ghost use Rattle.std.specs.Prelude.{ℕ, List, take};
+    ghost use Rattle.pdi_session.specs.packing.Ring.{IsRing, messages_of_places};
     ghost use Rattle.pdi_session.specs.packing.UnitText.{AreMessages};
-    ghost use Rattle.octets.specs.declared.limits.TheConstants.{WAITING_MAX};
 
     ghost Value = { List (List ℕ) };
 
-    ghost view = { λ w. messages_from w.places.items w.first w.count };
+    ghost view = { λ w. messages_of_places (take w.count w.places.items) };
 
-    ghost invariant = { λ w. (vec_len w.places ≡ WAITING_MAX) × IsRing w.first w.count
-        × AreMessages (messages_from w.places.items w.first w.count) };
+    ghost invariant = { λ w. IsRing w.places w.count × AreMessages (messages_of_places (take w.count w.places.items)) };
 }
 
 impl<A: Allocator> Waiting<A> {
@@ -57,15 +54,11 @@ impl<A: Allocator> Waiting<A> {
         // In a new queue no message waits.
         ensures { IfOk result (λ waiting. waiting ≡ []) }
     {
-        let mut places = Vec::with_capacity(alloc, WAITING_MAX)?;
+        let mut places = HeapCircularBuffer::with_capacity(alloc, WAITING_MAX)?;
         for _ in 0..WAITING_MAX {
-            places.push(Message::new()).map_err(AllocError::from)?;
+            places.try_push_back(Message::new()).unwrap();
         }
-        Ok(Waiting {
-            places,
-            first: 0,
-            count: 0,
-        })
+        Ok(Waiting { places, count: 0 })
     }
 
     /// Returns the number of waiting messages.
@@ -113,8 +106,7 @@ impl<A: Allocator> Waiting<A> {
         if self.count == WAITING_MAX {
             return Err(Full);
         }
-        let place = place_at(WAITING_MAX, self.first, self.count);
-        write_message(&mut self.places[place], message);
+        write_message(self.places.get_mut(self.count).unwrap(), message);
         self.count += 1;
         Ok(())
     }
@@ -126,7 +118,13 @@ impl<A: Allocator> Waiting<A> {
         // At most 64 commands or status wait.
         ensures few { result ≤ WAITING_MAX }
     {
-        items_from(&self.places, self.first, self.count)
+        let mut items = 0;
+        for place in 0..self.count {
+            if is_item(self.places.get(place).unwrap()) {
+                items += 1;
+            }
+        }
+        items
     }
 
     /// Drops every message. The room stays.
@@ -134,7 +132,6 @@ impl<A: Allocator> Waiting<A> {
         // After `clear` no message waits.
         ensures { self.new ≡ [] }
     {
-        self.first = 0;
         self.count = 0;
     }
 
@@ -146,32 +143,14 @@ impl<A: Allocator> Waiting<A> {
         // The oldest message leaves the queue, and the unit grows by its length and the message.
         ensures { IsMoved self.old unit.old.items self.new unit.new.items }
     {
-        put_message(unit, &self.places[self.first]);
-        self.first = next_place(WAITING_MAX, self.first);
+        let oldest = self.places.front().unwrap();
+        put_message(unit, oldest);
         self.count -= 1;
-    }
-}
-
-/// Counts the commands and status in `count` places of the ring from `first` on.
-fn items_from(places: &[Message], first: usize, count: usize) -> usize
-    requires places { length places.now ≡ WAITING_MAX }
-    requires ring { IsRing first count }
-    // The count is that of the messages in these places, in the order of the ring (`messages_from`).
-    ensures count { result ≡ items_in (messages_from places.now first count) }
-    // No more are counted than there are places to look at.
-    ensures few { result ≤ count }
-{
-    let mut place = first;
-    let mut left = count;
-    let mut items = 0;
-    while left > 0 {
-        if is_item(&places[place]) {
-            items += 1;
+        if self.count > 0 {
+            let free = self.places.pop_front().unwrap();
+            self.places.try_push_back(free).unwrap();
         }
-        place = next_place(WAITING_MAX, place);
-        left -= 1;
     }
-    items
 }
 
 /// Replaces the content of a place by a message.
