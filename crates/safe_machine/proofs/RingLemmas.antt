@@ -1,180 +1,150 @@
--- Units in a ring of places: the units from a place on, and what writing one place changes.
-use Rattle.std.proofs.Common.{◌≡◌, ◌<◌, ◌≤◌, ℕ, zero, suc, ◌+◌, ◌-◌, List, [], ◌∷◌, ◌++◌, length, drop, take, None, Some, refl, ap, sym, ◌∙◌, subst, arith}
-use Rattle.std.specs.List.{slice_get, slice_set, slice_index_or}
-use Rattle.std.proofs.lemmas.List.{get_or-set_same, get_or-set_other, length-map, length-set, map-append}
-use Rattle.std.proofs.lemmas.Option.{slice_get-get_or}
-use Rattle.octets.proofs.RingPlaces.{behind-inside, far_back, far_next, far_none, far_other}
-use Rattle.octets.specs.RingPlaces.{IsFar, place_behind}
-use Rattle.safe_machine.specs.retrans.Units.{IsRing, Kept, Numbered, Stored, unit_values, no_unit, octets_of, renumber_units, unit_value, units_from}
-use Rattle.safe_machine.proofs.UnitLemmas.{one_renumbered}
+-- Units in a ring of places: the unit at a distance from the first one, one unit more, places that move to the end.
+use Rattle.std.proofs.Common.{◌≡◌, ◌<◌, ◌≤◌, ℕ, zero, suc, ◌+◌, ◌-◌, List, [], ◌∷◌, ◌++◌, drop, take, length, slice_get, slice_set, Option, None, Some, false, nat_lt, refl, ap, sym, ◌∙◌, arith}
+use Rattle.std.specs.Borrow.{MutBor}
+use Rattle.std.specs.Option.{IsSome, option_copied_mut}
+use Rattle.std.proofs.lemmas.Bool.Decides.{nat_tests}
+use Rattle.std.proofs.lemmas.List.{append_assoc, length-append, take-append-le}
+use Rattle.safe_machine.specs.retrans.Units.{Kept, Numbered, Rises, Stored, above, octets_of, renumber_units, unit_value, unit_values}
+use Rattle.safe_machine.proofs.UnitLemmas.{Rises-tail, above-all, all_greater, one_renumbered}
 
-pub length-units_from : (ps : List Stored) (p k : ℕ) → length (units_from ps p k) ≡ k
-length-units_from ps p zero = refl
-length-units_from ps p (suc k) = ap suc (length-units_from ps (place_behind (length ps) p) k)
+pub length-units : (ps : List Stored) (count : ℕ) → count ≤ length ps → length (unit_values (take count ps)) ≡ count
+length-units [] zero le = refl
+length-units [] (suc n) le = absurd (omega arith)
+length-units (p ∷ ps) zero le = refl
+length-units (p ∷ ps) (suc n) le = ap suc (length-units ps n (omega arith))
 
-pub length-shown_from : (ps : List Stored) (p k : ℕ) → length (unit_values (units_from ps p k)) ≡ k
-length-shown_from ps p k = length-map (units_from ps p k) unit_value ∙ length-units_from ps p k
+-- The unit in the place at a distance from the first one.
+pub unit_at : (ps : List Stored) (i count : ℕ) (p : Stored) → slice_get ps i ≡ Some p → i < count
+    → slice_get (unit_values (take count ps)) i ≡ Some (unit_value p)
+unit_at [] i count p e lt = absurd cc
+unit_at (q ∷ ps) i zero p e lt = absurd (omega arith)
+unit_at (q ∷ ps) zero (suc n) p e lt = let same : q ≡ p = cc in rw same refl
+unit_at (q ∷ ps) (suc i) (suc n) p e lt = unit_at ps i n p e (omega arith)
 
--- Writing a place after them changes none of them.
-pub units_from-others : (ps : List Stored) (p far q : ℕ) (w : Stored) (k : ℕ) → p < length ps → far < length ps
-    → k ≤ far
-    → IsFar (length ps) p far q → units_from (slice_set ps q w) p k ≡ units_from ps p k
-units_from-others ps p far q w zero lt near le h = refl
-units_from-others ps p zero q w (suc k) lt near le h = absurd (omega arith)
-units_from-others ps p (suc far) q w (suc k) lt near le h =
-    let other = far_other (length ps) p far q near h in
-    rw (length-set ps q w, get_or-set_other ps q p w no_unit other)
-    (ap (λ us. slice_index_or ps p no_unit ∷ us)
-    (units_from-others ps (place_behind (length ps) p) far q w k (behind-inside (length ps) p lt) (omega arith)
-    (omega arith)
-    (far_next (length ps) p far q lt h)))
+-- Writing the first free place adds one unit.
+pub units-more : (ps : List Stored) (count : ℕ) (w : Stored) → count < length ps
+    → unit_values (take (count + 1) (slice_set ps count w)) ≡ unit_values (take count ps) ++ unit_value w ∷ []
+units-more [] count w lt = absurd (omega arith)
+units-more (p ∷ ps) zero w lt = refl
+units-more (p ∷ ps) (suc n) w lt =
+    let more : suc n + 1 ≡ suc (n + 1) = omega arith in
+    rw more (ap (λ us. unit_value p ∷ us) (units-more ps n w (omega arith)))
 
--- Writing the place after them adds one.
-pub units_from-more : (ps : List Stored) (p q : ℕ) (w : Stored) (k : ℕ) → p < length ps → k < length ps
-    → IsFar (length ps) p k q
-    → units_from (slice_set ps q w) p (suc k) ≡ units_from ps p k ++ w ∷ []
-units_from-more ps p q w zero lt near h = rw (far_none (length ps) p q lt h, get_or-set_same ps p w no_unit lt) refl
-units_from-more ps p q w (suc k) lt near h =
-    let other = far_other (length ps) p k q near h in
-    let rest : units_from (slice_set ps q w) (place_behind (length ps) p) (suc k)
-    ≡ units_from ps (place_behind (length ps) p) k ++ w ∷ [] =
-    units_from-more ps (place_behind (length ps) p) q w k (behind-inside (length ps) p lt) (omega arith)
-    (far_next (length ps) p k q lt h) in
-    let head : slice_index_or (slice_set ps q w) p no_unit
-    ≡ slice_index_or ps p no_unit = get_or-set_other ps q p w no_unit other in
-    let all : slice_index_or (slice_set ps q w) p no_unit ∷ units_from (slice_set ps q w) (place_behind (length ps) p)
-    (suc k)
-    ≡ slice_index_or ps p no_unit ∷ (units_from ps (place_behind (length ps) p) k ++ w ∷ []) = cc in
-    subst
-    (λ (n : ℕ). slice_index_or (slice_set ps q w) p no_unit ∷ units_from (slice_set ps q w) (place_behind n p) (suc k)
-    ≡ slice_index_or ps p no_unit ∷ (units_from ps (place_behind (length ps) p) k ++ w ∷ []))
-    (sym (length-set ps q w)) all
+-- If the unit at a distance is confirmed, those after it remain to be asked.
+pub one_confirmed : (number : ℕ) (us : List Numbered) (i : ℕ) (u : Numbered) → slice_get us i ≡ Some u
+    → u.number ≤ number → above number (drop (i + 1) us) ≡ above number (drop i us)
+one_confirmed number [] i u e le = absurd cc
+one_confirmed number (v ∷ us) zero u e le =
+    let same : v ≡ u = cc in
+    let below : v.number ≤ number = rw same le in
+    let not_above : nat_lt number v.number ≡ false = grind (arith, nat_tests) in
+    rw not_above refl
+one_confirmed number (v ∷ us) (suc i) u e le =
+    let more : suc i + 1 ≡ suc (i + 1) = omega arith in
+    rw more (one_confirmed number us i u e le)
 
--- The unit at a distance from the first one.
-pub units_from-at : (ps : List Stored) (p i q k : ℕ) → p < length ps → i < k → IsFar (length ps) p i q
-    → slice_get (units_from ps p k) i ≡ Some (slice_index_or ps q no_unit)
-units_from-at ps p i q zero lt within h = absurd (omega arith)
-units_from-at ps p zero q (suc k) lt within h = rw (far_none (length ps) p q lt h) refl
-units_from-at ps p (suc i) q (suc k) lt within h =
-    units_from-at ps (place_behind (length ps) p) i q k (behind-inside (length ps) p lt) (omega arith)
-    (far_next (length ps) p i q lt h)
+-- If it is not, it and those after it are exactly the units that remain.
+pub rest_kept : (number : ℕ) (us : List Numbered) (i : ℕ) (u : Numbered) → slice_get us i ≡ Some u
+    → number < u.number → Rises us → drop i us ≡ above number (drop i us)
+rest_kept number [] i u e lt h = absurd cc
+rest_kept number (v ∷ us) zero u e lt h =
+    let same : v ≡ u = cc in
+    let greater : number < v.number = rw same lt in
+    sym (above-all number (v ∷ us) (all_greater number v us h greater))
+rest_kept number (v ∷ us) (suc i) u e lt h = rest_kept number us i u e lt (Rises-tail v us h)
 
--- Writing its place replaces it.
-pub units_from-set : (ps : List Stored) (p i q : ℕ) (w : Stored) (k : ℕ) → p < length ps → i < k → k ≤ length ps
-    → IsFar (length ps) p i q
-    → units_from (slice_set ps q w) p k ≡ slice_set (units_from ps p k) i w
-units_from-set ps p i q w zero lt within le h = absurd (omega arith)
-units_from-set ps p zero q w (suc k) lt within le h =
-    let rest : units_from (slice_set ps p w) (place_behind (length ps) p) k
-    ≡ units_from ps (place_behind (length ps) p) k =
-    units_from-others ps (place_behind (length ps) p) (length ps - 1) p w k (behind-inside (length ps) p lt)
-    (omega arith) (omega arith)
-    (far_back (length ps) p lt)
-    in
-    let head : slice_index_or (slice_set ps p w) p no_unit ≡ w = get_or-set_same ps p w no_unit lt in
-    let all : slice_index_or (slice_set ps p w) p no_unit ∷ units_from (slice_set ps p w) (place_behind (length ps) p) k
-    ≡ w ∷ units_from ps (place_behind (length ps) p) k = cc in
-    subst (λ (r : ℕ). units_from (slice_set ps r w) p (suc k) ≡ w ∷ units_from ps (place_behind (length ps) p) k)
-    (sym (far_none (length ps) p q lt h))
-    (subst
-    (λ (n : ℕ). slice_index_or (slice_set ps p w) p no_unit ∷ units_from (slice_set ps p w) (place_behind n p) k
-    ≡ w ∷ units_from ps (place_behind (length ps) p) k)
-    (sym (length-set ps p w)) all)
-units_from-set ps p (suc i) q w (suc k) lt within le h =
-    let other = far_other (length ps) p i q (omega arith) h in
-    let rest : units_from (slice_set ps q w) (place_behind (length ps) p) k
-    ≡ slice_set (units_from ps (place_behind (length ps) p) k) i w =
-    units_from-set ps (place_behind (length ps) p) i q w k (behind-inside (length ps) p lt) (omega arith) (omega arith)
-    (far_next (length ps) p i q lt h) in
-    let head : slice_index_or (slice_set ps q w) p no_unit
-    ≡ slice_index_or ps p no_unit = get_or-set_other ps q p w no_unit other in
-    let all : slice_index_or (slice_set ps q w) p no_unit ∷ units_from (slice_set ps q w) (place_behind (length ps) p) k
-    ≡ slice_index_or ps p no_unit ∷ slice_set (units_from ps (place_behind (length ps) p) k) i w = cc in
-    subst
-    (λ (n : ℕ). slice_index_or (slice_set ps q w) p no_unit ∷ units_from (slice_set ps q w) (place_behind n p) k
-    ≡ slice_index_or ps p no_unit ∷ slice_set (units_from ps (place_behind (length ps) p) k) i w)
-    (sym (length-set ps q w)) all
+pub Rises-drop : (n : ℕ) (us : List Numbered) → Rises us → Rises (drop n us)
+Rises-drop zero us h = h
+Rises-drop (suc n) [] h = h
+Rises-drop (suc n) (u ∷ us) h = Rises-drop n us (Rises-tail u us h)
 
--- The first unit, and the rest.
-pub units_from-front : (ps : List Stored) (p k : ℕ) → 0 < k
-    → units_from ps p k ≡ slice_index_or ps p no_unit ∷ units_from ps (place_behind (length ps) p) (k - 1)
-units_from-front ps p zero some = absurd (omega arith)
-units_from-front ps p (suc k) some = let less : suc k - 1 ≡ k = omega arith in rw less refl
+-- The first places, moved to the end.
+abbrev pub turned : {X : Type 0} → ℕ → List X → List X
+turned n xs = drop n xs ++ take n xs
 
--- What a new unit adds when it is kept after the others.
-pub shown_more : (ps : List Stored) (n p q k : ℕ) (w : Stored) → length ps ≡ n → k < n → IsRing n p k → IsFar n p k q
-    → unit_values (units_from (slice_set ps q w) p (k + 1)) ≡ unit_values (units_from ps p k) ++ unit_value w ∷ []
-shown_more ps n p q k w long near ring h =
-    let more : units_from (slice_set ps q w) p (suc k) ≡ units_from ps p k ++ w ∷ [] =
-    units_from-more ps p q w k (omega (arith, ring.1 (omega arith))) (omega arith) (rw long h) in
-    let one : k + 1 ≡ suc k = omega arith in
-    ap (λ (n : ℕ). unit_values (units_from (slice_set ps q w) p n)) one ∙ ap unit_values more
-    ∙ map-append unit_value (units_from ps p k) (w ∷ [])
+front_of_turned : {X : Type 0} (xs ws : List X) (n : ℕ) (x : X) → n < length xs
+    → slice_get (drop n xs ++ ws) 0 ≡ Some x → slice_get xs n ≡ Some x
+front_of_turned [] ws n x lt e = absurd (omega arith)
+front_of_turned (y ∷ xs) ws zero x lt e = e
+front_of_turned (y ∷ xs) ws (suc n) x lt e = front_of_turned xs ws n x (omega arith) e
 
-pub ring_more : (n p k : ℕ) → k < n → IsRing n p k → IsRing n p (k + 1)
-ring_more n p k near ring = (omega arith, ring.1)
+drop_at : {X : Type 0} (xs : List X) (n : ℕ) (x : X) → slice_get xs n ≡ Some x → drop n xs ≡ x ∷ drop (n + 1) xs
+drop_at [] n x e = absurd cc
+drop_at (y ∷ xs) zero x e = let same : y ≡ x = cc in rw same refl
+drop_at (y ∷ xs) (suc n) x e = let more : suc n + 1 ≡ suc (n + 1) = omega arith in rw more (drop_at xs n x e)
 
--- A ring with one unit more, as a value.
-abbrev pub kept_of : ℕ → List Numbered → Kept
-kept_of n us = record { room = n; units = us }
+take_at : {X : Type 0} (xs : List X) (n : ℕ) (x : X) → slice_get xs n ≡ Some x → take (n + 1) xs ≡ take n xs ++ x ∷ []
+take_at [] n x e = absurd cc
+take_at (y ∷ xs) zero x e = let same : y ≡ x = cc in rw same refl
+take_at (y ∷ xs) (suc n) x e =
+    let more : suc n + 1 ≡ suc (n + 1) = omega arith in rw more (ap (λ zs. y ∷ zs) (take_at xs n x e))
 
-pub kept_more : (n : ℕ) (us more : List Numbered) (old : Kept) (u : Numbered) → kept_of n us ≡ old → more ≡ us ++ u ∷ []
-    → kept_of n more ≡ kept_of old.room (old.units ++ u ∷ [])
-kept_more n us more old u same e = ap (kept_of n) e ∙ ap (λ (k : Kept). kept_of k.room (k.units ++ u ∷ [])) same
+-- One more.
+pub turned_more : {X : Type 0} (xs : List X) (n : ℕ) (x : X) → n < length xs → slice_get (turned n xs) 0 ≡ Some x
+    → drop 1 (turned n xs) ++ x ∷ [] ≡ turned (n + 1) xs
+turned_more xs n x lt e =
+    let at = front_of_turned xs (take n xs) n x lt e in
+    ap (λ zs. drop 1 (zs ++ take n xs) ++ x ∷ []) (drop_at xs n x at)
+    ∙ append_assoc (drop (n + 1) xs) (take n xs) (x ∷ [])
+    ∙ ap (λ zs. drop (n + 1) xs ++ zs) (sym (take_at xs n x at))
 
--- The unit shown at a place.
-pub shown_at : (us : List Stored) (i : ℕ) (u : Stored) → slice_get us i ≡ Some u
-    → slice_get (unit_values us) i ≡ Some (unit_value u)
-shown_at [] i u e = absurd cc
-shown_at (v ∷ us) zero u e = let same : v ≡ u = cc in rw same refl
-shown_at (v ∷ us) (suc i) u e = shown_at us i u e
+pub length-turned_more : {X : Type 0} (xs : List X) (x : X) → 0 < length xs
+    → length (drop 1 xs ++ x ∷ []) ≡ length xs
+length-turned_more [] x some = absurd (omega arith)
+length-turned_more (y ∷ xs) x some = omega (arith, length-append xs (x ∷ []))
 
-pub none_past : (us : List Numbered) (i : ℕ) → length us ≤ i → slice_get us i ≡ None
-none_past [] i le = refl
-none_past (u ∷ us) zero le = absurd (omega arith)
-none_past (u ∷ us) (suc i) le = none_past us i (omega arith)
+-- The places still in use are those after the ones that have moved.
+still_used : {X : Type 0} (xs ws : List X) (moved count : ℕ) → moved ≤ count → count ≤ length xs
+    → take (count - moved) (drop moved xs ++ ws) ≡ drop moved (take count xs)
+still_used xs ws zero count le within =
+    let all : count - 0 ≡ count = omega arith in rw all (take-append-le count xs ws within)
+still_used [] ws (suc m) count le within = absurd (omega arith)
+still_used (x ∷ xs) ws (suc m) zero le within = absurd (omega arith)
+still_used (x ∷ xs) ws (suc m) (suc n) le within =
+    let less : suc n - suc m ≡ n - m = omega arith in rw less (still_used xs ws m n (omega arith) (omega arith))
 
--- What was read at a place is the unit there.
-pub same_at : (ps : List Stored) (q : ℕ) (u : Stored) → q < length ps → u ≡ slice_index_or ps q u
-    → slice_index_or ps q no_unit ≡ u
-same_at ps q u lt e =
-    let some : Some (slice_index_or ps q no_unit) ≡ Some u =
-    sym (slice_get-get_or ps q no_unit lt) ∙ slice_get-get_or ps q u lt ∙ ap (λ (v : Stored). Some v) (sym e)
-    in
-    cc
+values-drop : (n : ℕ) (us : List Stored) → unit_values (drop n us) ≡ drop n (unit_values us)
+values-drop zero us = refl
+values-drop (suc n) [] = refl
+values-drop (suc n) (u ∷ us) = values-drop n us
 
-pub first_at : (ps : List Stored) (p k : ℕ) (u : Stored) → 0 < k → slice_index_or ps p no_unit ≡ u
-    → slice_get (units_from ps p k) 0 ≡ Some u
-first_at ps p k u some e = rw (units_from-front ps p k some) (ap (λ (v : Stored). Some v) e)
-
-pub drop-units_from : (ps : List Stored) (p k : ℕ) → 0 < k
-    → drop 1 (units_from ps p k) ≡ units_from ps (place_behind (length ps) p) (k - 1)
-drop-units_from ps p k some = rw (units_from-front ps p k some) refl
+pub units-turned : (ps : List Stored) (moved count : ℕ) → moved ≤ count → count ≤ length ps
+    → unit_values (take (count - moved) (turned moved ps)) ≡ drop moved (unit_values (take count ps))
+units-turned ps moved count le within =
+    ap unit_values (still_used ps (take moved ps) moved count le within) ∙ values-drop moved (take count ps)
 
 -- The first units under their new numbers, and the rest still to be written.
 abbrev pub left_to : ℕ → ℕ → List Stored → List Numbered
 left_to far number us = take far (unit_values us) ++ renumber_units number (octets_of (drop far (unit_values us)))
 
+taken-set : {X : Type 0} (xs : List X) (i count : ℕ) (w : X) → i < count
+    → take count (slice_set xs i w) ≡ slice_set (take count xs) i w
+taken-set [] i zero w lt = refl
+taken-set [] zero (suc n) w lt = refl
+taken-set [] (suc i) (suc n) w lt = refl
+taken-set (x ∷ xs) i zero w lt = absurd (omega arith)
+taken-set (x ∷ xs) zero (suc n) w lt = refl
+taken-set (x ∷ xs) (suc i) (suc n) w lt = ap (λ zs. x ∷ zs) (taken-set xs i n w (omega arith))
+
+taken-at : {X : Type 0} (xs : List X) (i count : ℕ) (x : X) → slice_get xs i ≡ Some x → i < count
+    → slice_get (take count xs) i ≡ Some x
+taken-at [] i count x e lt = absurd cc
+taken-at (y ∷ xs) i zero x e lt = absurd (omega arith)
+taken-at (y ∷ xs) zero (suc n) x e lt = e
+taken-at (y ∷ xs) (suc i) (suc n) x e lt = taken-at xs i n x e (omega arith)
+
 -- One more number is written.
-pub step_renumbered : (ps : List Stored) (p far q count number : ℕ) (u v : Stored) (all : List Numbered) → p < length ps
-    → far < count → count ≤ length ps
-    → IsFar (length ps) p far q → u ≡ slice_index_or ps q u → v ≡ u
-    → left_to far (number + far) (units_from ps p count) ≡ all
-    → left_to (far + 1) (number + (far + 1)) (units_from (slice_set ps q (number + far, v.1)) p count) ≡ all
-step_renumbered ps p far q count number u v all lt within le h e same before =
-    let w : Stored = (number + far, v.1) in
-    let written : units_from (slice_set ps q w) p count ≡ slice_set (units_from ps p count) far w = units_from-set ps p
-    far q w count lt within le h in
-    let at : slice_get (units_from ps p count) far ≡ Some u =
-    units_from-at ps p far q count lt within h ∙ ap (λ (x : Stored). Some x) (same_at ps q u h.0 e)
-    in
-    let is : unit_value w ≡ unit_value (number + far, u.1) = ap (λ (x : Stored). unit_value (number + far, x.1)) same in
+pub step_renumbered : (ps : List Stored) (far count number : ℕ) (u w : Stored) (all : List Numbered) → far < count
+    → slice_get ps far ≡ Some u → unit_value w ≡ record { number = number + far; octets = u.1.items }
+    → left_to far (number + far) (take count ps) ≡ all
+    → left_to (far + 1) (number + (far + 1)) (take count (slice_set ps far w)) ≡ all
+step_renumbered ps far count number u w all lt at is before =
     let next : number + (far + 1) ≡ number + far + 1 = omega arith in
     let more : far + 1 ≡ suc far = omega arith in
-    ap (λ (us : List Stored). left_to (far + 1) (number + (far + 1)) us) written
-    ∙ ap (λ (k : ℕ). left_to k (number + (far + 1)) (slice_set (units_from ps p count) far w)) more
-    ∙ ap (λ (m : ℕ). left_to (suc far) m (slice_set (units_from ps p count) far w)) next
-    ∙ one_renumbered far (number + far) (units_from ps p count) u w at is
+    ap (λ (us : List Stored). left_to (far + 1) (number + (far + 1)) us) (taken-set ps far count w lt)
+    ∙ ap (λ (k : ℕ). left_to k (number + (far + 1)) (slice_set (take count ps) far w)) more
+    ∙ ap (λ (m : ℕ). left_to (suc far) m (slice_set (take count ps) far w)) next
+    ∙ one_renumbered far (number + far) (take count ps) u w (taken-at ps far count u at lt) is
     ∙ before
 
 -- At the end, all numbers are written.
@@ -184,3 +154,18 @@ all_renumbered [] zero number le = refl
 all_renumbered [] (suc far) number le = refl
 all_renumbered (u ∷ us) zero number le = absurd (omega arith)
 all_renumbered (u ∷ us) (suc far) number le = ap (λ vs. u ∷ vs) (all_renumbered us far number (omega arith))
+
+-- What stands for a ring.
+abbrev pub kept_of : ℕ → List Numbered → Kept
+kept_of n us = record { room = n; units = us }
+
+there : {X : Type 0} (xs : List X) (i : ℕ) → i < length xs → (x : X) × (slice_get xs i ≡ Some x)
+there [] i lt = absurd (omega arith)
+there (x ∷ xs) zero lt = (x, refl)
+there (x ∷ xs) (suc i) lt = there xs i (omega arith)
+
+-- A place of the ring can be written.
+pub is_there : {X : Type 0} (place : Option (MutBor X)) (xs : List X) (i : ℕ) → option_copied_mut place ≡ slice_get xs i
+    → i < length xs → IsSome place
+is_there None xs i e lt = let (x, at) = there xs i lt in absurd cc
+is_there (Some place) xs i e lt = refl

@@ -1,9 +1,9 @@
 -- The units that were sent and are not confirmed, as a list with rising numbers (safety and retransmission layer).
-use Rattle.std.specs.Prelude.{ℕ, zero, suc, ◌+◌, ◌<◌, ◌≤◌, nat_lt, nat_le, List, [], ◌∷◌, length, map, filter, slice_index_or, Option, Some, None}
+use Rattle.std.specs.Prelude.{◌≡◌, ℕ, ◌+◌, ◌^◌, ◌<◌, ◌≤◌, nat_lt, nat_le, List, [], ◌∷◌, length, map, filter, Option, Some, None}
 use Rattle.std.specs.List.{AllPairs}
 use Rattle.std.specs.Borrow.{Bor}
 use Rattle.arrayvec.specs.ArrayVec.{ArrayVec}
-use Rattle.octets.specs.RingPlaces.{place_behind}
+use Rattle.circular_buffer.specs.Buffer.{Buffer}
 
 -- The bytes of a unit, with the number of the PDU that carried it last.
 pub record Numbered : Type 0 where
@@ -50,19 +50,11 @@ unit_value u = record { number = u.0; octets = u.1.items }
 abbrev pub unit_values : List Stored → List Numbered
 unit_values units = map unit_value units
 
--- What a place after the end is read as.
-abbrev pub no_unit : Stored
-no_unit = (0, record { items = [] })
-
--- The ring has at least `count` places, and `first` is one of its places if it has any.
-abbrev pub IsRing : ℕ → ℕ → ℕ → Type 0
-IsRing places first count = (count ≤ places) × (0 < places → first < places)
-
--- The units of `count` places from a place on, round the ring.
-abbrev pub units_from : List Stored → ℕ → ℕ → List Stored
-units_from places place zero = []
-units_from places place (suc count) =
-    slice_index_or places place no_unit ∷ units_from places (place_behind (length places) place) count
+-- Every place of the ring holds something, and `count` of them are in use.
+pub record IsRing (places : Buffer Stored) (count : ℕ) : Type 0 where
+  pub full : length places.items ≡ places.capacity
+  pub few : count ≤ places.capacity
+  pub fits : places.capacity < 2 ^ 64
 
 -- A result, without its place in memory.
 abbrev pub seen_of : Option (Bor Stored) → Option Numbered

@@ -1,12 +1,12 @@
 //! The ring of unconfirmed units.
 
-ghost use Rattle.std.specs.Prelude.{◌≡◌, ◌+◌, ◌<◌, ◌≤◌, ◌^◌, ◌↔◌, ◌++◌, [], ◌∷◌, length, slice_get, All, IsOk, OnOk, OnErr, IfOk, IfErr, vec_len};
+ghost use Rattle.std.specs.Prelude.{◌≡◌, ◌+◌, ◌<◌, ◌≤◌, ◌^◌, ◌↔◌, ◌++◌, [], ◌∷◌, length, drop, slice_get, All, IsOk, OnOk, OnErr, IfOk, IfErr};
 ghost use Rattle.octets.specs.declared.limits.TheConstants.{UNIT_MAX};
-ghost use Rattle.safe_machine.specs.retrans.Units.{IsRing, Rises, above, unit_values, octets_of, renumber_units, seen_of, units_from};
+ghost use Rattle.safe_machine.specs.retrans.Units.{Rises, above, octets_of, renumber_units, seen_of};
 
 use super::{NumberedUnit, Unit};
+use circular_buffer::HeapCircularBuffer;
 use octets::limits::UNIT_MAX;
-use octets::rings::{next_place, place_at};
 use std::alloc::{AllocError, Allocator, Global};
 use std::marker::Model;
 
@@ -16,23 +16,22 @@ use std::marker::Model;
 /// place is cleared and no unit is moved, so a short unit costs as much as its bytes only.
 #[derive(Drop)]
 pub struct Unconfirmed<A: Allocator = Global> {
-    /// One place for each unit that there is room for.
-    places: Vec<NumberedUnit, A>,
-    /// The place of the unit sent first. The others follow it, and the first place follows the last.
-    first: usize,
+    /// One place for each unit that there is room for: first those of the units, in order. A place that is free
+    /// again moves to the end.
+    places: HeapCircularBuffer<NumberedUnit, A>,
     /// How many places hold an unconfirmed unit. The other places are never read.
     count: usize,
 }
 
 impl<A: Allocator> Model for Unconfirmed<A> {
-    ghost use Rattle.std.specs.Prelude.{vec_len};
-    ghost use Rattle.safe_machine.specs.retrans.Units.{IsRing, Kept, Rises, unit_values, units_from};
+    ghost use Rattle.std.specs.Prelude.{take};
+    ghost use Rattle.safe_machine.specs.retrans.Units.{IsRing, Kept, Rises, unit_values};
 
     ghost Value = { Kept };
 
-    ghost view = { λ u. record { room = vec_len u.places; units = unit_values (units_from u.places.items u.first u.count) } };
+    ghost view = { λ u. record { room = u.places.capacity; units = unit_values (take u.count u.places.items) } };
 
-    ghost invariant = { λ u. IsRing (vec_len u.places) u.first u.count × Rises (unit_values (units_from u.places.items u.first u.count)) };
+    ghost invariant = { λ u. IsRing u.places u.count × Rises (unit_values (take u.count u.places.items)) };
 }
 
 impl<A: Allocator> Unconfirmed<A> {
@@ -45,15 +44,11 @@ impl<A: Allocator> Unconfirmed<A> {
         // A new `Unconfirmed` is empty and has room for `n` units.
         ensures { IfOk result (λ kept. kept ≡ record { room = n; units = [] }) }
     {
-        let mut places = Vec::with_capacity(alloc, n)?;
+        let mut places = HeapCircularBuffer::with_capacity(alloc, n)?;
         for _ in 0..n {
-            places.push((0, Unit::new())).map_err(AllocError::from)?;
+            places.try_push_back((0, Unit::new())).unwrap();
         }
-        Ok(Unconfirmed {
-            places,
-            first: 0,
-            count: 0,
-        })
+        Ok(Unconfirmed { places, count: 0 })
     }
 
     /// Returns how many units are unconfirmed.
@@ -76,7 +71,7 @@ impl<A: Allocator> Unconfirmed<A> {
         if place >= self.count {
             return None;
         }
-        Some(&self.places[place_at(self.places.len(), self.first, place)])
+        self.places.get(place)
     }
 
     /// Appends a unit under the number of the PDU that carried it. The number must be greater than those of all
@@ -99,12 +94,10 @@ impl<A: Allocator> Unconfirmed<A> {
         // A unit that `sent` refuses is returned unchanged.
         ensures given_back { IfErr result (λ back. back ≡ unit) }
     {
-        if self.count == self.places.len() {
+        if self.count == self.places.capacity() {
             return Err(unit);
         }
-        let place = place_at(self.places.len(), self.first, self.count);
-        self.places[place] = (number, unit);
-        self.count += 1;
+        self.keep(number, &unit);
         Ok(())
     }
 
@@ -120,8 +113,7 @@ impl<A: Allocator> Unconfirmed<A> {
           units = self.old.units ++ record { number = number; octets = octets.now } ∷ [];
         } }
     {
-        let place = place_at(self.places.len(), self.first, self.count);
-        write_unit(&mut self.places[place], number, octets);
+        write_unit(self.places.get_mut(self.count).unwrap(), number, octets);
         self.count += 1;
     }
 
@@ -130,9 +122,38 @@ impl<A: Allocator> Unconfirmed<A> {
         // `confirm` keeps exactly the units with greater numbers, in order (`above`).
         ensures { self.new ≡ record { room = self.old.room; units = above number self.old.units } }
     {
-        let (first, count) = behind_confirmed(&self.places, self.first, self.count, number);
-        self.first = first;
-        self.count = count;
+        let confirmed = self.count_up_to(number);
+        self.free(confirmed);
+    }
+
+    /// Counts the units with numbers up to this one. They are at the front.
+    fn count_up_to(&self, number: u64) -> usize
+        // The units after those counted are exactly those with greater numbers (`above`).
+        ensures left { drop result self.now.units ≡ above number self.now.units }
+        // No more are counted than there are.
+        ensures within { result ≤ length self.now.units }
+    {
+        for place in 0..self.count {
+            if self.places.get(place).unwrap().0 > number {
+                return place;
+            }
+        }
+        self.count
+    }
+
+    /// Drops the first units. If all are dropped, the next ones use the same places again.
+    fn free(&mut self, dropped: usize)
+        requires { dropped ≤ length self.old.units }
+        // The other units and the room stay.
+        ensures { self.new ≡ record { room = self.old.room; units = drop dropped self.old.units } }
+    {
+        self.count -= dropped;
+        if self.count > 0 {
+            for _ in 0..dropped {
+                let place = self.places.pop_front().unwrap();
+                self.places.try_push_back(place).unwrap();
+            }
+        }
     }
 
     /// Drops every unit. The room stays.
@@ -140,7 +161,6 @@ impl<A: Allocator> Unconfirmed<A> {
         // After `clear`, no unit is unconfirmed, and there is as much room as before.
         ensures { self.new ≡ record { room = self.old.room; units = [] } }
     {
-        self.first = 0;
         self.count = 0;
     }
 
@@ -151,35 +171,10 @@ impl<A: Allocator> Unconfirmed<A> {
         // `renumber` gives consecutive numbers from `first` on, and keeps the units and their order (`renumber_units`).
         ensures { self.new ≡ record { room = self.old.room; units = renumber_units first (octets_of self.old.units) } }
     {
-        renumber_in(&mut self.places, self.first, self.count, first);
-    }
-}
-
-/// Returns the first place and the count of the units that remain after those up to a number are confirmed.
-fn behind_confirmed(
-    places: &[NumberedUnit],
-    first: usize,
-    count: usize,
-    number: u64,
-) -> (usize, usize)
-    requires ring { IsRing (length places.now) first count }
-    requires rises { Rises (unit_values (units_from places.now first count)) }
-    // The returned place and count fit the ring.
-    ensures ring { IsRing (length places.now) result.0 result.1 }
-    // The remaining units are exactly those with greater numbers (`above`).
-    ensures left { unit_values (units_from places.now result.0 result.1)
-        ≡ above number (unit_values (units_from places.now first count)) }
-{
-    let mut first = first;
-    let mut count = count;
-    while count > 0 {
-        if places[first].0 > number {
-            return (first, count);
+        for far in 0..self.count {
+            self.places.get_mut(far).unwrap().0 = first + far as u64;
         }
-        first = next_place(places.len(), first);
-        count -= 1;
     }
-    (first, count)
 }
 
 /// Overwrites a place with a number and the bytes of a unit.
@@ -193,40 +188,4 @@ fn write_unit(place: &mut NumberedUnit, number: u64, octets: &[u8])
     place.0 = number;
     place.1.clear();
     let _fits = place.1.try_extend_from_slice(octets);
-}
-
-/// Writes consecutive numbers to the units of a vector of places.
-fn renumber_in<A: Allocator>(
-    places: &mut Vec<NumberedUnit, A>,
-    first: usize,
-    count: usize,
-    number: u64,
-)
-    requires numbers { number + count ≤ 2 ^ 64 }
-    requires ring { IsRing (vec_len places.old) first count }
-    // The units of the ring have consecutive numbers from `number` on, and the same bytes in the same order
-    // (`renumber_units`).
-    ensures numbers { unit_values (units_from places.new.items first count)
-        ≡ renumber_units number (octets_of (unit_values (units_from places.old.items first count))) }
-    // The number of places in the vector stays the same.
-    ensures room { vec_len places.new ≡ vec_len places.old }
-{
-    renumber_all(places, first, count, number);
-}
-
-/// Writes consecutive numbers to the units of a slice of places.
-fn renumber_all(places: &mut [NumberedUnit], first: usize, count: usize, number: u64)
-    requires numbers { number + count ≤ 2 ^ 64 }
-    requires ring { IsRing (length places.old) first count }
-    // In the slice, the units from `first` on have consecutive numbers from `number` on, and keep their bytes and
-    // their order (`renumber_units`).
-    ensures numbers { unit_values (units_from places.new first count)
-        ≡ renumber_units number (octets_of (unit_values (units_from places.old first count))) }
-    // The number of places in the slice stays the same.
-    ensures room { length places.new ≡ length places.old }
-{
-    for far in 0..count {
-        let place = place_at(places.len(), first, far);
-        places[place].0 = number + far as u64;
-    }
 }
