@@ -2,4 +2,3 @@ pub mod Fields
 pub mod Steps
 pub mod Choices
 pub mod ByIndex
-pub mod RingPlaces

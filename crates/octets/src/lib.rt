@@ -1,10 +1,8 @@
-//! The base of every layer: numbers at places in bytes, places in a ring, and the limits of messages, units
-//! and PDUs.
+//! The base of every layer: numbers at places in bytes, and the limits of messages, units and PDUs.
 #![tactic(auto)]
 
 pub mod limits;
 pub mod places;
-pub mod rings;
 mod storage;
 
 pub use storage::{Unit, copy_of};
