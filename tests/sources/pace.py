@@ -16,8 +16,13 @@ def milliseconds():
     return round((time.process_time() - begun) * 1000)
 
 
-began_by = os.getppid()
-milliseconds()  # the first one also loads code
-while os.getppid() == began_by:
-    print(milliseconds(), flush=True)
-    time.sleep(60)
+def main():
+    began_by = os.getppid()
+    milliseconds()  # the first one also loads code
+    while os.getppid() == began_by:
+        print(milliseconds(), flush=True)
+        time.sleep(60)
+
+
+if __name__ == '__main__':
+    main()

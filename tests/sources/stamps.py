@@ -5,6 +5,7 @@
 
 A library that has this checksum, or that does not exist, is not changed.
 """
+import functools
 import importlib.machinery
 import os
 import shutil
@@ -15,6 +16,7 @@ sys.dont_write_bytecode = True
 TOP = os.path.dirname(os.path.dirname(os.path.dirname(os.path.abspath(__file__))))
 
 
+@functools.cache
 def kit():
     """Returns the toolchain's own functions for crates."""
     path = os.path.join(os.path.dirname(os.path.realpath(shutil.which('rt'))), 'rtlib.py')
