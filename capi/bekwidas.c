@@ -28,6 +28,7 @@ int32_t bekr_settled(bek_end *end);
 int32_t bekr_confirmed(bek_end *end, uint64_t *count);
 int32_t bekr_confirmed_time(bek_end *end, uint64_t *time);
 int32_t bekr_departure(bek_end *end, bek_leaving *leaving);
+int32_t bekr_agreed(bek_end *end, bek_agreement *agreement);
 int32_t bekr_statistics(bek_end *end, bek_statistics *statistics);
 int32_t bekr_counts(bek_end *end, bek_counts *counts);
 int32_t bekr_hear_notes(bek_end *end, uint32_t hears);
@@ -273,6 +274,13 @@ int bek_departure(const bek_end *end, bek_leaving *leaving) {
     if (end == NULL || leaving == NULL) return BEK_ERR_NULL;
     asked = *end;
     return bekr_departure(&asked, leaving);
+}
+
+int bek_agreed(const bek_end *end, bek_agreement *agreement) {
+    bek_end asked;
+    if (end == NULL || agreement == NULL) return BEK_ERR_NULL;
+    asked = *end;
+    return bekr_agreed(&asked, agreement);
 }
 
 int bek_counts_of(const bek_end *end, bek_counts *counts) {

@@ -85,6 +85,9 @@ extern "C" {
 /* The greatest number of channels. They are numbered from 1. */
 #define BEK_CHANNELS_MAX 4
 
+/* The greatest size of a checksum, in octets. */
+#define BEK_CHECKSUM_MAX 16
+
 /* The result of a function: 0 or above if it was done, below 0 if it was refused. A refused call has changed nothing. The exception is
  * BEK_ERR_LOST, which is also the result of the call in which the telegram was lost. */
 typedef enum bek_result {
@@ -257,6 +260,13 @@ typedef struct bek_leaving {
     uint32_t version; /* the peer's PDI version if this end left because the versions differ, otherwise BEK_NO_VERSION */
 } bek_leaving;
 
+/* What the two ends agreed on in the version check. */
+typedef struct bek_agreement {
+    uint32_t version;         /* the PDI version: the interlocking asked for it, and the field element accepted it */
+    uint32_t checksum_length; /* 0 to BEK_CHECKSUM_MAX */
+    uint8_t checksum[BEK_CHECKSUM_MAX]; /* that of the field element's reply, then zeros. Nothing compares it: compare it at the interlocking */
+} bek_agreement;
+
 /* What a note is about. */
 enum {
     BEK_NOTE_STATE = 1,    /* the connection has changed to the state `value` */
@@ -420,6 +430,12 @@ BEK_MUST_USE int bek_confirmed_time(const bek_end *end, uint64_t *time);
 /* Writes who ended the connection, why and when. BEK_OK; BEK_NOTHING if the end was not closed, and nothing is written; BEK_ERR_NULL,
  * BEK_ERR_NOT_OPEN. */
 BEK_MUST_USE int bek_departure(const bek_end *end, bek_leaving *leaving);
+
+/* Writes the PDI version that was agreed, and the checksum of the field element's reply. They are known before the first telegram is put or taken: at
+ * an interlocking from BEK_REQUESTING on, at a field element from BEK_AWAIT_REQUEST on. They stay after the end is closed, until bek_reopen.
+ *
+ * BEK_OK; BEK_NOTHING if nothing was agreed, and nothing is written; BEK_ERR_NULL, BEK_ERR_NOT_OPEN. */
+BEK_MUST_USE int bek_agreed(const bek_end *end, bek_agreement *agreement);
 
 /* Writes what a departure means, in ASCII, cut to `size` octets with a zero at the end, and returns the length of the whole text without the zero.
  * If `leaving` is NULL, the text is empty. */

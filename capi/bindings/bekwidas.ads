@@ -37,6 +37,11 @@ package Bekwidas is
       By, Reason, Detail, Version : Unsigned_32 := 0;
    end record with Convention => C;
 
+   type Agreement is record
+      Version, Checksum_Length : Unsigned_32 := 0;
+      Checksum : Octets (0 .. 15) := (others => 0);
+   end record with Convention => C;
+
    --  Last is 2 ** 64 - 1 before the first datagram.
    type Reception is record
       Received, Passed, Deferred, Old, Repeated, Far, Full, Damaged, Last : Unsigned_64 := 0;
@@ -101,6 +106,8 @@ package Bekwidas is
      with Import, Convention => C, External_Name => "bek_confirmed_time";
    function Departure (E : access constant Bek_End; L : access Leaving) return int
      with Import, Convention => C, External_Name => "bek_departure";
+   function Agreed (E : access constant Bek_End; A : access Agreement) return int
+     with Import, Convention => C, External_Name => "bek_agreed";
    function Leaving_Text (L : access constant Leaving; Text : System.Address; Size : size_t) return size_t
      with Import, Convention => C, External_Name => "bek_leaving_text";
    function Counts_Of (E : access constant Bek_End; C : access Counts) return int

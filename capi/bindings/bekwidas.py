@@ -92,6 +92,12 @@ class Leaving(ctypes.Structure):
         return text.value.decode()
 
 
+class Agreement(ctypes.Structure):
+    """The PDI version and the checksum that the two ends agreed on: bytes(it.checksum[:it.checksum_length])."""
+
+    _fields_ = [("version", c_uint32), ("checksum_length", c_uint32), ("checksum", ctypes.c_uint8 * 16)]
+
+
 class Note(ctypes.Structure):
     """One thing that an end did, as in bekwidas.h."""
 
@@ -143,7 +149,7 @@ _declare(_Handle, {
     "next_deadline": [POINTER(c_uint64)], "put": [c_uint16, c_char_p, c_size_t, c_uint64], "init_done": [c_uint64], "close": [c_uint64],
     "take": [POINTER(c_uint16), c_char_p, c_size_t, POINTER(c_size_t)], "next_datagram": [POINTER(c_uint32), c_char_p, c_size_t, POINTER(c_size_t)],
     "state": [], "phase": [], "is_stale": [], "settled": [], "confirmed": [POINTER(c_uint64)], "confirmed_time": [POINTER(c_uint64)],
-    "departure": [POINTER(Leaving)], "counts_of": [POINTER(Counts)], "statistics_of": [POINTER(Statistics)],
+    "departure": [POINTER(Leaving)], "agreed": [POINTER(Agreement)], "counts_of": [POINTER(Counts)], "statistics_of": [POINTER(Statistics)],
     "hear_notes": [c_int], "next_note": [POINTER(Note)]})
 
 
@@ -216,6 +222,7 @@ class End:
     confirmed = property(lambda self: self._told("confirmed", c_uint64()).value)
     confirmed_time = property(lambda self: self._told("confirmed_time", c_uint64()).value)
     departure = property(lambda self: self._told("departure", Leaving()))
+    agreed = property(lambda self: self._told("agreed", Agreement()))
     counts = property(lambda self: self._told("counts_of", Counts()))
     statistics = property(lambda self: self._told("statistics_of", Statistics()))
 

@@ -30,6 +30,11 @@ pub struct Counts { pub telegrams: u64, pub datagrams: u64, pub unsent: u64 }
 #[derive(Clone, Copy, Debug, Default, PartialEq, Eq)]
 pub struct Leaving { pub time: u64, pub by: u32, pub reason: u32, pub detail: u32, pub version: u32 }
 
+/// What the two ends agreed on; the checksum has zeros behind it.
+#[repr(C)]
+#[derive(Clone, Copy, Debug, Default, PartialEq, Eq)]
+pub struct Agreement { pub version: u32, pub checksum_length: u32, pub checksum: [u8; 16] }
+
 /// The datagrams of one channel; `last` is `u64::MAX` before the first.
 #[repr(C)]
 #[derive(Clone, Copy, Debug, Default, PartialEq, Eq)]
@@ -86,6 +91,7 @@ extern "C" {
     fn bek_confirmed(e: *const Handle, count: *mut u64) -> c_int;
     fn bek_confirmed_time(e: *const Handle, time: *mut u64) -> c_int;
     fn bek_departure(e: *const Handle, leaving: *mut Leaving) -> c_int;
+    fn bek_agreed(e: *const Handle, agreement: *mut Agreement) -> c_int;
     fn bek_counts_of(e: *const Handle, counts: *mut Counts) -> c_int;
     fn bek_statistics_of(e: *const Handle, statistics: *mut Statistics) -> c_int;
     fn bek_hear_notes(e: *mut Handle, on: c_int) -> c_int;
@@ -206,6 +212,12 @@ impl End {
         let result = unsafe { bek_departure(&*self.0, &mut leaving) };
         let said = text(|at, size| { unsafe { bek_leaving_text(&leaving, at, size) }; });
         given(result, (leaving, said))
+    }
+    /// The version and checksum that were agreed; `Err(NOTHING)` before that.
+    pub fn agreed(&self) -> Result<Agreement, c_int> {
+        let mut agreement = Agreement::default();
+        let result = unsafe { bek_agreed(&*self.0, &mut agreement) };
+        given(result, agreement)
     }
     pub fn counts(&self) -> Result<Counts, c_int> {
         let mut counts = Counts::default();

@@ -196,10 +196,44 @@ static void closes(void) {
     must(bek_is_stale(&fe) == 1 && bek_close(&fe, now) == BEK_OK && bek_put(&fe, 1, NULL, 0, now) == BEK_ERR_NOT_ESTABLISHED);
 }
 
+/* What each version and checksum of a field element with two versions is agreed on: both ends say the same, and only from the version check on. */
+static void agrees(void) {
+    bek_settings a = settings(BEK_INTERLOCKING), b = settings(BEK_FIELD_ELEMENT);
+    bek_agreement of_il, of_fe, none;
+    uint8_t zeros[BEK_CHECKSUM_MAX] = {0};
+    uint32_t n, version;
+    for (version = 1; version <= 2; version++) {
+        for (n = 0; n <= BEK_CHECKSUM_MAX; n++) {
+            a.versions[0] = (uint8_t)version;
+            b.version_count = 2;
+            b.versions[1] = 2;
+            b.checksum_length = n;
+            memset(b.checksum, (int)(0x50 + n), n);
+            memset(&none, 0x77, sizeof none);
+            must(bek_open(&fe, &b, now) == BEK_OK && bek_open(&il, &a, now) == BEK_OK);
+            of_il = of_fe = none;
+            must(bek_agreed(&il, &of_il) == BEK_NOTHING && bek_agreed(&fe, &of_fe) == BEK_NOTHING);
+            must(memcmp(&of_il, &none, sizeof none) == 0 && memcmp(&of_fe, &none, sizeof none) == 0);
+            both(1);
+            must(bek_phase(&fe) == BEK_INITIALISING && bek_agreed(&fe, &of_fe) == BEK_OK && of_fe.version == version);
+            must(of_fe.checksum_length == n && memcmp(of_fe.checksum, b.checksum, n) == 0);
+            must(memcmp(of_fe.checksum + n, zeros, BEK_CHECKSUM_MAX - n) == 0);
+            must(bek_init_done(&fe, now) == BEK_OK);
+            both(1);
+            must(bek_phase(&il) == BEK_ESTABLISHED && bek_agreed(&il, &of_il) == BEK_OK && memcmp(&of_il, &of_fe, sizeof of_il) == 0);
+            must(bek_close(&il, now) == BEK_OK && bek_agreed(&il, &of_fe) == BEK_OK && memcmp(&of_il, &of_fe, sizeof of_il) == 0);
+            must(bek_reopen(&il, 7, now) == BEK_OK && bek_agreed(&il, &of_fe) == BEK_NOTHING);
+            bek_free(&il);
+            bek_free(&fe);
+        }
+    }
+}
+
 /* The versions differ: the interlocking disconnects, and knows the field element's version. */
 static void versions(void) {
     bek_settings a = settings(BEK_INTERLOCKING), b = settings(BEK_FIELD_ELEMENT);
     bek_leaving leaving;
+    bek_agreement agreement;
     uint32_t field;
     char text[200];
     b.versions[0] = 9;
@@ -210,6 +244,7 @@ static void versions(void) {
     must(leaving.reason == 4 && leaving.detail == 1 && leaving.version == 9);
     must(bek_departure(&fe, &leaving) == BEK_OK && leaving.by == BEK_BY_PEER && leaving.reason == 4 && leaving.detail == 1);
     must(leaving.version == BEK_NO_VERSION);
+    must(bek_agreed(&il, &agreement) == BEK_NOTHING && bek_agreed(&fe, &agreement) == BEK_NOTHING);
     bek_free(&il);
     bek_free(&fe);
 }
@@ -385,6 +420,7 @@ int main(void) {
             }
     channels = 2, code = 8;
     at = "2 channels";
+    agrees();
     versions();
     is_wise = 1;
     for (k = 0; k < 10; k++) notes();

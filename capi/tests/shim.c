@@ -126,6 +126,13 @@ int32_t bekr_departure(bek_end *end, bek_leaving *leaving) {
     leaving->version = (uint32_t)told[4];
     return notes("departure", end, NULL, 0, 0, 0, 0);
 }
+int32_t bekr_agreed(bek_end *end, bek_agreement *agreement) {
+    agreement->version = (uint32_t)told[0];
+    agreement->checksum_length = (uint32_t)told[1];
+    agreement->checksum[0] = (uint8_t)told[2];
+    agreement->checksum[15] = (uint8_t)told[3];
+    return notes("agreed", end, NULL, 0, 0, 0, 0);
+}
 int32_t bekr_statistics(bek_end *end, bek_statistics *statistics) {
     statistics->channels[0].received = told[0];
     statistics->channels[3].last = told[1];
@@ -178,6 +185,7 @@ static void passes_on(void) {
     size_t length = any_length(), size = 1 + any_length() / 2, taken = 0;
     bek_counts counts;
     bek_leaving leaving;
+    bek_agreement agreement;
     bek_statistics statistics;
     bek_note note;
     int i;
@@ -238,6 +246,10 @@ static void passes_on(void) {
     must(leaving.time == told[0] && leaving.by == (uint32_t)told[1] && leaving.reason == (uint32_t)told[2] && leaving.detail == (uint32_t)told[3]);
     must(leaving.version == (uint32_t)told[4]);
     went("departure", 1);
+    AT, must(bek_agreed(&end, &agreement) == result);
+    must(agreement.version == (uint32_t)told[0] && agreement.checksum_length == (uint32_t)told[1]);
+    must(agreement.checksum[0] == (uint8_t)told[2] && agreement.checksum[15] == (uint8_t)told[3]);
+    went("agreed", 1);
     AT, must(bek_counts_of(&end, &counts) == result);
     must(counts.telegrams == told[0] && counts.datagrams == told[1] && counts.unsent == told[2]);
     went("counts", 1);
@@ -298,6 +310,7 @@ static void refuses(void) {
     static bek_settings settings;
     bek_counts counts;
     bek_leaving leaving;
+    bek_agreement agreement;
     bek_statistics statistics;
     bek_note note;
     uint64_t number;
@@ -350,6 +363,8 @@ static void refuses(void) {
     must(bek_confirmed_time(&end, NULL) == BEK_ERR_NULL);
     must(bek_departure(NULL, &leaving) == BEK_ERR_NULL);
     must(bek_departure(&end, NULL) == BEK_ERR_NULL);
+    must(bek_agreed(NULL, &agreement) == BEK_ERR_NULL);
+    must(bek_agreed(&end, NULL) == BEK_ERR_NULL);
     must(bek_counts_of(NULL, &counts) == BEK_ERR_NULL);
     must(bek_counts_of(&end, NULL) == BEK_ERR_NULL);
     must(bek_statistics_of(NULL, &statistics) == BEK_ERR_NULL);

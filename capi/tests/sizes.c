@@ -1,4 +1,4 @@
-/* Tests that the structs have the layout of the crate `bekwidas`: Slot, PlainSettings, Counts, PlainDeparture, PlainReceptions, PlainStatistics and PlainNote, all #[repr(C)]. */
+/* Tests that the structs have the layout of the crate `bekwidas`: Slot, PlainSettings, Counts, PlainDeparture, PlainAgreement, PlainReceptions, PlainStatistics and PlainNote, all #[repr(C)]. */
 #include "bekwidas.h"
 
 #include <stddef.h>
@@ -43,6 +43,10 @@ SAME(offsetof(bek_leaving, reason), 12);
 SAME(offsetof(bek_leaving, detail), 16);
 SAME(offsetof(bek_leaving, version), 20);
 SAME(sizeof(bek_leaving), 24);
+SAME(offsetof(bek_agreement, version), 0);
+SAME(offsetof(bek_agreement, checksum_length), 4);
+SAME(offsetof(bek_agreement, checksum), 8);
+SAME(sizeof(bek_agreement), 24);
 SAME(offsetof(bek_reception, received), 0);
 SAME(offsetof(bek_reception, passed), 8);
 SAME(offsetof(bek_reception, deferred), 16);

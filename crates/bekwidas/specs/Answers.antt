@@ -6,6 +6,9 @@ use Rattle.stack_end.specs.Turns.{is_settled}
 use Rattle.end_for_callers.specs.Calls.{Does, IsDeadline, Reopens, StationValue, outbox_of, outcome_of, refusal, refusal_to_close, refusal_to_init, refusal_to_put, refusal_to_reopen, LosesNone, SameButNotes}
 use Rattle.end_for_callers.specs.Notes.{heard_anew, next_of, rest_of}
 use Rattle.end_for_callers.specs.declared.notes.StationNote.{StationNote}
+use Rattle.pdi_session.specs.SessionStep.{Agreement}
+use Rattle.bekwidas.specs.Agreements.{agreement_in}
+use Rattle.bekwidas.specs.declared.agreement.PlainAgreement.{PlainAgreement}
 use Rattle.bekwidas.specs.Notes.{note_in}
 use Rattle.bekwidas.specs.declared.notes.PlainNote.{PlainNote}
 use Rattle.end_for_callers.specs.declared.CallFault.{CallFault}
@@ -140,6 +143,16 @@ TellsDeparture None before after code = (code ≡ NOTHING) × (after ≡ before)
 -- the departure that the end has recorded; the station does not change
 abbrev pub AnswersDeparture : (before after : PlainDeparture) → ℤ → StationValue → StationValue → Type 0
 AnswersDeparture before after code s t = (t ≡ s) × TellsDeparture (inside s.end).upper.departed before after code
+
+-- OK and the agreement is written, if there is one; otherwise NOTHING, and nothing is written
+abbrev pub TellsAgreement : Option Agreement → (before after : PlainAgreement) → ℤ → Type 0
+TellsAgreement (Some agreed) before after code = (code ≡ OK) × (after ≡ agreement_in agreed)
+TellsAgreement None before after code = (code ≡ NOTHING) × (after ≡ before)
+
+-- what the session of the end has agreed on; the station does not change
+abbrev pub AnswersAgreed : (before after : PlainAgreement) → ℤ → StationValue → StationValue → Type 0
+AnswersAgreed before after code s t =
+    (t ≡ s) × TellsAgreement (inside s.end).upper.session.agreed before after code
 
 -- OK, and notes are kept from now on if and only if this is not 0; none waits, and nothing else changes
 abbrev pub AnswersHearNotes : (hears : ℕ) → ℤ → StationValue → StationValue → Type 0

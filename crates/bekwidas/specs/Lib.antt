@@ -7,3 +7,4 @@ pub mod Texts
 pub mod Faults
 pub mod Statistics
 pub mod Notes
+pub mod Agreements

@@ -1,13 +1,14 @@
 //! The functions that C calls.
 
 ghost use Rattle.std.specs.Prelude.{◌≡◌, ◌≢◌, ◌⊎◌, ◌++◌, IfErr, IfOk, MatchResult, Some, drop, take, length, min};
-ghost use Rattle.bekwidas.specs.Answers.{AnswersArrive, AnswersTick, AnswersPut, AnswersInitDone, AnswersClose, AnswersReopen, AnswersTake, AnswersNextDatagram, AnswersNextDeadline, AnswersState, AnswersPhase, AnswersSettled, AnswersCounts, AnswersConfirmed, AnswersConfirmedTime, AnswersDeparture, AnswersHearNotes, AnswersNextNote, AnswersStale, AnswersStatistics, StaysOpen};
+ghost use Rattle.bekwidas.specs.Answers.{AnswersAgreed, AnswersArrive, AnswersTick, AnswersPut, AnswersInitDone, AnswersClose, AnswersReopen, AnswersTake, AnswersNextDatagram, AnswersNextDeadline, AnswersState, AnswersPhase, AnswersSettled, AnswersCounts, AnswersConfirmed, AnswersConfirmedTime, AnswersDeparture, AnswersHearNotes, AnswersNextNote, AnswersStale, AnswersStatistics, StaysOpen};
 ghost use Rattle.bekwidas.specs.Texts.{text_of};
 ghost use Rattle.bekwidas.specs.Codes.{code_to_open};
 ghost use Rattle.bekwidas.specs.Held.{IsOpened};
 ghost use Rattle.bekwidas.specs.declared.exports.TheConstants.{VERSION};
 ghost use Rattle.bekwidas.specs.declared.codes.TheConstants.{ALREADY_OPEN, NO_MEMORY, NOTHING, NOT_OPEN, OK, TOO_SMALL};
 
+use crate::agreement::{PlainAgreement, plain_agreement};
 use crate::codes::{
     ALREADY_OPEN, BAD_SETTINGS, NO_MEMORY, NOT_OPEN, NOTHING, OK, SETTINGS_SIZE, TOO_SMALL,
     of_call, of_fault, of_leaver, of_opening, of_phase, of_state, of_version, text_of,
@@ -502,6 +503,33 @@ pub extern "C" fn bekr_departure(
         }
         None => NOTHING,
     }
+}
+
+/// Returns what the two ends agreed on in the version check.
+#[unsafe(no_mangle)]
+pub extern "C" fn bekr_agreed(
+    alloc: Global,
+    slot: &mut Slot,
+    agreement: &mut PlainAgreement,
+) -> i32
+    // A slot that holds an end keeps it. OK writes the version and the checksum that its session has agreed on; `NOTHING`
+    // means that it has agreed on none yet, and writes nothing. The end does not change.
+    ensures open { slot.old.is_open ≡ 1 → StaysOpen (AnswersAgreed agreement.old agreement.new result) slot.old slot.new }
+    // If the slot holds no end, `bekr_agreed` returns `NOT_OPEN` and writes nothing, and the slot still holds none.
+    ensures none { slot.old.is_open ≢ 1 → (result ≡ NOT_OPEN) × (slot.new.is_open ≡ 0) × (agreement.new ≡ agreement.old) }
+{
+    let Some(station) = slot.take(alloc) else {
+        return NOT_OPEN;
+    };
+    let code = match station.agreed() {
+        Some(agreed) => {
+            *agreement = plain_agreement(&agreed);
+            OK
+        }
+        None => NOTHING,
+    };
+    slot.put(station);
+    code
 }
 
 /// Returns all that the end has counted since its opening.

@@ -8,6 +8,7 @@
 //! wrong call returns a code. The rules of an end are in `stack_end`, those of the queues in `end_for_callers`.
 #![tactic(auto)]
 
+mod agreement;
 mod codes;
 mod exports;
 mod faults;

@@ -26,7 +26,7 @@ use crate::{CALL_TELEGRAMS, CallFault, Outcome, PART_PDUS, StationFault};
 use end_settings::{EndConfig, Side};
 use octets::Milliseconds;
 use octets::limits::{PAYLOAD_MAX, RED_PDU_MAX, TIME_MAX, WINDOW_MAX};
-use pdi_session::{MessageType, Phase};
+use pdi_session::{Agreed, MessageType, Phase};
 use safe_machine::ConnectionState;
 use stack_end::{Departure, End, OpenFault, Statistics};
 use std::alloc::Global;
@@ -421,7 +421,9 @@ impl Station {
 }
 
 impl Station {
-    ghost use Rattle.std.specs.Prelude.{Option};
+    ghost use Rattle.std.specs.Prelude.{IfSome, Option, option_map};
+    ghost use Rattle.pdi_session.specs.SessionStep.{agreement_of};
+    ghost use Rattle.pdi_session.specs.declared.TheConstants.{CHECKSUM_MAX};
     ghost use Rattle.pdi_session.specs.declared.Phase.{Phase};
     ghost use Rattle.end_for_callers.specs.Calls.{IsDeadline};
     ghost use Rattle.stack_end.specs.EndValue.{inside, statistics_of};
@@ -495,6 +497,17 @@ impl Station {
         ensures { result ≡ (inside self.now.end).upper.departed }
     {
         self.end.departure()
+    }
+
+    /// Returns what the two ends agreed on in the version check, or `None` before that: the PDI version, and the checksum
+    /// of the field element's reply. It stays until the end is opened again.
+    pub fn agreed(&self) -> Option<Agreed<'_>>
+        // `agreed` is what the session of the station's end keeps of the version check.
+        ensures agreed { option_map agreement_of result ≡ (inside self.now.end).upper.session.agreed }
+        // The checksum has at most 16 bytes.
+        ensures short { IfSome result (λ a. length a.checksum.now ≤ CHECKSUM_MAX) }
+    {
+        self.end.agreed()
     }
 
     /// Returns all that the end has counted since its opening.

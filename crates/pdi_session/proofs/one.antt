@@ -12,3 +12,4 @@ pub mod Queues
 pub mod OwnEarly
 pub mod Sides
 pub mod Over
+pub mod Agreements

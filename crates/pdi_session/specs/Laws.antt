@@ -1,5 +1,5 @@
 -- Laws of each row of the tables, and of every list of a session's events.
-use Rattle.std.specs.Prelude.{◌≡◌, ◌≢◌, ◌==◌, ◌⊎◌, ◌<◌, ◌≤◌, ◌^◌, ℕ, ◌+◌, Bool, true, false, if◌then◌else◌, List, [], ◌∷◌, ◌++◌, Some, None, Ok, ⊤}
+use Rattle.std.specs.Prelude.{◌≡◌, ◌≢◌, ◌==◌, ◌⊎◌, ◌<◌, ◌≤◌, ◌^◌, ℕ, ◌+◌, Bool, true, false, is_none, if◌then◌else◌, List, [], ◌∷◌, ◌++◌, Some, None, Ok, ⊤}
 use Rattle.std.specs.List.{AllByRecursion}
 use Rattle.octets.specs.Lists.{IsBeginning}
 use Rattle.pdi_session.specs.packing.UnitText.{IsMessage}
@@ -8,7 +8,7 @@ use Rattle.pdi_session.specs.telegram.Tele.{Tele}
 use Rattle.pdi_session.specs.telegram.TeleText.{tele_text}
 use Rattle.pdi_session.specs.declared.TheConstants.{INITIALISATION_COMPLETED}
 use Rattle.pdi_session.specs.declared.Phase.{Phase}
-use Rattle.pdi_session.specs.declared.Phase.TheVariants.{Idle, Established}
+use Rattle.pdi_session.specs.declared.Phase.TheVariants.{Idle, Requesting, AwaitRequest, Initialising, Established}
 use Rattle.pdi_session.specs.declared.Notice.TheVariants as notice
 use Rattle.pdi_session.specs.Settings.{Addressing, AreSettings, Role, Interlocking, Field}
 use Rattle.pdi_session.specs.Telegrams.{is_reserved, telegram}
@@ -158,3 +158,17 @@ OverLaw = (e : Event) (s : SessionState) → is_ended s.phase ≡ false → ends
 abbrev pub BegunLaw : Type 0
 BegunLaw = ((s : SessionState) → phase_after Up s ≢ Idle)
     × ((e : Event) (s : SessionState) → s.phase ≢ Idle → phase_after e s ≢ Idle)
+
+-- the phases in which version and checksum are agreed; in Ended they may be or not
+abbrev pub is_agreed_in : Phase → Bool
+is_agreed_in Requesting = true
+is_agreed_in AwaitRequest = true
+is_agreed_in Initialising = true
+is_agreed_in Established = true
+is_agreed_in phase = false
+
+-- every list of events that leads to such a phase has left an agreement
+abbrev pub AgreedLaw : Type 0
+AgreedLaw = (addressing : Addressing) (role : Role) (es : List Event) → let h =
+    add_events es (new_history addressing role) in
+    is_agreed_in h.state.phase ≡ true → is_none h.state.agreed ≡ false

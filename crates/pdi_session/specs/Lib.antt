@@ -5,6 +5,7 @@ pub mod Telegrams
 pub mod TelegramCounts
 pub mod Tables
 pub mod SessionStep
+pub mod Agreements
 pub mod Histories
 pub mod Laws
 pub mod JoinedSessions

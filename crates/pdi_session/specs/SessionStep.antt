@@ -1,9 +1,11 @@
 -- The rules of a session: what each event does to its state, and what it adds to its lists.
-use Rattle.std.specs.Prelude.{◌≡◌, ◌<◌, ◌≤◌, ℕ, true, is_none, not, nat_le, nat_lt, if◌then◌else◌, List, [], ◌∷◌, length, map, Option, Some, None}
+use Rattle.std.specs.Prelude.{◌≡◌, ◌<◌, ◌≤◌, ℕ, true, is_none, not, nat_le, nat_lt, if◌then◌else◌, List, [], ◌∷◌, drop, length, map, take, Option, Some, None}
 use Rattle.octets.specs.declared.limits.TheConstants.{PAYLOAD_MAX}
 use Rattle.octets.specs.declared.limits.TheConstants.{WAITING_MAX}
 use Rattle.pdi_session.specs.telegram.Tele.{Tele}
 use Rattle.pdi_session.specs.telegram.TeleText.{tele_text}
+use Rattle.pdi_session.specs.declared.TheConstants.{CHECKSUM_MAX}
+use Rattle.pdi_session.specs.declared.Agreed.{Agreed}
 use Rattle.pdi_session.specs.declared.Phase.{Phase}
 use Rattle.pdi_session.specs.declared.Phase.TheVariants.{Idle, Checking, Requesting, AwaitCheck, AwaitRequest, Refused, Established, Ended}
 use Rattle.pdi_session.specs.declared.SessionDetail.{SessionDetail}
@@ -16,11 +18,22 @@ use Rattle.pdi_session.specs.declared.PutFault.{PutFault}
 use Rattle.pdi_session.specs.declared.PutFault.TheVariants as put_fault
 use Rattle.pdi_session.specs.declared.InitFault.{InitFault}
 use Rattle.pdi_session.specs.declared.InitFault.TheVariants as init_fault
-use Rattle.pdi_session.specs.Settings.{Addressing, Role, checksum_of}
+use Rattle.pdi_session.specs.Settings.{Addressing, Role, Interlocking, Field, checksum_of}
 use Rattle.pdi_session.specs.Telegrams.{form_of, is_addressed, is_reserved, kind_of, payload_of, telegram}
 use Rattle.pdi_session.specs.Tables.{at_up, is_early, is_initialising, may_put, table}
 
--- a session: its settings and its phase
+-- what two ends agreed on: the PDI version, and the checksum of the field element's reply
+pub record Agreement : Type 0 where
+  -- the version
+  pub version : ℕ
+  -- the checksum
+  pub checksum : List ℕ
+
+-- an agreement that a session returns, as a value
+abbrev pub agreement_of : Agreed → Agreement
+agreement_of a = record { version = a.version; checksum = a.checksum.now }
+
+-- a session: its settings, its phase and what was agreed
 pub record SessionState : Type 0 where
   -- protocol type and names
   pub addressing : Addressing
@@ -28,10 +41,12 @@ pub record SessionState : Type 0 where
   pub role : Role
   -- the phase
   pub phase : Phase
+  -- what was agreed, if anything
+  pub agreed : Option Agreement
 
 -- a new session
 abbrev pub new_session : Addressing → Role → SessionState
-new_session addressing role = record { addressing = addressing; role = role; phase = Idle }
+new_session addressing role = record { addressing = addressing; role = role; phase = Idle; agreed = None }
 
 -- a command or status: message type and payload
 abbrev pub Item : Type 0
@@ -109,13 +124,32 @@ phase_after (Puts kind payload waits) s = s.phase
 phase_after (InitDone waits) s = if is_none (init_refusal s waits) then phase_by s.phase at_init_done else s.phase
 phase_after Closes s = Ended
 
+-- what is agreed after a verdict on a telegram with this payload. An interlocking requests the initialisation if the reply
+-- has its own version: the checksum is what follows result, version and length. A field element replies with the version
+-- that it was asked for, and with its own checksum.
+abbrev pub agreed_by : Role → (payload : List ℕ) → Verdict → Option Agreement → Option Agreement
+agreed_by (Interlocking own) payload (Answers next notice.InitialisationRequest) before =
+    Some (record { version = own; checksum = take CHECKSUM_MAX (drop 3 payload) })
+agreed_by (Field versions checksum) payload (Answers next (notice.VersionEqual version)) before =
+    Some (record { version = version; checksum = checksum })
+agreed_by role payload verdict before = before
+
+-- what is agreed after an event
+abbrev pub agreed_after : Event → SessionState → Option Agreement
+agreed_after (Arrives t) s = agreed_by s.role t.payload (judge_telegram s t) s.agreed
+agreed_after e s = s.agreed
+
+-- the session with another agreement
+abbrev pub with_agreed : Option Agreement → SessionState → SessionState
+with_agreed agreed s = record { addressing = s.addressing; role = s.role; phase = s.phase; agreed = agreed }
+
 -- the session with another phase and the same settings
 abbrev pub with_phase : Phase → SessionState → SessionState
-with_phase phase s = record { addressing = s.addressing; role = s.role; phase = phase }
+with_phase phase s = record { addressing = s.addressing; role = s.role; phase = phase; agreed = s.agreed }
 
 -- the state after an event
 abbrev pub after : Event → SessionState → SessionState
-after e s = with_phase (phase_after e s) s
+after e s = with_phase (phase_after e s) (with_agreed (agreed_after e s) s)
 
 -- the telegrams that an event adds to the waiting ones
 abbrev pub added_by : Event → SessionState → List Tele

@@ -2,7 +2,7 @@
 
 ghost use Rattle.pdi_session.specs.JoinedSessions.{InStepLaw, MatchingLaw, OneMoreLaw, PhaseLaw, TakesFrontLaw};
 ghost use Rattle.pdi_session.specs.Numbers.{KindsAre, SizesAre};
-ghost use Rattle.pdi_session.specs.Laws.{BegunLaw, FieldLaw, GoesLaw, InterlockingLaw, MessageLaw, OverLaw, OwnEarlyLaw, OwnLaw, PutLaw, QueueLaw, RoomLaw, StandsLaw, TakenLaw, TakesLaw};
+ghost use Rattle.pdi_session.specs.Laws.{AgreedLaw, BegunLaw, FieldLaw, GoesLaw, InterlockingLaw, MessageLaw, OverLaw, OwnEarlyLaw, OwnLaw, PutLaw, QueueLaw, RoomLaw, StandsLaw, TakenLaw, TakesLaw};
 
 /// Laws of the session. The function does nothing when it is called.
 ///
@@ -33,6 +33,9 @@ pub fn session_law()
 
     // After `Up` a session is not Idle, and no event leads back to Idle.
     ensures begun { BegunLaw }
+
+    // After any list of events, version and checksum are agreed in Requesting, AwaitRequest, Initialising and Established.
+    ensures agreed { AgreedLaw }
 
     // With settings in range, each message added has 43 to 400 bytes and decodes to its telegram.
     ensures messages { MessageLaw }

@@ -113,6 +113,24 @@ pub enum Phase {
     Ended,
 }
 
+/// What the two ends agreed on in the version check.
+#[derive(Clone, Copy, Debug, PartialEq, Eq)]
+pub struct Agreed<'a> {
+    /// The PDI version: the interlocking asked for it, and the field element accepted it.
+    pub version: u8,
+    /// The checksum in the field element's reply, 0 to 16 bytes. Nothing compares it: that is up to the interlocking.
+    pub checksum: &'a [u8],
+}
+
+/// An agreement with its own copy of the checksum.
+#[derive(Debug, Drop)]
+struct Agreement {
+    /// The PDI version.
+    version: u8,
+    /// The checksum.
+    checksum: ArrayVec<u8, CHECKSUM_MAX>,
+}
+
 /// Why a telegram ended a session.
 #[derive(Clone, Copy, Debug, PartialEq, Eq)]
 pub enum SessionDetail {

@@ -1,21 +1,22 @@
 //! The session of one end.
 
-ghost use Rattle.std.specs.Prelude.{◌≡◌, ◌≢◌, ◌<◌, ℕ, List, [], ◌∷◌, ◌++◌, length, None, Some, Ok, IfSome, MatchResult, OnErr};
+ghost use Rattle.std.specs.Prelude.{◌≡◌, ◌≢◌, ◌<◌, ◌≤◌, ℕ, List, [], ◌∷◌, ◌++◌, drop, length, option_map, take, None, Some, Ok, IfSome, MatchResult, OnErr};
 ghost use Rattle.std.specs.List.{FoldsTo};
 ghost use Rattle.pdi_session.specs.telegram.Pairs.{HasNames};
 ghost use Rattle.pdi_session.specs.telegram.Places.{tele_seen};
 ghost use Rattle.pdi_session.specs.telegram.Tele.{owned_characters, tele_of};
 ghost use Rattle.pdi_session.specs.telegram.TeleText.{tele_text};
 ghost use Rattle.octets.specs.declared.limits.TheConstants.{WAITING_MAX};
+ghost use Rattle.pdi_session.specs.declared.TheConstants.{CHECKSUM_MAX};
 ghost use Rattle.pdi_session.specs.Settings.{AreSettings, AreVersions, Interlocking, Field, addressing_of, are_different, are_versions};
 ghost use Rattle.pdi_session.specs.Tables.{may_put, is_initialising, table};
 ghost use Rattle.pdi_session.specs.Telegrams.{form_of, is_addressed, IsNamed};
 ghost use Rattle.pdi_session.specs.Histories.{History, StandsFor, add_event};
-ghost use Rattle.pdi_session.specs.SessionStep.{Event, FewWait, HasRoom, added_by, after, end_of, init_refusal, judge_telegram, notice_tele, new_session, phase_by, put_refusal, sent_by, taken_by, texts, with_phase};
+ghost use Rattle.pdi_session.specs.SessionStep.{Event, FewWait, HasRoom, added_by, after, agreed_by, agreement_of, end_of, init_refusal, judge_telegram, notice_tele, new_session, phase_by, put_refusal, sent_by, taken_by, texts, with_agreed, with_phase};
 
 use super::{
-    FieldConfig, InitFault, InterlockingConfig, Notice, OwnSide, Parties, Phase, PutFault,
-    SessionDetail, SessionEnd, Taker, VERSIONS_MAX, Verdict,
+    Agreed, Agreement, CHECKSUM_MAX, FieldConfig, InitFault, InterlockingConfig, Notice, OwnSide,
+    Parties, Phase, PutFault, SessionDetail, SessionEnd, Taker, VERSIONS_MAX, Verdict,
 };
 use crate::MessageType;
 use crate::forms::{form_of, is_reserved};
@@ -23,8 +24,10 @@ use crate::messages::{add_notice, add_telegram};
 use crate::packing::Waiting;
 use crate::tables::{field_up, field_verdict, interlocking_up, interlocking_verdict};
 use crate::telegram::{KnownPair, Telegram};
+use arrayvec::ArrayVec;
 use octets::limits::{PAYLOAD_MAX, WAITING_MAX};
 use std::alloc::Allocator;
+use std::cmp::min;
 use std::marker::Model;
 
 /// The session of one end: its settings and its phase. No call allocates.
@@ -46,11 +49,14 @@ pub struct Session {
     side: OwnSide,
     /// The phase.
     phase: Phase,
+    /// What was agreed, if anything.
+    agreed: Option<Agreement>,
 }
 
 impl Model for Session {
-    ghost use Rattle.std.specs.Prelude.{◌<◌};
+    ghost use Rattle.std.specs.Prelude.{◌<◌, option_map};
     ghost use Rattle.pdi_session.specs.Settings.{addressing_of, role_of, IsSide};
+    ghost use Rattle.pdi_session.specs.Agreements.{kept_agreement};
     ghost use Rattle.pdi_session.specs.SessionStep.{SessionState};
     ghost use Rattle.pdi_session.specs.telegram.Pairs.{HasNames};
     ghost use Rattle.pdi_session.specs.telegram.Tele.{owned_characters};
@@ -61,6 +67,7 @@ impl Model for Session {
       addressing = addressing_of a.parties;
       role = role_of a.side;
       phase = a.phase;
+      agreed = option_map kept_agreement a.agreed;
     } };
 
     ghost invariant = { λ a. (a.parties.protocol < 256) × IsSide a.side
@@ -81,6 +88,7 @@ impl Session {
             names: names_of(&config.parties),
             side: OwnSide::Interlocking(config.version),
             phase: Phase::Idle,
+            agreed: None,
         }
     }
 
@@ -101,6 +109,7 @@ impl Session {
             names: names_of(&config.parties),
             side: OwnSide::Field(config.versions, config.checksum),
             phase: Phase::Idle,
+            agreed: None,
         }
     }
 
@@ -110,6 +119,7 @@ impl Session {
         ensures { self.new ≡ new_session self.old.addressing self.old.role }
     {
         self.phase = Phase::Idle;
+        self.agreed = None;
     }
 
     /// Returns the phase.
@@ -119,6 +129,23 @@ impl Session {
     {
         let Session { phase, .. } = self;
         *phase
+    }
+
+    /// Returns what the two ends agreed on in the version check, or `None` before that. It is known from Requesting
+    /// (interlocking) or AwaitRequest (field element) on, and stays until the session is reopened.
+    pub fn agreed(&self) -> Option<Agreed<'_>>
+        // `agreed` returns the version and checksum that the arrivals have recorded (`agreed_by`).
+        ensures agreed { option_map agreement_of result ≡ self.now.agreed }
+        // The checksum has at most 16 bytes.
+        ensures short { IfSome result (λ a. length a.checksum.now ≤ CHECKSUM_MAX) }
+    {
+        match &self.agreed {
+            Some(kept) => Some(Agreed {
+                version: kept.version,
+                checksum: kept.checksum.as_slice(),
+            }),
+            None => None,
+        }
     }
 
     /// States the bounds that hold of a session at any time. It does nothing.
@@ -196,6 +223,7 @@ impl Session {
         ensures few { FewWait self.old waiting.old → FewWait self.new waiting.new }
     {
         let verdict = self.judge(telegram);
+        self.agree(telegram.payload, verdict);
         self.carry_out(verdict, waiting);
         match verdict {
             Verdict::Takes => {
@@ -260,6 +288,7 @@ impl Session {
                 Ok(())
             }
             Verdict::Goes(_) | Verdict::Answers(_, _) => {
+                self.agree(telegram.payload, verdict);
                 self.carry_out(verdict, waiting);
                 Ok(())
             }
@@ -412,6 +441,29 @@ impl Session {
         }
     }
 
+    /// Records what a verdict agrees on, if it agrees on anything.
+    fn agree(&mut self, payload: &[u8], verdict: Verdict)
+        // Only what is agreed changes, to what the verdict on a telegram with this payload gives (`agreed_by`).
+        ensures { self.new ≡ with_agreed (agreed_by self.old.role payload.now verdict self.old.agreed) self.old }
+    {
+        match (&self.side, verdict) {
+            (OwnSide::Interlocking(version), Verdict::Answers(_, Notice::InitialisationRequest)) =>
+                {
+                    self.agreed = Some(Agreement {
+                        version: *version,
+                        checksum: checksum_in(payload),
+                    });
+                }
+            (OwnSide::Field(_, checksum), Verdict::Answers(_, Notice::VersionEqual(version))) => {
+                self.agreed = Some(Agreement {
+                    version,
+                    checksum: copy_of(checksum.as_slice()),
+                });
+            }
+            _ => {}
+        }
+    }
+
     /// Applies a verdict, except that it does not call the taker.
     fn carry_out<A: Allocator>(&mut self, verdict: Verdict, waiting: &mut Waiting<A>)
         requires room { sent_by self.old verdict ≢ [] → length waiting.old < WAITING_MAX }
@@ -464,6 +516,28 @@ impl Session {
             (OwnSide::Field(_, _), Phase::Initialising) => true,
             _ => false,
         }
+    }
+}
+
+/// Returns a copy of a checksum.
+fn copy_of(checksum: &[u8]) -> ArrayVec<u8, CHECKSUM_MAX>
+    requires { length checksum.now ≤ CHECKSUM_MAX }
+    // The copy has the bytes of the checksum.
+    ensures { result.items ≡ checksum.now }
+{
+    let mut copy = ArrayVec::new();
+    copy.try_extend_from_slice(checksum).unwrap();
+    copy
+}
+
+/// Returns the checksum in the payload of a reply: what follows result, version and length.
+fn checksum_in(payload: &[u8]) -> ArrayVec<u8, CHECKSUM_MAX>
+    // The checksum is the bytes from the fourth on, at most 16.
+    ensures { result.items ≡ take CHECKSUM_MAX (drop 3 payload.now) }
+{
+    match payload {
+        [_, _, _, checksum @ ..] => copy_of(&checksum[..min(checksum.len(), CHECKSUM_MAX)]),
+        _ => ArrayVec::new(),
     }
 }
 

@@ -22,6 +22,8 @@ ghost use Rattle.stack_end.specs.Timely.{margin_of};
 ghost use Rattle.stack_end.specs.Reopening.{reopening_turn};
 ghost use Rattle.stack_end.specs.Statistics.{no_datagram_counts, count_datagram, count_expired};
 ghost use Rattle.octets.specs.declared.limits.TheConstants.{CHANNELS_MAX, TIME_MAX};
+ghost use Rattle.pdi_session.specs.SessionStep.{agreement_of};
+ghost use Rattle.pdi_session.specs.declared.TheConstants.{CHECKSUM_MAX};
 ghost use Rattle.safe_machine.specs.Deadlines.{IsBefore, IsReachedAt};
 ghost use Rattle.stack_end.specs.Deadlines.{HasFallen, IsQuiet, earliest};
 ghost use Rattle.stack_end.specs.Poll.{RequestsDatagram, RequestsOnce, ProcessesAll, ProcessesNext, ProcessesUntilFault, IsPoll, buffer_size, most_datagrams};
@@ -34,7 +36,7 @@ use crate::{OpenFault, POLL_BUFFER, POLL_DATAGRAMS, PollFault, opening};
 use channels::{ChannelFault, Channels};
 use end_settings::{EndConfig, Side};
 use octets::Milliseconds;
-use pdi_session::{InitFault, MessageType, Phase, PutFault, Taker};
+use pdi_session::{Agreed, InitFault, MessageType, Phase, PutFault, Taker};
 use safe_machine::ConnectionState;
 use std::alloc::{Allocator, Global};
 use std::cmp::min;
@@ -527,6 +529,18 @@ impl<C: Channels, A: Allocator> End<C, A> {
         ensures { result ≡ (inside self.now).upper.departed }
     {
         self.layers.upper.departed
+    }
+
+    /// Returns what the two ends agreed on in the version check: the PDI version, and the checksum that the field element
+    /// replied with. It is `None` before that, is known from Requesting (interlocking) or AwaitRequest (field element) on,
+    /// and stays until the end is opened again.
+    pub fn agreed(&self) -> Option<Agreed<'_>>
+        // The result is the agreement that the session keeps.
+        ensures agreed { option_map agreement_of result ≡ (inside self.now).upper.session.agreed }
+        // The checksum has at most 16 bytes.
+        ensures short { IfSome result (λ a. length a.checksum.now ≤ CHECKSUM_MAX) }
+    {
+        self.layers.upper.session.agreed()
     }
 
     /// Returns what the end has counted of its own work since its opening.

@@ -1,5 +1,5 @@
 -- The form of a session's queue and of its judged telegrams in each phase.
-use Rattle.std.proofs.Common.{◌≡◌, ◌≢◌, ◌⊎◌, ℕ, ◌+◌, ◌≤◌, ◌==◌, true, cond, List, [], ◌∷◌, ◌++◌, length, arith, inl, inr}
+use Rattle.std.proofs.Common.{◌≡◌, ◌≢◌, ◌⊎◌, ℕ, ◌+◌, ◌≤◌, ◌==◌, true, cond, None, List, [], ◌∷◌, ◌++◌, length, arith, inl, inr}
 use Rattle.std.specs.List.{AllByRecursion}
 use Rattle.pdi_session.specs.telegram.Tele.{Tele}
 use Rattle.pdi_session.specs.declared.TheConstants.{INITIALISATION_COMPLETED}
@@ -8,13 +8,13 @@ use Rattle.pdi_session.specs.declared.Phase.TheVariants.{Idle, Checking, Request
 use Rattle.pdi_session.specs.declared.Notice.TheVariants as notice
 use Rattle.pdi_session.specs.declared.Form.TheVariants.{Notifies}
 use Rattle.pdi_session.specs.Telegrams.{form_of, is_addressed}
-use Rattle.pdi_session.specs.SessionStep.{SessionState, notice_tele, with_phase}
+use Rattle.pdi_session.specs.SessionStep.{SessionState, notice_tele, with_agreed, with_phase}
 use Rattle.pdi_session.specs.Laws.{IsItem, IsStatus, completions}
 use Rattle.pdi_session.proofs.one.TableLemmas.{by_cond}
 
--- a session without its phase
+-- a session without its phase and its agreement
 abbrev pub base : SessionState → SessionState
-base s = with_phase Idle s
+base s = with_phase Idle (with_agreed None s)
 
 -- the telegrams of an interlocking of this version
 abbrev pub check_from : ℕ → SessionState → Tele

@@ -8,6 +8,7 @@ use Rattle.pdi_session.proofs.one.OwnEarly.{own_early_law}
 use Rattle.pdi_session.proofs.two.MatchingSessions.{matching_law}
 use Rattle.pdi_session.proofs.two.InStep.{in_step_law}
 use Rattle.pdi_session.proofs.one.Over.{over_law, begun_law}
+use Rattle.pdi_session.proofs.one.Agreements.{agreed_law}
 use Rattle.pdi_session.proofs.law.session_law.Goals as goal
 
 pub returns-clause-stands : goal.returns-clause-stands
@@ -66,3 +67,6 @@ returns-clause-over c = over_law
 
 pub returns-clause-begun : goal.returns-clause-begun
 returns-clause-begun c = begun_law
+
+pub returns-clause-agreed : goal.returns-clause-agreed
+returns-clause-agreed c = agreed_law

@@ -4,5 +4,5 @@ use Rattle.pdi_session.proofs.session.Session.arrive.Goals as goal
 
 pub returns-in-Goes-clause-few : goal.returns-in-Goes-clause-few
 returns-in-Goes-clause-few g c =
-    rw (c.carry_out.ensures.left, c.carry_out.ensures.added, c.judge-verdict.ensures)
+    rw (c.carry_out.ensures.left, c.carry_out.ensures.added, c.agree.ensures, c.judge-verdict.ensures)
     (few_judged c.args.self.now (tele_of c.args.telegram.now) c.args.waiting.now)
