@@ -3,7 +3,7 @@ use Rattle.std.specs.Prelude.{◌≡◌, ◌==◌, ◌⊎◌, not, ℤ, ℕ, pos
 use Rattle.stack_end.specs.Ends.{Call, Close, Deliver, InitDone, Put, time_of}
 use Rattle.stack_end.specs.EndValue.{inside}
 use Rattle.stack_end.specs.Turns.{is_settled}
-use Rattle.end_for_callers.specs.Calls.{Does, IsDeadline, Reopens, StationValue, outbox_of, outcome_of, refusal, refusal_to_close, refusal_to_init, refusal_to_put, refusal_to_reopen, LosesNone, SameButNotes}
+use Rattle.end_for_callers.specs.Calls.{Does, IsNextTick, Reopens, StationValue, outbox_of, outcome_of, refusal, refusal_to_close, refusal_to_init, refusal_to_put, refusal_to_reopen, LosesNone, SameButNotes}
 use Rattle.end_for_callers.specs.Notes.{heard_anew, next_of, rest_of}
 use Rattle.end_for_callers.specs.declared.notes.StationNote.{StationNote}
 use Rattle.pdi_session.specs.SessionStep.{Agreement}
@@ -87,8 +87,8 @@ AnswersNextDatagram channel channel_after length length_after buffer after code 
 -- OK if the deadline is written, NOTHING if the station has no deadline; the station does not change
 abbrev pub AnswersNextDeadline : (deadline after : ℕ) → ℤ → StationValue → StationValue → Type 0
 AnswersNextDeadline deadline after code s t =
-    (t ≡ s) × (((code ≡ OK) × IsDeadline (Some after) (inside s.end))
-    ⊎ ((code ≡ NOTHING) × IsDeadline None (inside s.end) × (after ≡ deadline)))
+    (t ≡ s) × (((code ≡ OK) × IsNextTick (Some after) s)
+    ⊎ ((code ≡ NOTHING) × IsNextTick None s × (after ≡ deadline)))
 
 -- the number of the connection state; the station does not change
 abbrev pub AnswersState : ℤ → StationValue → StationValue → Type 0

@@ -325,7 +325,7 @@ pub extern "C" fn bekr_next_datagram(
 #[unsafe(no_mangle)]
 pub extern "C" fn bekr_next_deadline(alloc: Global, slot: &mut Slot, deadline: &mut u64) -> i32
     // A slot that holds an end keeps it. OK writes its deadline, and `NOTHING` means that it has none
-    // (`IsDeadline`). The end does not change.
+    // (`IsNextTick`). The end does not change.
     ensures open { slot.old.is_open ≡ 1 → StaysOpen (AnswersNextDeadline deadline.old deadline.new result) slot.old slot.new }
     // If the slot holds no end, `bekr_next_deadline` returns `NOT_OPEN` and writes nothing, and the slot still
     // holds none.

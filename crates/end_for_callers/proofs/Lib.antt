@@ -6,3 +6,4 @@ pub mod Effects
 pub mod StationBounds
 pub mod Loads
 pub mod Sizes
+pub mod Watch

@@ -1,10 +1,12 @@
 -- Why a call of a station is refused, and what it does to the end and to the queues.
-use Rattle.std.specs.Prelude.{◌≡◌, ◌==◌, ℕ, ◌+◌, ◌*◌, ◌≤◌, Bool, true, false, not, ◌&&◌, nat_le, Option, Some, None}
+use Rattle.std.specs.Prelude.{◌≡◌, ◌==◌, ℕ, ◌+◌, ◌-◌, ◌*◌, ◌^◌, ◌≤◌, Bool, true, false, min, not, ◌&&◌, ◌||◌, nat_le, Option, Some, None}
 use Rattle.std.specs.Prelude.{option_map, List, length, if◌then◌else◌}
+use Rattle.std.specs.Option.{option_map_or}
 use Rattle.octets.specs.declared.limits.TheConstants.{PAYLOAD_MAX, Q_MAX, RED_PDU_MAX, WINDOW_MAX, TIME_MAX}
 use Rattle.stack_end.specs.Ends.{Call, time_of}
 use Rattle.stack_end.specs.EndValue.{EndValue, channels_of, inside}
-use Rattle.stack_end.specs.Turns.{Inside, init_answer, is_over, put_answer, turn}
+use Rattle.stack_end.specs.Turns.{Fields, Inside, init_answer, is_over, put_answer, turn}
+use Rattle.stack_end.specs.Timely.{margin_of}
 use Rattle.stack_end.specs.Deadlines.{HasFallen, IsQuiet}
 use Rattle.safe_machine.specs.Deadlines.{IsBefore, IsReachedAt}
 use Rattle.std.specs.Global.{Global}
@@ -108,11 +110,27 @@ refusal_to_send now s =
     else if not (has_room s.reserve RED_PDU_MAX (outbox_of s).queue) then Some fault.SendFirst
     else None
 
--- the first reason to refuse a call that may deliver telegrams, too
+-- T_max has passed: there is a connection, and the margin to T_max is 0. Then a tick or a datagram ends the connection;
+-- nothing is taken, and all that is sent is the DiscReq
+abbrev pub is_expired : (now : ℕ) → Fields → Bool
+is_expired now v = option_map_or (λ margin. margin == 0) (margin_of now v) false
+
+-- the time at which T_max ends the connection if nothing more is confirmed, in 64 bits, or None without one
+abbrev pub timeout_of : Fields → Option ℕ
+timeout_of v =
+    option_map (λ margin. min (v.machine.confirmed_at + margin) (2 ^ 64 - 1)) (margin_of v.machine.confirmed_at v)
+
+-- there is too little room for a call that may deliver telegrams
+abbrev pub is_blocked : StationValue → Bool
+is_blocked s =
+    not (has_room CALL_TELEGRAMS PAYLOAD_MAX s.inbox.queue) || not (has_room s.reserve RED_PDU_MAX (outbox_of s).queue)
+
+-- the first reason to refuse a call that may deliver telegrams, too. T_max is watched even without room
 abbrev pub refusal : ℕ → StationValue → Option CallFault
 refusal now s =
     if not (is_time now s) then Some fault.Time
     else if s.inbox.lost then Some fault.Lost
+    else if is_expired now (inside s.end).upper then None
     else if not (has_room CALL_TELEGRAMS PAYLOAD_MAX s.inbox.queue) then Some fault.TakeFirst
     else if not (has_room s.reserve RED_PDU_MAX (outbox_of s).queue) then Some fault.SendFirst
     else None
@@ -230,3 +248,15 @@ pub record IsDeadline (next : Option ℕ) (v : Inside) : Type 0 where
   pub after : (now : ℕ) → now ≤ TIME_MAX → IsReachedAt now next → HasFallen now v
   -- a closed end has no deadline
   pub closed : is_over v ≡ true → next ≡ None
+
+-- the next time at which a tick does something, by whether a telegram was lost, and whether there is too little room for a
+-- tick. After a loss: none. Without room: when T_max ends the connection, and until then each tick is refused. Otherwise it
+-- is the deadline of the end
+abbrev pub IsNextTickBy : (lost blocked : Bool) → Option ℕ → StationValue → Type 0
+IsNextTickBy true blocked next s = next ≡ None
+IsNextTickBy false true next s = next ≡ timeout_of (inside s.end).upper
+IsNextTickBy false false next s = IsDeadline next (inside s.end)
+
+-- the same of a station
+abbrev pub IsNextTick : Option ℕ → StationValue → Type 0
+IsNextTick next s = IsNextTickBy s.inbox.lost (is_blocked s) next s

@@ -7,3 +7,4 @@ pub mod CallResults
 pub mod Plain
 pub mod Numbers
 pub mod Loads
+pub mod Watch

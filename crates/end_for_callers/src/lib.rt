@@ -17,7 +17,7 @@ mod plain_text;
 mod queue;
 mod station;
 
-pub use law::load_law;
+pub use law::{load_law, watch_law};
 pub use notes::{NOTES_MAX, Notes, StationNote};
 use octets::limits::{Q_MAX, WINDOW_MAX};
 use pdi_session::{InitFault, PutFault};

@@ -13,7 +13,7 @@ ghost use Rattle.end_for_callers.specs.Notes.{heard_anew, next_of, rest_of};
 ghost use Rattle.end_for_callers.specs.Loads.{each_aside};
 ghost use Rattle.octets.specs.declared.limits.TheConstants.{CHANNELS_MAX, PAYLOAD_MAX, RED_PDU_MAX, WINDOW_MAX, TIME_MAX};
 ghost use Rattle.end_for_callers.specs.declared.Outcome.TheVariants as ended;
-ghost use Rattle.end_for_callers.specs.Calls.{Does, LosesNone, Reopens, SameButDatagrams, SameButNotes, SameButTelegrams, is_time, outbox_of, outcome_of, refusal, refusal_to_init, refusal_to_open, refusal_to_reopen, refusal_to_put, refusal_to_send, has_room, reserve_of, seen_end};
+ghost use Rattle.end_for_callers.specs.Calls.{Does, LosesNone, Reopens, SameButDatagrams, SameButNotes, SameButTelegrams, is_blocked, is_expired, is_time, outbox_of, outcome_of, refusal, refusal_to_init, refusal_to_open, refusal_to_reopen, refusal_to_put, refusal_to_send, has_room, reserve_of, seen_end, timeout_of};
 ghost use Rattle.end_for_callers.specs.Queues.{PopsInto, new_queue};
 ghost use Rattle.end_for_callers.specs.declared.StationFault.TheVariants as fault;
 ghost use Rattle.end_for_callers.specs.declared.CallFault.TheVariants as refused;
@@ -181,7 +181,8 @@ impl Station {
     ///
     /// # Errors
     ///
-    /// Returns the first that applies, and changes nothing:
+    /// Returns the first that applies, and changes nothing. The last two apply only before T_max has passed: after it, a
+    /// tick closes the connection and needs no room.
     ///
     /// - `Time` if the time is before that of the last accepted call, or above 2^62;
     /// - `Lost` if a telegram was lost before;
@@ -425,19 +426,27 @@ impl Station {
     ghost use Rattle.pdi_session.specs.SessionStep.{agreement_of};
     ghost use Rattle.pdi_session.specs.declared.TheConstants.{CHECKSUM_MAX};
     ghost use Rattle.pdi_session.specs.declared.Phase.{Phase};
-    ghost use Rattle.end_for_callers.specs.Calls.{IsDeadline};
+    ghost use Rattle.end_for_callers.specs.Calls.{IsNextTick};
     ghost use Rattle.stack_end.specs.EndValue.{inside, statistics_of};
     ghost use Rattle.stack_end.specs.Certain.{confirmed_in};
     ghost use Rattle.stack_end.specs.Stale.{is_stale};
     ghost use Rattle.stack_end.specs.Turns.{is_settled};
 
-    /// Returns the earliest time at which `tick` has something to do if nothing arrives and nothing is put. A
-    /// closed end has none.
+    /// Returns the earliest time at which `tick` has something to do if nothing arrives, nothing is put, and nothing that
+    /// waits is fetched. With too little room for a tick this is the time at which T_max ends the connection. A closed end
+    /// has none.
     pub fn next_deadline(&self) -> Option<Milliseconds>
-        // If the end is open, a tick before the deadline does nothing, and one from it on, up to 2^62 ms, does
-        // something. If it is closed, the result is `None`.
-        ensures { IsDeadline result (inside self.now.end) }
+        // With room for a tick: a tick of an open end before the deadline does nothing, and one from it on, up to 2^62 ms,
+        // does something; a closed end has none. Without: the deadline is T_max after the time last confirmed. After a
+        // lost telegram there is none.
+        ensures { IsNextTick result self.now }
     {
+        if self.lost() {
+            return None;
+        }
+        if self.is_blocked() {
+            return self.timeout();
+        }
         self.end.next_deadline()
     }
 
@@ -558,6 +567,39 @@ impl Station {
         self.reserve / (WINDOW_MAX + PART_PDUS)
     }
 
+    /// Returns true if there is too little room for a call that may deliver telegrams.
+    fn is_blocked(&self) -> bool
+        // The result is true if and only if there is room for fewer than 27 telegrams, or for fewer datagrams than the
+        // reserve.
+        ensures { result ≡ is_blocked self.now }
+    {
+        !has_room(self.inbox.queue(), CALL_TELEGRAMS, PAYLOAD_MAX)
+            || !has_room(self.end.channels_seen().queue(), self.reserve, RED_PDU_MAX)
+    }
+
+    /// Returns true if T_max has passed since the peer last confirmed anything.
+    fn is_expired(&self, now: Milliseconds) -> bool
+        // The result is true if and only if the end has a connection, and its margin to T_max is 0.
+        ensures { result ≡ is_expired now (inside self.now.end).upper }
+    {
+        match self.end.margin(now) {
+            Some(margin) => margin == 0,
+            None => false,
+        }
+    }
+
+    /// Returns the time at which T_max ends the connection if the peer confirms nothing more.
+    fn timeout(&self) -> Option<Milliseconds>
+        // Without a connection the result is `None`; with one it is T_max after the time last confirmed.
+        ensures { result ≡ timeout_of (inside self.now.end).upper }
+    {
+        let confirmed = self.end.confirmed_time();
+        match self.end.margin(confirmed) {
+            Some(margin) => Some(confirmed.saturating_add(margin)),
+            None => None,
+        }
+    }
+
     /// Returns true if a call may have this time.
     fn is_time(&self, now: Milliseconds) -> bool
         // The result is true if and only if `now` is not before the last accepted call and at most 2^62.
@@ -597,6 +639,9 @@ impl Station {
         }
         if self.lost() {
             return Err(CallFault::Lost);
+        }
+        if self.is_expired(now) {
+            return Ok(());
         }
         if !has_room(self.inbox.queue(), CALL_TELEGRAMS, PAYLOAD_MAX) {
             return Err(CallFault::TakeFirst);
