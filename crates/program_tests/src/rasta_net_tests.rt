@@ -65,6 +65,7 @@ fn run_of(turns: u32) -> RunRequest<'static> {
         word: Subcommand::Pair,
         file: "pair.toml",
         length: RunLength::Turns(turns),
+        end_on_3: false,
         time: LogTime::Run,
         stamp: false,
         log: LogLevel::Off,

@@ -207,6 +207,7 @@ fn until_end(word: Ends) -> RunRequest<'static> {
         word,
         file: "ends.toml",
         length: RunLength::UntilEnd,
+        end_on_3: false,
         log: LogLevel::Off,
         time: LogTime::Utc,
         stamp: false,

@@ -5,14 +5,14 @@ use Rattle.channels.specs.ChannelHistory.{ChannelHistory}
 use Rattle.octets.proofs.Steps.{FoldsTo-append}
 use Rattle.pdi_session.specs.declared.PutFault.TheVariants.{Full}
 use Rattle.settings_file.specs.declared.values.PutEntry.{PutEntry as Telegram}
-use Rattle.stack_end.specs.EndValue.{EndValue}
+use Rattle.stack_end.specs.EndValue.{EndTakesTurn, EndValue}
 use Rattle.end_settings.specs.declared.Side.{Side}
 use Rattle.stack_end.specs.EndValue.{inside}
 use Rattle.rasta_run.specs.TelegramPuts.{AnswersTelegram, EndsInitialisationIf, EndWithInput, IsFullFor, OfferState, OffersTelegram, PutsTelegram, PutState, PutsBeginning, TakesInput, TakesInputIf, TakesLine, TakesLines, is_full}
 use Rattle.rasta_run.specs.ExpectedStates.{ends_initialisation_in, puts_list_in}
-use Rattle.rasta_run.specs.Turns.{Course, PollsEnd, PutsListIf, PutsAllowed, TakesTurn, deaf_after}
+use Rattle.rasta_run.specs.Turns.{Course, Hears, PollsEnd, PutsListIf, PutsAllowed, TakesTurn, deaf_after}
 use Rattle.pdi_session.specs.SessionStep.{Item}
-use Rattle.stack_end.specs.Turns.{is_over}
+use Rattle.stack_end.specs.Turns.{is_over, time_turn}
 use Rattle.rasta_run.specs.declared.telegram_puts.PutOutcome.{PutOutcome}
 use Rattle.rasta_run.specs.declared.telegram_puts.PutOutcome.TheVariants as offered
 
@@ -158,3 +158,42 @@ takes-turn told takes lost refuses now side other s t works from end near app le
       closed = x;
     }) t) closes with_deaf in
     (works, end, app, subst (λ v. PollsEnd told takes works now (v, s.app) (end, app)) start heard, kept, with_closed)
+
+-- an end received: what was polled is what it is left as
+pub hears : {C A T : Type 0} (told : C → ChannelHistory) (takes : T → Item → T → Type 0) (lost : T
+    → Bool) (now : ℕ) (s t : Course C A T) (works : Bool) (from end : EndValue C A) (app : T)
+    → from ≡ s.end → PollsEnd told takes works now (from, s.app) (end, app) → lost app ≡ false
+    → t.end ≡ end → t.app ≡ app → t.left ≡ s.left → t.put ≡ s.put → t.refused ≡ s.refused
+    → t.deaf ≡ deaf_after works s.deaf → t.closed ≡ is_over (inside end) → Hears told takes lost now s t
+hears told takes lost now s t works from end app start heard kept ends apps left put refused deaf closed = (
+  works,
+  subst (λ v. PollsEnd told takes works now (s.end, s.app) (v, t.app)) (sym ends)
+      (subst (λ a. PollsEnd told takes works now (s.end, s.app) (end, a)) (sym apps)
+      (subst (λ v. PollsEnd told takes works now (v, s.app) (end, app)) start heard)),
+  subst (λ a. lost a ≡ false) (sym apps) kept,
+  left,
+  put,
+  refused,
+  deaf,
+  closed ∙ ap (λ v. is_over (inside v)) (sym ends),
+)
+
+-- an end received, and then put what it may
+pub hears-and-puts : {C A T : Type 0} (told : C → ChannelHistory) (takes : T → Item → T → Type 0) (lost : T
+    → Bool) (refuses : T → List ℕ → T → Type 0) (now : ℕ) (side other : Side)
+    (s mid t : Course C A T) → Hears told takes lost now s mid → other ≡ side
+    → PutsAllowed told refuses now other mid t → TakesTurn told takes lost refuses now side s t
+hears-and-puts told takes lost refuses now side other s mid t h sides puts =
+    takes-turn told takes lost refuses now side other s t h.0 s.end mid.end mid.end mid.app mid.left mid.put
+    mid.refused mid.deaf mid.closed refl h.1 h.2 sides refl h.3 h.4 h.5 h.6 h.7 puts
+
+-- time passed for an end: what ticked is what it is left as
+pub holds : {C A T : Type 0} (told : C → ChannelHistory) (takes : T → Item → T → Type 0) (lost : T → Bool) (now : ℕ)
+    (first from end last : EndValue C A) (before after : T) → from ≡ first
+    → EndTakesTurn told takes (time_turn now) from before end after → last ≡ end → lost after ≡ false
+    → EndTakesTurn told takes (time_turn now) first before last after × (lost after ≡ false)
+holds told takes lost now first from end last before after start ticks ends kept = (
+  subst (λ v. EndTakesTurn told takes (time_turn now) first before v after) (sym ends)
+      (subst (λ v. EndTakesTurn told takes (time_turn now) v before end after) start ticks),
+  kept,
+)

@@ -13,11 +13,12 @@ use Rattle.settings_file.specs.declared.values.Ends.TheVariants as ends
 use Rattle.rasta_words.specs.declared.status.Fault.{Fault}
 use Rattle.rasta_words.specs.declared.status.Fault.TheVariants as fault
 
--- the descriptor of a standard stream
+-- the descriptor of a standard stream, and that which ends a run
 abbrev pub descriptor_of : Stream → ℕ
 descriptor_of stream.Input = 0
 descriptor_of stream.Output = 1
 descriptor_of stream.Error = 2
+descriptor_of stream.End = 3
 
 -- the greatest number of bytes of one write
 abbrev pub write_most : ℕ
@@ -115,7 +116,7 @@ left_out_text count = join_pieces (codes "log: " ∷ decimal count ∷ codes " l
 -- the line of how many lines of standard output were not printed
 unfoldable pub unread_text : ℕ → List ℕ
 unread_text count =
-    join_pieces (codes "output: " ∷ decimal count ∷ codes " lines not printed, nobody reads them\n" ∷ [])
+    join_pieces (codes "output: " ∷ decimal count ∷ codes " lines not printed\n" ∷ [])
 
 -- turns that end because a line of standard output had no room are no fault
 abbrev pub unless_unread : Result (Unit {0}) Fault → Bool → Result (Unit {0}) Fault

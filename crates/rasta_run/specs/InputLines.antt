@@ -10,8 +10,10 @@ use Rattle.settings_file.specs.Readers.{put_of}
 use Rattle.rasta_run.specs.declared.input.Feed.{Feed}
 use Rattle.rasta_run.specs.declared.input.Line.{Line}
 use Rattle.rasta_run.specs.declared.input.Line.TheVariants as line
+use Rattle.rasta_run.specs.declared.input.LineFlaw.{LineFlaw}
+use Rattle.rasta_run.specs.declared.input.LineFlaw.TheVariants as flaw
 
--- the number of bytes that are read ahead, and the longest line
+-- the number of bytes up to which a line is read
 abbrev pub ahead_most : ℕ
 ahead_most = 65_536
 
@@ -19,9 +21,13 @@ ahead_most = 65_536
 abbrev pub feed_place : List ℕ → Option ℕ
 feed_place octets = position (λ octet. octet == 10) octets
 
--- the line without a line feed, and the bytes to remove: all of them, once no more come for it
+-- the number of bytes from which on a line is too long
+abbrev pub line_most : ℕ
+line_most = 65_535
+
+-- what stands without a line feed at the end of input, and the bytes to remove: all of them
 abbrev pub unfed_line : Bool → ℕ → Option (ℕ × ℕ)
-unfed_line ended size = if (ended && nat_lt 0 size) || nat_le ahead_most size then Some (size, size) else None
+unfed_line ended size = if ended && nat_lt 0 size then Some (size, size) else None
 
 -- the size of a line up to this place, and the bytes to remove
 abbrev pub line_at : Option ℕ → Bool → ℕ → Option (ℕ × ℕ)
@@ -32,19 +38,29 @@ line_at None ended size = unfed_line ended size
 abbrev pub next_line : Bool → List ℕ → Option (ℕ × ℕ)
 next_line ended octets = line_at (feed_place octets) ended (length octets)
 
--- the next line as it is read: missing, not a telegram, or the telegram that it spells as an entry of `puts` does
+-- what may be a telegram: a line of this size with its line feed, that is not too long
+abbrev pub is_whole : (size used : ℕ) → Bool
+is_whole size used = nat_lt size used && nat_lt size line_most
+
+-- the telegram that a line spells as an entry of `puts` does, if it is whole
+abbrev pub telegram_of : Bool → List ℕ → Option (ℕ × List ℕ)
+telegram_of true text = put_of text
+telegram_of false text = None
+
+-- the next line as it is read: missing, not a telegram, or the telegram that it spells
 abbrev pub line_read : Bool → List ℕ → Option (Option (ℕ × List ℕ))
-line_read ended octets = option_map (λ p. put_of (take p.0 octets)) (next_line ended octets)
+line_read ended octets = option_map (λ p. telegram_of (is_whole p.0 p.1) (take p.0 octets)) (next_line ended octets)
 
 -- a line as a plain value
 abbrev pub line_seen : Line → Option (Option (ℕ × List ℕ))
 line_seen line.Missing = None
 line_seen (line.Telegram p) = Some (Some (put_seen p))
-line_seen (line.Other number) = Some None
+line_seen (line.Other number flaw) = Some None
 
--- the bytes after the next line
+-- the bytes after the next line. Of a line that is not whole only the first bytes are kept, from which it is seen to be
+-- too long.
 abbrev pub rest_after_line : Bool → List ℕ → List ℕ
-rest_after_line ended octets = option_map_or (λ p. drop p.1 octets) (next_line ended octets) octets
+rest_after_line ended octets = option_map_or (λ p. drop p.1 octets) (next_line ended octets) (take line_most octets)
 
 -- the number of lines after the next one
 abbrev pub line_count_after : Bool → List ℕ → ℕ → ℕ
@@ -52,12 +68,31 @@ line_count_after ended octets cut = option_map_or (λ p. (cut + 1) % 2 ^ 64) (ne
 
 -- a line that is not a telegram has this number
 abbrev pub IsNumbered : Line → ℕ → Type 0
-IsNumbered (line.Other number) cut = number ≡ cut
+IsNumbered (line.Other number flaw) cut = number ≡ cut
 IsNumbered l cut = ⊤
 
 -- the message for a line that is not a telegram
 unfoldable pub none_text : ℕ → List ℕ
 none_text number = join_pieces (codes "line " ∷ decimal number ∷ codes ": not a telegram TYPE:HEX\n" ∷ [])
+
+-- the message for what stands without a line feed at the end of input
+unfoldable pub open_text : ℕ → List ℕ
+open_text number = join_pieces (codes "line " ∷ decimal number ∷ codes ": not put: the input ended within it\n" ∷ [])
+
+-- the message for a line that is too long
+unfoldable pub long_text : ℕ → List ℕ
+long_text number = join_pieces (codes "line " ∷ decimal number ∷ codes ": not put: longer than 65534 bytes\n" ∷ [])
+
+-- the message for a line of which no telegram is read
+abbrev pub flaw_text : LineFlaw → ℕ → List ℕ
+flaw_text flaw.NoTelegram number = none_text number
+flaw_text flaw.Open number = open_text number
+flaw_text flaw.Long number = long_text number
+
+-- why a line of this size is no telegram
+abbrev pub flaw_of : (size used : ℕ) → LineFlaw
+flaw_of size used =
+    if nat_le used size then flaw.Open else if nat_le line_most size then flaw.Long else flaw.NoTelegram
 
 -- there is a last byte, and it is not a line feed
 abbrev pub is_open : Option ℕ → Bool
@@ -101,7 +136,7 @@ cut_line_off ended next unread s =
 -- what is read of an input whose next line is this; `has`: a line was there. A telegram is then next, and a line that
 -- is not one is counted.
 abbrev pub ReadsLine : Option (Option (ℕ × List ℕ)) → (ended : Bool) → Input → (has : Bool) → Input → Type 0
-ReadsLine None ended s has t = (has ≡ false) × (t ≡ s)
+ReadsLine None ended s has t = (has ≡ false) × (t ≡ record s { octets = rest_after_line ended s.octets })
 ReadsLine (Some None) ended s has t = (has ≡ true) × (t ≡ cut_line_off ended s.next (one_more s.unread) s)
 ReadsLine (Some (Some seen)) ended s has t =
     (p : Telegram) × (has ≡ true) × (put_seen p ≡ seen) × (t ≡ cut_line_off ended (Some p) s.unread s)
@@ -128,6 +163,6 @@ unput_count s = min (min (s.unread + count_of s.next) (2 ^ 64 - 1) + lines_left 
 abbrev pub is_done : Option ℕ → Input → Bool
 is_done ended s = is_some ended && (is_none s.next && nat_eq (length s.octets) 0)
 
--- input is read: it is not at its end, and there is room
+-- input is read: it is not at its end, no whole line waits, and there is room
 abbrev pub is_wanted : Option ℕ → List ℕ → Bool
-is_wanted ended octets = is_none ended && nat_lt (length octets) ahead_most
+is_wanted ended octets = is_none ended && (is_none (feed_place octets) && nat_lt (length octets) ahead_most)

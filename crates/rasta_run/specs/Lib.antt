@@ -12,6 +12,7 @@ pub mod ExpectedStates
 pub mod InputLines
 pub mod Counts
 pub mod Keepers
+pub mod Lateness
 pub mod FirstNumber
 pub mod OpeningFaults
 pub mod TelegramPuts

@@ -8,7 +8,7 @@ use Rattle.pdu_text.specs.Pieces.{three_digits}
 use Rattle.rasta_run.specs.declared.channel_failures.Call.{Call}
 use Rattle.rasta_run.specs.declared.channel_failures.Call.TheVariants.{Send, Receive}
 use Rattle.rasta_run.specs.declared.notices.Notice.{Notice}
-use Rattle.rasta_run.specs.declared.notices.Notice.TheVariants.{CallsFail, CallsSucceed, Unanswered, Drops, WrongRequest, OtherVersion, InDoubt, NoTurn, Fruitless, Session, Unread}
+use Rattle.rasta_run.specs.declared.notices.Notice.TheVariants.{CallsFail, CallsSucceed, Unanswered, Drops, WrongRequest, OtherVersion, InDoubt, NoTurn, Fruitless, Session, Unread, Behind, OutputFails, Ending}
 
 -- the connection is lost, and this many telegrams were put and not confirmed
 unfoldable pub in_doubt_text : ℕ → List ℕ
@@ -88,6 +88,18 @@ version_back = codes ", not 0303"
 unfoldable pub other_version_text : ℕ → List ℕ
 other_version_text version = join_pieces (version_front ∷ version_bytes version ∷ version_back ∷ [])
 
+-- this many lines wait for the reader of standard output
+unfoldable pub behind_text : ℕ → List ℕ
+behind_text count = join_pieces (codes "output: nobody reads, " ∷ decimal count ∷ codes " lines wait" ∷ [])
+
+-- standard output cannot be written
+unfoldable pub output_front : List ℕ
+output_front = codes "leaves: standard output cannot be written"
+
+-- the same, for this reason
+unfoldable pub output_fails_text : Option ℤ → List ℕ
+output_fails_text error = join_pieces (output_front ∷ error_text error ∷ [])
+
 -- the text of a notice
 abbrev pub notice_text : Notice → List ℕ
 notice_text (CallsFail call channel error) = calls_fail_text call channel error
@@ -101,6 +113,9 @@ notice_text (NoTurn milliseconds) = no_turn_text milliseconds
 notice_text (Fruitless count) = fruitless_text count
 notice_text (Session count) = session_text count
 notice_text Unread = codes "leaves: nobody reads standard output"
+notice_text (Behind count) = behind_text count
+notice_text (OutputFails error) = output_fails_text error
+notice_text Ending = codes "is told to end: puts no more"
 
 -- TIME END, at the start of a line, as in the log of an end
 unfoldable pub notice_front : ℕ → Side → List ℕ

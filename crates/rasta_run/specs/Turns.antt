@@ -56,6 +56,14 @@ abbrev pub deaf_after : (works : Bool) → ℕ → ℕ
 deaf_after true count = 0
 deaf_after false count = min (count + 1) (2 ^ 64 - 1)
 
+-- the end receives, and the application loses nothing that it takes; nothing is put
+abbrev pub Hears : {C A T : Type 0} → (C → ChannelHistory) → (T → Item → T → Type 0) → (T → Bool) → ℕ → Course C A T
+    → Course C A T → Type 0
+Hears told takes lost now s t =
+    (works : Bool) × PollsEnd told takes works now (s.end, s.app) (t.end, t.app) × (lost t.app ≡ false)
+    × (t.left ≡ s.left) × (t.put ≡ s.put) × (t.refused ≡ s.refused) × (t.deaf ≡ deaf_after works s.deaf)
+    × (t.closed ≡ is_over (inside t.end))
+
 -- a turn: the end receives, and the application loses nothing that it takes; then the end puts
 abbrev pub TakesTurn : {C A T : Type 0} → (C → ChannelHistory) → (T → Item → T → Type 0) → (T → Bool)
     → (T → List ℕ → T → Type 0) → ℕ → Side → Course C A T → Course C A T → Type 0

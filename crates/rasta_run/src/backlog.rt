@@ -12,6 +12,7 @@ use arrayvec::ArrayVec;
 use std::alloc::{AllocError, Global};
 use std::io;
 use std::io::{ErrorKind, Write};
+use udp_channels::CallFault;
 
 /// The greatest number of bytes of one write. A pipe that can be written takes them without waiting (PIPE_BUF).
 const WRITE_MAX: usize = 4_096;
@@ -49,6 +50,10 @@ pub struct Backlog<W> {
     pub room: usize,
     /// The number of lines that were left out since that was last noted.
     pub left_out: u64,
+    /// Why the stream cannot be written, if a write has failed.
+    pub failure: Option<CallFault>,
+    /// The number of bytes that the stream took, modulo 2^64.
+    pub gone: u64,
 }
 
 impl<W: Write + Drop> Backlog<W> {
@@ -71,6 +76,8 @@ impl<W: Write + Drop> Backlog<W> {
             octets,
             room,
             left_out: 0,
+            failure: None,
+            gone: 0,
         })
     }
 }
@@ -140,6 +147,24 @@ impl<W: Write> Backlog<W> {
         count
     }
 
+    /// Writes nothing, which fails if the stream cannot be written. Returns whether it can.
+    pub fn try_once(&mut self) -> bool
+        // After `try_once` nothing else waits, and no line was left out.
+        ensures kept { (self.new.octets ≡ self.old.octets) × (self.new.left_out ≡ self.old.left_out)
+            × (self.new.stream ≡ self.old.stream) × (self.new.room ≡ self.old.room) }
+    {
+        match self.writer.write(&[]) {
+            Ok(_) => true,
+            Err(error) if is_passing(error.kind()) => true,
+            Err(error) => {
+                self.failure = Some(CallFault {
+                    error: error.raw_os_error(),
+                });
+                false
+            }
+        }
+    }
+
     /// Removes what waits.
     pub fn skip(&mut self)
         // After `skip` nothing waits.
@@ -164,8 +189,15 @@ impl<W: Write> Backlog<W> {
         // `pass_on` leaves no line out.
         ensures kept { (self.new.left_out ≡ self.old.left_out) × (self.new.stream ≡ self.old.stream) × (self.new.room ≡ self.old.room) }
     {
-        let (works, gone) = pass_all(self.octets.as_slice(), &mut self.writer, self.stream, gate);
+        let (works, gone) = pass_all(
+            self.octets.as_slice(),
+            &mut self.writer,
+            self.stream,
+            gate,
+            &mut self.failure,
+        );
         remove_front(&mut self.octets, gone);
+        self.gone = self.gone.wrapping_add(gone as u64);
         works
     }
 
@@ -213,6 +245,7 @@ fn pass_all<W: Write, G: Gate>(
     writer: &mut W,
     stream: Stream,
     gate: &mut G,
+    failure: &mut Option<CallFault>,
 ) -> (bool, usize)
     // `pass_all` makes one step after another until one is over or fails.
     ensures passed { PassesAll W.contents G.asks stream
@@ -225,7 +258,7 @@ fn pass_all<W: Write, G: Gate>(
 {
     let mut gone = 0;
     'writes: for _ in 0..WRITES_MAX {
-        let (step, size) = pass_once(&octets[gone..], writer, stream, gate);
+        let (step, size) = pass_once(&octets[gone..], writer, stream, gate, failure);
         gone += size;
         match step {
             WriteOutcome::On => {}
@@ -243,6 +276,7 @@ fn pass_once<W: Write, G: Gate>(
     writer: &mut W,
     stream: Stream,
     gate: &mut G,
+    failure: &mut Option<CallFault>,
 ) -> (WriteOutcome, usize)
     // `pass_once` asks the gate once, if there are bytes. If the stream is ready, it writes the front of them once.
     ensures passed { PassesOnce W.contents G.asks stream
@@ -259,11 +293,15 @@ fn pass_once<W: Write, G: Gate>(
     if !gate.is_ready(stream) {
         return (WriteOutcome::Over, 0);
     }
-    write_front(octets, writer)
+    write_front(octets, writer, failure)
 }
 
 /// Writes the front of bytes once. Returns what came of it, and how many bytes were taken.
-fn write_front<W: Write>(octets: &[u8], writer: &mut W) -> (WriteOutcome, usize)
+fn write_front<W: Write>(
+    octets: &[u8],
+    writer: &mut W,
+    failure: &mut Option<CallFault>,
+) -> (WriteOutcome, usize)
     // `write_front` writes at most the front.
     ensures bound { result.1 ≤ front_size octets.now }
     // After `write_front` the stream holds what it held, and then the bytes that it took.
@@ -278,7 +316,12 @@ fn write_front<W: Write>(octets: &[u8], writer: &mut W) -> (WriteOutcome, usize)
         Ok(taken) if taken > 0 => (WriteOutcome::On, taken),
         Ok(_) => (WriteOutcome::Over, 0),
         Err(error) if is_passing(error.kind()) => (WriteOutcome::Over, 0),
-        Err(_) => (WriteOutcome::Failed, 0),
+        Err(error) => {
+            *failure = Some(CallFault {
+                error: error.raw_os_error(),
+            });
+            (WriteOutcome::Failed, 0)
+        }
     }
 }
 

@@ -11,7 +11,6 @@ ghost use Rattle.rasta_run.specs.LineTimes.{LogsLine, LogsNotice};
 ghost use Rattle.rasta_run.specs.ExpectedStates.{is_expected};
 ghost use Rattle.rasta_run.specs.Leftovers as undone;
 ghost use Rattle.rasta_run.specs.Waits.{IsDeadlineOf, again_at};
-ghost use Rattle.rasta_run.specs.declared.notices.Notice.TheVariants as notice;
 ghost use Rattle.stack_end.specs.Certain.{confirmed_in};
 ghost use Rattle.stack_end.specs.Deadlines.{earliest};
 ghost use Rattle.stack_end.specs.EndValue.{EndTakesTurnAlone, channels_of, inside, statistics_of};
@@ -71,16 +70,16 @@ impl<C: Channels, A: Allocator + Copy> Actor<'_, C, A> {
         }
     }
 
-    /// Logs that the end leaves, because nobody reads its telegrams.
+    /// Logs a notice.
     ///
     /// # Errors
     ///
     /// - The error of the writer; what it wrote before stays written.
-    pub fn report_unread<E: Write>(&self, now: Milliseconds, err: &mut E) -> io::Result<()>
-        // If `report_unread` succeeds, it has appended the line of that notice, if the log is not off.
-        ensures { OnOk result (LogsNotice (Some notice.Unread) self.now.log now (E.contents err.old) (E.contents err.new)) }
+    pub fn tell<E: Write>(&self, notice: Notice, now: Milliseconds, err: &mut E) -> io::Result<()>
+        // If `tell` succeeds, it has appended the line of the notice, if the log is not off.
+        ensures { OnOk result (LogsNotice (Some notice) self.now.log now (E.contents err.old) (E.contents err.new)) }
     {
-        self.log.notice(Some(Notice::Unread), now, err)
+        self.log.notice(Some(notice), now, err)
     }
 
     /// Logs the last events, and prints the counts. Then it logs why the end is in its state, if the log is on or

@@ -2,9 +2,10 @@
 //!
 //! Input is watched together with the sockets, and read only if something is there.
 
-ghost use Rattle.std.specs.Prelude.{◌≡◌, ◌⊎◌, ◌≤◌, ◌<◌, ◌++◌, [], Bool, List, ℕ, None, Some, false, true, is_some, length, nat_eq, nat_lt, IfErr, IfOk, OnErr, OnOk, IfSome};
+ghost use Rattle.std.specs.Prelude.{◌≡◌, ◌⊎◌, ◌≤◌, ◌<◌, ◌++◌, [], Bool, List, ℕ, None, Some, false, true, is_none, is_some, length, option_map, take, ◌&&◌, nat_eq, nat_lt, IfErr, IfOk, OnErr, OnOk, IfSome};
 ghost use Rattle.std.specs.Io.KnownBytes.{Appends, Consumes, IsAtEnd};
-ghost use Rattle.rasta_run.specs.InputLines.{ReadsNextTelegram, ReadsLine, ahead_most, line_count_after, feed_place, input_of, is_done, is_open, is_wanted, IsNumbered, rest_after_line, line_read, line_seen, lines_left, next_line, none_text, one_more, unfed_line, unput_count};
+ghost use Rattle.settings_file.specs.Groups.{put_seen};
+ghost use Rattle.rasta_run.specs.InputLines.{ReadsNextTelegram, ReadsLine, ahead_most, flaw_of, flaw_text, line_count_after, line_most, long_text, feed_place, input_of, is_done, is_open, is_wanted, is_whole, IsNumbered, open_text, rest_after_line, line_read, line_seen, lines_left, next_line, none_text, one_more, telegram_of, unfed_line, unput_count};
 
 use crate::readiness::{Gate, Readiness, Stream};
 use octets::Milliseconds;
@@ -15,9 +16,11 @@ use std::io;
 use std::io::{ErrorKind, Read, Write};
 use udp_channels::Watch;
 
-/// The number of bytes that are read ahead, and the longest line. Beyond it, input waits until an end can put what
-/// was read.
+/// The number of bytes up to which a line is read. Nothing is read while a whole line waits.
 const AHEAD_MAX: usize = 65_536;
+
+/// The number of bytes from which on a line is too long. Of such a line no more is kept until its line feed comes.
+const LINE_MAX: usize = 65_535;
 
 /// The byte that ends a line.
 const LINE_FEED: u8 = 10;
@@ -78,14 +81,14 @@ impl<I: Read + Drop> Feed<I> {
         })
     }
 
-    /// Reads without waiting, if there is room, and returns whether anything came.
+    /// Reads without waiting, if no whole line waits and there is room, and returns whether anything came.
     ///
     /// # Errors
     ///
     /// - `File` if standard input cannot be read, for example because it is a folder;
     /// - `Memory` if an allocation fails.
     pub fn read<G: Gate>(&mut self, gate: &mut G, now: Milliseconds) -> Result<bool, Fault>
-        // At its end, or without room, `read` changes nothing and asks nothing.
+        // At its end, while a whole line waits, or without room, `read` changes nothing and asks nothing.
         ensures idle { is_wanted self.old.ended self.old.lines.octets.items ≡ false
             → IfOk result (λ came. (came ≡ false) × (self.new ≡ self.old) × (gate.new ≡ gate.old)) }
         // Else `read` asks the gate once, and reads nothing if the input is not ready.
@@ -126,9 +129,47 @@ impl<I: Read + Drop> Feed<I> {
         }
     }
 
+    /// Reads the rest of a line that was begun, byte by byte and without waiting, so that the next one who reads this
+    /// input begins with a line.
+    pub fn complete_line<G: Gate>(&mut self, gate: &mut G)
+        // `complete_line` keeps the bytes that were there, and adds only bytes that the reader gave.
+        ensures added { (octets : List ℕ) × (self.new.lines.octets.items ≡ self.old.lines.octets.items ++ octets) }
+        // `complete_line` changes neither the next telegram nor the number of lines.
+        ensures kept { (self.new.lines.cut ≡ self.old.lines.cut) × (self.new.next ≡ self.old.next)
+            × (self.new.unread ≡ self.old.unread) × (self.new.ended ≡ self.old.ended) }
+    {
+        'octets: for _ in 0..AHEAD_MAX {
+            if self.ended.is_some() || !self.lines.is_open() || !gate.is_ready(Stream::Input) {
+                return;
+            }
+            if !self.read_octet() {
+                return;
+            }
+        }
+    }
+
+    /// Reads one byte, and returns whether one came.
+    fn read_octet(&mut self) -> bool
+        // `read_octet` adds the byte that the reader gave, if it gave one.
+        ensures added { (octets : List ℕ) × (self.new.lines.octets.items ≡ self.old.lines.octets.items ++ octets) }
+        // `read_octet` changes neither the next telegram nor the number of lines.
+        ensures kept { (self.new.lines.cut ≡ self.old.lines.cut) × (self.new.next ≡ self.old.next)
+            × (self.new.unread ≡ self.old.unread) × (self.new.ended ≡ self.old.ended) }
+    {
+        let mut octet = [0u8; 1];
+        match self.reader.read(&mut octet) {
+            Ok(1) => match self.lines.add(&octet) {
+                Ok(()) => true,
+                Err(_) => false,
+            },
+            _ => false,
+        }
+    }
+
     /// Returns whether more is to be read.
     fn is_wanted(&self) -> bool
-        // `is_wanted` is true if and only if the input is not at its end, and fewer than 65,536 bytes wait.
+        // `is_wanted` is true if and only if the input is not at its end, no whole line waits, and fewer than 65,536
+        // bytes do.
         ensures { result ≡ is_wanted self.now.ended self.now.lines.octets.items }
     {
         self.ended.is_none() && self.lines.has_room()
@@ -156,8 +197,8 @@ impl<I: Read + Drop> Feed<I> {
         }
     }
 
-    /// Cuts off the next line and reads it, and returns whether there was one. The last line needs no line feed if the
-    /// input has `ended`.
+    /// Cuts off the next line and reads it, and returns whether there was one. What stands without a line feed once
+    /// the input has `ended` is a line that is not put.
     fn read_line<E: Write>(
         &mut self,
         ended: bool,
@@ -178,9 +219,9 @@ impl<I: Read + Drop> Feed<I> {
                 self.next = Some(put);
                 Ok(true)
             }
-            Ok(Line::Other(number)) => {
+            Ok(Line::Other(number, flaw)) => {
                 self.unread = self.unread.saturating_add(1);
-                let _ = write_none(err, number);
+                let _ = write_flaw(err, number, flaw);
                 Ok(true)
             }
             Err(_) => Err(Fault::Memory),
@@ -231,6 +272,42 @@ fn write_none<W: Write>(writer: &mut W, number: u64) -> io::Result<()>
     write!(writer, "line {number}: not a telegram TYPE:HEX\n")
 }
 
+/// Writes that the input ended within a line.
+#[tactic(auto, unfolding(crate::specs::InputLines::open_text))]
+fn write_open<W: Write>(writer: &mut W, number: u64) -> io::Result<()>
+    // If `write_open` succeeds, it has appended the message with the line's number.
+    ensures { OnOk result (Appends (W.contents writer.old) (W.contents writer.new) (open_text number)) }
+{
+    write!(
+        writer,
+        "line {number}: not put: the input ended within it\n"
+    )
+}
+
+/// Writes that a line of standard input is too long.
+#[tactic(auto, unfolding(crate::specs::InputLines::long_text))]
+fn write_long<W: Write>(writer: &mut W, number: u64) -> io::Result<()>
+    // If `write_long` succeeds, it has appended the message with the line's number.
+    ensures { OnOk result (Appends (W.contents writer.old) (W.contents writer.new) (long_text number)) }
+{
+    write!(
+        writer,
+        "line {number}: not put: longer than 65534 bytes\n"
+    )
+}
+
+/// Writes why a line of standard input is not put.
+fn write_flaw<W: Write>(writer: &mut W, number: u64, flaw: LineFlaw) -> io::Result<()>
+    // If `write_flaw` succeeds, it has appended the message of the flaw with the line's number.
+    ensures { OnOk result (Appends (W.contents writer.old) (W.contents writer.new) (flaw_text flaw number)) }
+{
+    match flaw {
+        LineFlaw::NoTelegram => write_none(writer, number),
+        LineFlaw::Open => write_open(writer, number),
+        LineFlaw::Long => write_long(writer, number),
+    }
+}
+
 /// The bytes of an input, cut into lines.
 #[derive(Drop)]
 pub struct Lines {
@@ -247,8 +324,19 @@ pub enum Line {
     Missing,
     /// A telegram to be put.
     Telegram(PutEntry),
-    /// Not a telegram; the number of the line, from 1.
-    Other(u64),
+    /// Not a telegram; the number of the line, from 1, and why it is none.
+    Other(u64, LineFlaw),
+}
+
+/// Why a line is not put as a telegram.
+#[derive(Clone, Copy, Debug, PartialEq, Eq)]
+pub enum LineFlaw {
+    /// It is whole, and spells no telegram.
+    NoTelegram,
+    /// The input ended before its line feed.
+    Open,
+    /// It is too long.
+    Long,
 }
 
 impl Lines {
@@ -267,10 +355,17 @@ impl Lines {
     fn add(&mut self, octets: &[u8]) -> Result<(), AllocError>
         // If `add` succeeds, the bytes are after those that were there.
         ensures added { OnOk result (self.new.octets.items ≡ self.old.octets.items ++ octets.now) }
+        // If an allocation fails, no byte is added.
+        ensures refused { OnErr result (self.new.octets.items ≡ self.old.octets.items) }
         // `add` cuts no line.
         ensures kept { self.new.cut ≡ self.old.cut }
     {
         self.octets.extend_from_slice(octets)
+    }
+
+    /// Returns whether the last byte belongs to a line without a line feed.
+    fn is_open(&self) -> bool {
+        is_open(self.octets.as_slice().last().copied())
     }
 
     /// Returns whether no byte is left.
@@ -283,20 +378,20 @@ impl Lines {
 
     /// Returns whether more is to be read.
     fn has_room(&self) -> bool
-        // `has_room` is true if and only if there are fewer than 65,536 bytes.
-        ensures { result ≡ nat_lt (length self.now.octets.items) ahead_most }
+        // `has_room` is true if and only if there is no line feed, and there are fewer than 65,536 bytes.
+        ensures { result ≡ (is_none (feed_place self.now.octets.items) && nat_lt (length self.now.octets.items) ahead_most) }
     {
-        self.octets.len() < AHEAD_MAX
+        feed_in(self.octets.as_slice()).is_none() && self.octets.len() < AHEAD_MAX
     }
 
-    /// Cuts off the next line, and reads it.
+    /// Cuts off the next line, and reads it. Without one, only the first bytes are kept of a line that is too long.
     fn next(&mut self, alloc: Global, ended: bool) -> Result<Line, AllocError>
         // If `next` succeeds, the line is missing, a telegram as in an entry of the settings, or another text, as
         // the bytes up to its end say.
         ensures line { IfOk result (λ line. line_seen line ≡ line_read ended self.old.octets.items) }
         // If `next` returns a line that is not a telegram, its number is that of the lines cut so far.
         ensures numbered { IfOk result (λ line. IsNumbered line self.new.cut) }
-        // If `next` succeeds, the bytes after the line are left, and all of them if no line was there.
+        // If `next` succeeds, the bytes after the line are left; if no line was there, the first 65,535 bytes.
         ensures left { OnOk result (self.new.octets.items ≡ rest_after_line ended self.old.octets.items) }
         // If `next` succeeds, the number of lines has grown by 1, modulo 2^64, if a line was there.
         ensures cut { OnOk result (self.new.cut ≡ line_count_after ended self.old.octets.items self.old.cut) }
@@ -304,24 +399,57 @@ impl Lines {
         ensures refused { OnErr result (self.new ≡ self.old) }
     {
         let Some((size, used)) = line_in(self.octets.as_slice(), ended) else {
+            self.octets.truncate(LINE_MAX);
             return Ok(Line::Missing);
         };
-        let put = put(alloc, &self.octets.as_slice()[..size])?;
+        let put = telegram_in(alloc, &self.octets.as_slice()[..size], size, used)?;
         let rest = Vec::from_slice(alloc, &self.octets.as_slice()[used..])?;
         self.octets = rest;
         self.cut = self.cut.wrapping_add(1);
         match put {
             Some(put) => Ok(Line::Telegram(put)),
-            None => Ok(Line::Other(self.cut)),
+            None => Ok(Line::Other(self.cut, flaw_of(size, used))),
         }
     }
 }
 
+/// Returns the telegram that a line of this size spells, if the line is whole and not too long.
+fn telegram_in(
+    alloc: Global,
+    text: &[u8],
+    size: usize,
+    used: usize,
+) -> Result<Option<PutEntry>, AllocError>
+    // If `telegram_in` succeeds, the telegram is that of the text, and none if there is no line feed to remove or if
+    // the line is too long.
+    ensures { IfOk result (λ put. option_map put_seen put ≡ telegram_of (is_whole size used) text.now) }
+{
+    if size < used && size < LINE_MAX {
+        return put(alloc, text);
+    }
+    Ok(None)
+}
+
+/// Returns why a line of this size is no telegram.
+fn flaw_of(size: usize, used: usize) -> LineFlaw
+    // `flaw_of` returns `Open` if there is no line feed to remove, else `Long` if the line is too long, and else
+    // `NoTelegram`.
+    ensures { result ≡ flaw_of size used }
+{
+    if used <= size {
+        return LineFlaw::Open;
+    }
+    if LINE_MAX <= size {
+        return LineFlaw::Long;
+    }
+    LineFlaw::NoTelegram
+}
+
 /// Returns the size of the first line, and the number of bytes up to the next one. Without a line feed all bytes
-/// are a line at the end of input, or if there are as many as are read ahead.
+/// are a line at the end of input.
 fn line_in(octets: &[u8], ended: bool) -> Option<(usize, usize)>
     // `line_in` returns the bytes before the first line feed, and 1 more to remove. Without one it returns all, if
-    // the input has `ended` and there are any, or if there are 65,536.
+    // the input has `ended` and there are any.
     ensures line { result ≡ next_line ended octets.now }
     // A line of `line_in` has at most the bytes to remove, and these are at most all.
     ensures bounded { IfSome result (λ p. (p.0 ≤ p.1) × (p.1 ≤ length octets.now)) }
@@ -368,14 +496,12 @@ fn feed_in(octets: &[u8]) -> Option<usize>
 
 /// Returns the line of bytes without a line feed, if they are one.
 fn line_without_feed(size: usize, ended: bool) -> Option<(usize, usize)>
-    // `line_without_feed` returns all bytes, if the input has ended and there are any, or if there are 65,536; and else
-    // `None`.
+    // `line_without_feed` returns all bytes, if the input has ended and there are any, and else `None`.
     ensures line { result ≡ unfed_line ended size }
     // A line of `line_without_feed` has all bytes, and all are removed.
     ensures bounded { IfSome result (λ p. (p.0 ≡ size) × (p.1 ≡ size)) }
 {
-    let at_end = ended && 0 < size;
-    if at_end || AHEAD_MAX <= size {
+    if ended && 0 < size {
         return Some((size, size));
     }
     None

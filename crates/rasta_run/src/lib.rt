@@ -18,6 +18,7 @@ mod follow;
 mod header;
 mod input;
 mod keeper;
+mod lateness;
 mod leftovers;
 mod line_times;
 mod log;

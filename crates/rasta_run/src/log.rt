@@ -350,17 +350,12 @@ impl Log {
         }
     }
 
-    /// Returns whether there are no lines that have a time.
-    fn is_timeless(&self) -> bool {
-        self.is_off() && !self.stamps
-    }
-
     /// Reads the system's clock, if lines have the time in UTC.
     pub fn look_at_clock<K: Clock>(&mut self, system: &K, now: Milliseconds)
         // `look_at_clock` changes nothing but the time in UTC at which the clock of the run was 0.
         ensures { self.new ≡ record self.old { zero = self.new.zero } }
     {
-        if self.time == LogTime::Run || self.is_timeless() {
+        if self.time == LogTime::Run {
             return;
         }
         if let Some(zero) = zero_of(system, now) {

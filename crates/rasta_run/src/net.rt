@@ -90,6 +90,7 @@ fn run_streamed<R: Net + Clock + Input + Files, O: Write, E: Write>(
     ensures expected { run.now.expected ≡ None → IfOk result (λ status. status ≢ Status.Unexpected) }
 {
     let mut streams = Streams::open(alloc, rt, patience(ends), &mut *out, &mut *err)?;
+    streams.try_output()?;
     Ok(run_over(rt, alloc, ends, run, &mut streams))
 }
 
@@ -191,11 +192,13 @@ fn run_sides<R: Net + Clock + Input + Files, O: Write, E: Write>(
     let lines = match run.length {
         RunLength::Turns(turns) => {
             let ran = running.take_turns(rt, alloc, &mut clock, &mut watch, turns, streams);
-            unless_unread(ran, streams.out.has_left_out())?;
+            let is_over = streams.out.has_left_out() || streams.is_given_up();
+            unless_unread(ran, is_over)?;
             0
         }
         RunLength::UntilEnd => {
-            running.run_until_end(rt, alloc, &mut clock, &mut watch, streams)?
+            let can_be_told = run.end_on_3;
+            running.run_until_end(rt, alloc, &mut clock, &mut watch, can_be_told, streams)?
         }
     };
     let outcome = running.finish(run, lines, clock.last, streams)?;

@@ -40,8 +40,14 @@ pub enum Notice {
     Fruitless(u64),
     /// The session is established, after this many openings in a row without one.
     Session(u64),
-    /// The lines of telegrams taken have no room, because nobody reads standard output.
+    /// The lines of telegrams taken have no room or are too old, because nobody reads standard output.
     Unread,
+    /// This many lines wait for the reader of standard output.
+    Behind(u64),
+    /// Standard output cannot be written, for this reason.
+    OutputFails(Option<i32>),
+    /// The run is told to end.
+    Ending,
 }
 
 /// Writes the line of a notice at a time of the end's clock, in milliseconds.
@@ -101,6 +107,9 @@ fn write_what<W: Write>(writer: &mut W, notice: Notice) -> io::Result<()>
         Notice::Fruitless(count) => write_fruitless(writer, count),
         Notice::Session(count) => write_session(writer, count),
         Notice::Unread => write_text(writer, "leaves: nobody reads standard output"),
+        Notice::Behind(count) => write_behind(writer, count),
+        Notice::OutputFails(error) => write_output_fails(writer, error),
+        Notice::Ending => write_text(writer, "is told to end: puts no more"),
     }
 }
 
@@ -300,6 +309,34 @@ fn write_session<W: Write>(writer: &mut W, count: u64) -> io::Result<()>
         writer,
         "a session again, after {count} openings without one"
     )
+}
+
+/// Writes how many lines wait for the reader of standard output.
+#[tactic(auto, unfolding(crate::specs::Notices::behind_text))]
+fn write_behind<W: Write>(writer: &mut W, count: u64) -> io::Result<()>
+    // If `write_behind` succeeds, it has appended the number of lines.
+    ensures { OnOk result (Appends (W.contents writer.old) (W.contents writer.new) (noticing.behind_text count)) }
+{
+    write!(writer, "output: nobody reads, {count} lines wait")
+}
+
+/// Writes that standard output cannot be written, and why.
+#[tactic(auto, unfolding(crate::specs::Notices::output_fails_text))]
+fn write_output_fails<W: Write>(writer: &mut W, error: Option<i32>) -> io::Result<()>
+    // If `write_output_fails` succeeds, it has appended that, and the system's number for the reason.
+    ensures { OnOk result (Appends (W.contents writer.old) (W.contents writer.new) (noticing.output_fails_text error)) }
+{
+    write_output_front(writer)?;
+    write_error(writer, error)
+}
+
+/// Writes that standard output cannot be written.
+#[tactic(auto, unfolding(crate::specs::Notices::output_front))]
+fn write_output_front<W: Write>(writer: &mut W) -> io::Result<()>
+    // If `write_output_front` succeeds, it has appended that text.
+    ensures { OnOk result (Appends (W.contents writer.old) (W.contents writer.new) noticing.output_front) }
+{
+    write_text(writer, "leaves: standard output cannot be written")
 }
 
 /// Returns whether datagrams dropped for known causes are to be logged.

@@ -1,6 +1,7 @@
-//! Whether standard input can be read, and standard output and standard error written, without waiting.
+//! Whether standard input can be read, and standard output and standard error written, without waiting; and whether
+//! the run is told to end.
 //!
-//! One watch serves the three streams, and is opened before any socket. If a stream was closed, the watch has its
+//! One watch serves all of them, and is opened before any socket. If a stream was closed, the watch has its
 //! descriptor and does not watch itself, so that reads and writes fail at once.
 
 ghost use Rattle.std.specs.Prelude.{◌≡◌, ℕ, Bool};
@@ -17,13 +18,13 @@ use std::io::ErrorKind;
 use std::net::Net;
 use std::time::Duration;
 
-/// The number of standard streams.
-const STREAMS: usize = 3;
+/// The number of standard streams, with the descriptor that ends a run.
+const STREAMS: usize = 4;
 
 /// The longest of the waits that together are the patience with a reader, in milliseconds. A signal can end one.
 const SLICE: u64 = 10;
 
-/// A standard stream.
+/// A standard stream, or the descriptor that ends a run.
 #[derive(Clone, Copy, Debug, PartialEq, Eq)]
 pub enum Stream {
     /// Standard input.
@@ -32,18 +33,21 @@ pub enum Stream {
     Output,
     /// Standard error.
     Error,
+    /// Descriptor 3. If its other end is closed, or if something can be read from it, the run is to end.
+    End,
 }
 
 impl Stream {
     /// Returns its descriptor, which is also its place in the watch.
     fn descriptor(self) -> u8
-        // `descriptor` returns 0 for `Input`, 1 for `Output` and 2 for `Error`.
+        // `descriptor` returns 0 for `Input`, 1 for `Output`, 2 for `Error` and 3 for `End`.
         ensures { result ≡ descriptor_of self }
     {
         match self {
             Stream::Input => 0,
             Stream::Output => 1,
             Stream::Error => 2,
+            Stream::End => 3,
         }
     }
 }
@@ -99,7 +103,7 @@ impl Readiness {
         Ok(Readiness {
             poll,
             events,
-            watched: [false, output, error],
+            watched: [false, output, error, false],
             patience: 0,
         })
     }
@@ -118,6 +122,31 @@ impl Readiness {
             Err(error) if error.kind() == ErrorKind::PermissionDenied => Ok(()),
             Err(_) => Err(Fault::File),
         }
+    }
+
+    /// Returns whether a stream is watched.
+    pub fn is_watched(&self, stream: Stream) -> bool {
+        self.watched[usize::from(stream.descriptor())]
+    }
+
+    /// Watches the descriptor that ends a run in addition.
+    ///
+    /// # Errors
+    ///
+    /// - `File` if there is none, or if the system does not watch it, because it is a file.
+    pub fn watch_end(&mut self) -> Result<(), Fault> {
+        match register(&self.poll, Stream::End) {
+            Ok(()) => {
+                self.watched[3] = true;
+                Ok(())
+            }
+            Err(_) => Err(Fault::File),
+        }
+    }
+
+    /// Returns whether the run is told to end.
+    pub fn is_told_to_end(&mut self) -> bool {
+        self.watched[3] && self.poll_stream(Stream::End, Duration::from_millis(0))
     }
 
     /// Asks the system once for a stream that is watched, and waits for it no longer than this.
@@ -174,7 +203,7 @@ fn register(poll: &Poll, stream: Stream) -> io::Result<()> {
 /// Returns what a stream is watched for.
 fn interest(stream: Stream) -> Interest {
     match stream {
-        Stream::Input => Interest::READABLE,
+        Stream::Input | Stream::End => Interest::READABLE,
         Stream::Output | Stream::Error => Interest::WRITABLE,
     }
 }

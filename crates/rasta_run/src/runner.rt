@@ -12,11 +12,14 @@ ghost use Rattle.rasta_run.specs.Leftovers.{is_nothing};
 ghost use Rattle.stack_end.specs.EndValue.{channels_of, statistics_of};
 
 use crate::input::Feed;
+use crate::lateness::ReaderState;
 use crate::leftovers::{Leftovers, Outcome};
 use crate::metrics::{Samples, write_block};
 use crate::net::unless_unread;
+use crate::notices::Notice;
 use crate::number_source::Random;
 use crate::printer::Printer;
+use crate::readiness::Readiness;
 use crate::run_clock::RunClock;
 use crate::streams::Streams;
 use crate::turns::Actor;
@@ -29,7 +32,10 @@ use std::io::{Input, Read, Write};
 use std::net::Net;
 use std::rt::Files;
 use std::time::Clock;
-use udp_channels::{UdpChannels, Watch};
+use udp_channels::{CallFault, UdpChannels, Watch};
+
+/// The descriptor that ends a run.
+const END: i32 = 3;
 
 /// The turn limit of a run that lasts until its input ends. It is never reached.
 const TURNS_MOST: u64 = 1 << 63;
@@ -74,9 +80,9 @@ impl Runner<'_> {
         'turns: for _ in 0..turns {
             let now = clock.read(rt)?;
             self.look_at_clock(rt, now);
-            let heard = self.take_turn(now, &mut streams.out, &mut streams.err)?;
+            let heard = self.take_turn(now, streams)?;
             let anew = self.keep(rt, alloc, now, &mut streams.err)?;
-            streams.pass_on()?;
+            self.pass_on(now, streams)?;
             let found = heard || anew;
             let deadline = earlier(self.next_deadline(), streams.next_try(now));
             take_rest(watch, RunLength::Turns(turns), found, now, deadline);
@@ -100,6 +106,7 @@ impl Runner<'_> {
         alloc: Global,
         clock: &mut RunClock,
         watch: &mut Watch,
+        can_be_told: bool,
         streams: &mut Streams<O, E>,
     ) -> Result<u64, Fault>
         requires later { (self.old.first.end.time ≤ clock.old.last) × IfSome self.old.second (λ a. a.end.time ≤ clock.old.last) }
@@ -108,10 +115,103 @@ impl Runner<'_> {
         ensures { (self.new.first.end.time ≤ clock.new.last) × IfSome self.new.second (λ a. a.end.time ≤ clock.new.last)
             × (clock.new.last ≤ TIME_MAX) }
     {
+        if can_be_told {
+            watch_end(watch, &mut streams.gate)?;
+        }
         let mut feed = Feed::open(alloc, &mut streams.gate, watch, rt.reader())?;
         let ran = self.take_fed_turns(rt, alloc, clock, watch, &mut feed, streams);
-        unless_unread(ran, streams.out.has_left_out())?;
+        let is_over = streams.out.has_left_out() || streams.is_given_up();
+        unless_unread(ran, is_over)?;
         Ok(feed.unput_count())
+    }
+
+    /// Takes turns in which nothing is put, until everything put is confirmed or its connection closed, but no longer
+    /// than T_max.
+    fn take_last_turns<R: Clock, O: Write, E: Write>(
+        &mut self,
+        rt: &R,
+        clock: &mut RunClock,
+        watch: &mut Watch,
+        streams: &mut Streams<O, E>,
+    ) -> Result<(), Fault>
+        requires later { (self.old.first.end.time ≤ clock.old.last) × IfSome self.old.second (λ a. a.end.time ≤ clock.old.last) }
+        requires bounded { clock.old.last ≤ TIME_MAX }
+        // `take_last_turns` puts nothing into the first end.
+        ensures put { self.new.first.put ≡ self.old.first.put }
+        // After `take_last_turns` no end is later than the last reading of the clock, which is at most 2^62 ms.
+        ensures time { (self.new.first.end.time ≤ clock.new.last) × IfSome self.new.second (λ a. a.end.time ≤ clock.new.last)
+            × (clock.new.last ≤ TIME_MAX) }
+    {
+        let _ = self.first.tell(Notice::Ending, clock.last, &mut streams.err);
+        let until = clock.last.saturating_add(streams.patience);
+        'turns: for _ in 0..TURNS_MOST {
+            let now = clock.read(rt)?;
+            self.look_at_clock(rt, now);
+            let heard = self.hear(now, &mut streams.out, &mut streams.err)?;
+            if self.are_quiet() || until <= now {
+                return Ok(());
+            }
+            self.pass_on(now, streams)?;
+            let own = earlier(self.next_deadline(), Some(until));
+            let deadline = earlier(own, streams.next_try(now));
+            take_rest(watch, RunLength::UntilEnd, heard, now, deadline);
+        }
+        Ok(())
+    }
+
+    /// Lets each end receive, and returns whether anything was received.
+    fn hear<O: Write, E: Write>(
+        &mut self,
+        now: Milliseconds,
+        out: &mut O,
+        err: &mut E,
+    ) -> Result<bool, Fault>
+        requires now { now ≤ TIME_MAX }
+        requires later { (self.old.first.end.time ≤ now) × IfSome self.old.second (λ a. a.end.time ≤ now) }
+        // `hear` puts nothing into the first end.
+        ensures put { self.new.first.put ≡ self.old.first.put }
+        // After `hear` no end is later than `now`.
+        ensures time { (self.new.first.end.time ≤ now) × IfSome self.new.second (λ a. a.end.time ≤ now) }
+    {
+        let before = self.received_count();
+        hear_of(&mut self.first, now, out, err)?;
+        hear_of_second(&mut self.second, now, out, err)?;
+        Ok(self.received_count() != before)
+    }
+
+    /// Returns whether no end has anything left that its peer can confirm.
+    fn are_quiet(&self) -> bool {
+        let second_quiet = match &self.second {
+            None => true,
+            Some(second) => second.is_quiet(),
+        };
+        self.first.is_quiet() && second_quiet
+    }
+
+    /// Writes the lines of a turn, as far as the streams take them without waiting, and logs that the reader of
+    /// standard output is behind.
+    ///
+    /// # Errors
+    ///
+    /// - `Output` if standard output cannot be written, or if its oldest line that is not read is older than T_max.
+    fn pass_on<O: Write, E: Write>(
+        &self,
+        now: Milliseconds,
+        streams: &mut Streams<O, E>,
+    ) -> Result<(), Fault>
+        // `pass_on` leaves no line of standard output out.
+        ensures kept { streams.new.out.left_out ≡ streams.old.out.left_out }
+    {
+        streams.pass_on()?;
+        match streams.look_at_reader(now) {
+            ReaderState::Known => Ok(()),
+            ReaderState::Behind => {
+                let lines = streams.out.waiting_count();
+                let _ = self.first.tell(Notice::Behind(lines), now, &mut streams.err);
+                Ok(())
+            }
+            ReaderState::Stale => Err(Fault::Output),
+        }
     }
 
     /// Takes turns until the input has ended, and everything is put and confirmed or the ends give up.
@@ -131,9 +231,13 @@ impl Runner<'_> {
             × (clock.new.last ≤ TIME_MAX) }
     {
         'turns: for _ in 0..TURNS_MOST {
+            if streams.gate.is_told_to_end() {
+                feed.complete_line(&mut streams.gate);
+                return self.take_last_turns(rt, clock, watch, streams);
+            }
             let now = clock.read(rt)?;
             self.look_at_clock(rt, now);
-            let heard = self.take_turn(now, &mut streams.out, &mut streams.err)?;
+            let heard = self.take_turn(now, streams)?;
             let came = feed.read(&mut streams.gate, now)?;
             let put = self.put_lines(alloc, feed, now, &mut streams.out, &mut streams.err)?;
             self.note_progress(now);
@@ -141,7 +245,7 @@ impl Runner<'_> {
                 return Ok(());
             }
             let anew = self.keep(rt, alloc, now, &mut streams.err)?;
-            streams.pass_on()?;
+            self.pass_on(now, streams)?;
             let found = heard || came || put || anew;
             let limit = limit_after(feed.ended, self.limit(), now);
             let own = earlier(self.next_deadline(), limit);
@@ -153,8 +257,9 @@ impl Runner<'_> {
 
     /// Reads the system's clock for the lines of each log.
     fn look_at_clock<R: Clock>(&mut self, rt: &R, now: Milliseconds)
-        // `look_at_clock` does not change the time of an end, nor the number of turns.
+        // `look_at_clock` does not change the time of an end, nor the number of turns, nor that of telegrams put.
         ensures { (self.new.first.end ≡ self.old.first.end) × (self.new.turns ≡ self.old.turns)
+            × (self.new.first.put ≡ self.old.first.put)
             × ((limit : ℕ) → IfSome self.old.second (λ a. a.end.time ≤ limit) → IfSome self.new.second (λ a. a.end.time ≤ limit)) }
     {
         self.first.look_at_clock(rt, now);
@@ -163,12 +268,12 @@ impl Runner<'_> {
         }
     }
 
-    /// Takes one turn of each end, and returns whether anything was received.
+    /// Takes one turn of each end, and returns whether anything was received. While lines wait for the reader of standard
+    /// output, nothing is.
     fn take_turn<O: Write, E: Write>(
         &mut self,
         now: Milliseconds,
-        out: &mut O,
-        err: &mut E,
+        streams: &mut Streams<O, E>,
     ) -> Result<bool, Fault>
         requires now { now ≤ TIME_MAX }
         requires later { (self.old.first.end.time ≤ now) × IfSome self.old.second (λ a. a.end.time ≤ now) }
@@ -179,9 +284,14 @@ impl Runner<'_> {
             × (self.new.turns ≡ (self.old.turns + 1) % 2 ^ 64)) }
     {
         let before = self.received_count();
-        turn_of(&mut self.first, now, out, err)?;
-        turn_of_second(&mut self.second, now, out, err)?;
         self.turns = self.turns.wrapping_add(1);
+        if streams.out.has_waiting() {
+            hold_of(&mut self.first, now, &mut streams.out, &mut streams.err)?;
+            hold_of_second(&mut self.second, now, &mut streams.out, &mut streams.err)?;
+        } else {
+            turn_of(&mut self.first, now, &mut streams.out, &mut streams.err)?;
+            turn_of_second(&mut self.second, now, &mut streams.out, &mut streams.err)?;
+        }
         Ok(self.received_count() != before)
     }
 
@@ -345,17 +455,15 @@ impl Runner<'_> {
         let second_met = is_met(&self.second, run, second_undone);
         let is_until_end = run.length == RunLength::UntilEnd;
         let left_out = streams.out.take_left_out();
-        self.leave(is_until_end, left_out, now, &mut streams.err);
-        if streams.print_rest()? {
-            self.report(&mut streams.out)?;
-            let _ = streams.print_rest()?;
-        }
+        self.leave(is_until_end, left_out, now, streams);
+        let printed = self.print_end(now, streams);
         if is_until_end {
             self.report_undone(first_undone, second_undone, &mut streams.err);
         }
         let is_read = streams.report_unread(left_out);
         self.conclude(first_met, second_met, now, &mut streams.err);
         let is_finished = first_undone.is_nothing() && second_undone.is_nothing();
+        printed?;
         Ok(Outcome {
             is_read,
             is_finished: !is_until_end || is_finished,
@@ -363,23 +471,70 @@ impl Runner<'_> {
         })
     }
 
-    /// Disconnects the ends if their input has ended, or if lines of standard output were left out. Logs the latter.
-    fn leave<E: Write>(&mut self, is_until_end: bool, left_out: u64, now: Milliseconds, err: &mut E)
+    /// Disconnects the ends if their input has ended, or if nobody reads standard output or it cannot be written. Logs
+    /// the latter.
+    fn leave<O: Write, E: Write>(
+        &mut self,
+        is_until_end: bool,
+        left_out: u64,
+        now: Milliseconds,
+        streams: &mut Streams<O, E>,
+    )
         requires now { now ≤ TIME_MAX }
         requires later { (self.old.first.end.time ≤ now) × IfSome self.old.second (λ a. a.end.time ≤ now) }
+        // `leave` does not change standard output.
+        ensures kept { streams.new.out ≡ streams.old.out }
     {
-        if left_out > 0 {
-            let _ = self.first.report_unread(now, err);
+        let cause = leaving_cause(left_out, streams.is_stale, streams.out.failure);
+        if let Some(notice) = cause {
+            let _ = self.first.tell(notice, now, &mut streams.err);
             if let Some(second) = &self.second {
-                let _ = second.report_unread(now, err);
+                let _ = second.tell(notice, now, &mut streams.err);
             }
         }
-        if is_until_end || left_out > 0 {
-            self.first.close(now, err);
+        if is_until_end || cause.is_some() {
+            self.first.close(now, &mut streams.err);
             if let Some(second) = &mut self.second {
-                second.close(now, err);
+                second.close(now, &mut streams.err);
             }
         }
+    }
+
+    /// Prints what waits for standard output, and the state of each end, if somebody reads it. Lines that are too old
+    /// are not printed. Logs a write that fails.
+    ///
+    /// # Errors
+    ///
+    /// - `Output` if standard output cannot be written.
+    fn print_end<O: Write, E: Write>(
+        &self,
+        now: Milliseconds,
+        streams: &mut Streams<O, E>,
+    ) -> Result<(), Fault> {
+        if streams.out.failure.is_some() {
+            return Err(Fault::Output);
+        }
+        if streams.is_stale {
+            return Ok(());
+        }
+        let printed = self.print_report(streams);
+        if let Some(fault) = streams.out.failure {
+            let _ = self.first.tell(Notice::OutputFails(fault.error), now, &mut streams.err);
+        }
+        printed
+    }
+
+    /// Prints what waits for standard output, and the state of each end, if somebody reads it.
+    ///
+    /// # Errors
+    ///
+    /// - `Output` if standard output cannot be written.
+    fn print_report<O: Write, E: Write>(&self, streams: &mut Streams<O, E>) -> Result<(), Fault> {
+        if streams.print_rest()? {
+            self.report(&mut streams.out)?;
+            let _ = streams.print_rest()?;
+        }
+        Ok(())
     }
 
     /// Prints the state of each end.
@@ -442,6 +597,100 @@ fn turn_of<O: Write, E: Write>(
     actor.note_taken(printer.taken);
     actor.note_failures();
     ran
+}
+
+/// Takes a turn of an end in which it receives nothing.
+fn hold_of<O: Write, E: Write>(
+    actor: &mut Actor<'_, UdpChannels>,
+    now: Milliseconds,
+    out: &mut O,
+    err: &mut E,
+) -> Result<(), Fault>
+    requires now { now ≤ TIME_MAX }
+    requires later { actor.old.end.time ≤ now }
+    // After `hold_of` the end is no later than `now`, and it has taken a turn.
+    ensures { (actor.new.end.time ≤ now) × (actor.new.last_turn ≡ now) }
+{
+    let stamp = actor.log.stamp(now);
+    let mut printer = Printer::new(actor.side, stamp, out);
+    let ran = actor.hold(now, &mut printer, err);
+    actor.note_taken(printer.taken);
+    ran
+}
+
+/// Takes a turn of the second end in which it receives nothing, if there is one.
+fn hold_of_second<O: Write, E: Write>(
+    second: &mut Option<Actor<'_, UdpChannels>>,
+    now: Milliseconds,
+    out: &mut O,
+    err: &mut E,
+) -> Result<(), Fault>
+    requires now { now ≤ TIME_MAX }
+    requires later { IfSome second.old (λ a. a.end.time ≤ now) }
+    // After `hold_of_second` the end is no later than `now`, and it has taken a turn.
+    ensures { IfSome second.new (λ a. (a.end.time ≤ now) × (a.last_turn ≡ now)) }
+{
+    match second {
+        None => Ok(()),
+        Some(actor) => hold_of(actor, now, out, err),
+    }
+}
+
+/// Lets an end receive, whose telegrams are printed.
+fn hear_of<O: Write, E: Write>(
+    actor: &mut Actor<'_, UdpChannels>,
+    now: Milliseconds,
+    out: &mut O,
+    err: &mut E,
+) -> Result<(), Fault>
+    requires now { now ≤ TIME_MAX }
+    requires later { actor.old.end.time ≤ now }
+    // `hear_of` puts nothing into the end.
+    ensures put { actor.new.put ≡ actor.old.put }
+    // After `hear_of` the end is no later than `now`.
+    ensures time { actor.new.end.time ≤ now }
+{
+    let stamp = actor.log.stamp(now);
+    let mut printer = Printer::new(actor.side, stamp, out);
+    let ran = actor.hear(now, &mut printer, err);
+    actor.note_taken(printer.taken);
+    ran
+}
+
+/// Lets the second end receive, if there is one.
+fn hear_of_second<O: Write, E: Write>(
+    second: &mut Option<Actor<'_, UdpChannels>>,
+    now: Milliseconds,
+    out: &mut O,
+    err: &mut E,
+) -> Result<(), Fault>
+    requires now { now ≤ TIME_MAX }
+    requires later { IfSome second.old (λ a. a.end.time ≤ now) }
+    // After `hear_of_second` the end is no later than `now`.
+    ensures { IfSome second.new (λ a. a.end.time ≤ now) }
+{
+    match second {
+        None => Ok(()),
+        Some(actor) => hear_of(actor, now, out, err),
+    }
+}
+
+/// Watches the descriptor that ends a run.
+fn watch_end(watch: &Watch, gate: &mut Readiness) -> Result<(), Fault> {
+    gate.watch_end()?;
+    match watch.add_descriptor(END) {
+        Ok(()) => Ok(()),
+        Err(_) => Err(Fault::File),
+    }
+}
+
+/// Returns why ends leave: a write has failed, or nobody reads.
+fn leaving_cause(left_out: u64, is_stale: bool, failure: Option<CallFault>) -> Option<Notice> {
+    match failure {
+        Some(fault) => Some(Notice::OutputFails(fault.error)),
+        None if is_stale || left_out > 0 => Some(Notice::Unread),
+        None => None,
+    }
 }
 
 /// Takes one turn of the second end, if there is one.

@@ -4,8 +4,10 @@ ghost use Rattle.std.specs.Prelude.{◌≡◌, ◌+◌, ◌==◌, [], Bool, List
 ghost use Rattle.std.specs.Io.KnownBytes.{Appends, Keeps, append_known};
 ghost use Rattle.rasta_run.specs.InputLines.{lines_left};
 ghost use Rattle.rasta_run.specs.Backlogs.{PassesAll, next_try, unread_lines, unread_text};
+ghost use Rattle.rasta_run.specs.Lateness as late;
 
 use crate::backlog::Backlog;
+use crate::lateness::{Lateness, ReaderState};
 use crate::readiness::{Gate, Readiness, Stream};
 use octets::Milliseconds;
 use rasta_words::Fault;
@@ -32,8 +34,13 @@ pub struct Streams<O, E, G = Readiness> {
     pub err: Backlog<E>,
     /// Which streams are ready.
     pub gate: G,
-    /// How long the end of a run waits for a reader that does not go on, in milliseconds.
-    patience: Milliseconds,
+    /// How long the end of a run waits for a reader that does not go on, and how old a line may be that is not
+    /// read, in milliseconds.
+    pub patience: Milliseconds,
+    /// How far the reader of standard output is behind.
+    pub lateness: Lateness,
+    /// Whether a line was too old that was not read.
+    pub is_stale: bool,
 }
 
 impl<O: Write + Drop, E: Write + Drop> Streams<O, E, Readiness> {
@@ -70,7 +77,23 @@ impl<O: Write + Drop, E: Write + Drop> Streams<O, E, Readiness> {
             err,
             gate,
             patience,
+            lateness: Lateness::none(),
+            is_stale: false,
         })
+    }
+
+    /// Tests whether standard output can be written. One that is watched is not tested: to a socket that keeps the bounds
+    /// of writes an empty write is a message.
+    ///
+    /// # Errors
+    ///
+    /// - `Output` if it cannot.
+    pub fn try_output(&mut self) -> Result<(), Fault> {
+        if self.gate.is_watched(Stream::Output) || self.out.try_once() {
+            Ok(())
+        } else {
+            Err(Fault::Output)
+        }
     }
 }
 
@@ -98,6 +121,29 @@ impl<O: Write, E: Write, G: Gate> Streams<O, E, G> {
         let works = self.out.pass_on(&mut self.gate);
         self.pass_log();
         if works { Ok(()) } else { Err(Fault::Output) }
+    }
+
+    /// Looks how far the reader of standard output is behind, and returns that if it is not known.
+    pub fn look_at_reader(&mut self, now: Milliseconds) -> ReaderState
+        // `look_at_reader` changes neither stream.
+        ensures kept { (self.new.out ≡ self.old.out) × (self.new.err ≡ self.old.err) × (self.new.gate ≡ self.old.gate)
+            × (self.new.patience ≡ self.old.patience) }
+        // `look_at_reader` looks at the bytes that wait, and at those that the stream took.
+        ensures looked { self.new.lateness.boundary ≡ late.boundary_after self.old.out.gone (length self.old.out.octets.items) now
+            self.old.lateness.boundary }
+        // `look_at_reader` returns `Stale` if and only if bytes wait that may be as old as the `patience`.
+        ensures stale { result ≡ late.state_of self.old.lateness.is_told self.new.lateness.boundary self.old.patience now }
+    {
+        let state = self.lateness.look(self.out.gone, self.out.octets.len(), self.patience, now);
+        if state == ReaderState::Stale {
+            self.is_stale = true;
+        }
+        state
+    }
+
+    /// Returns whether no more is written to standard output: it cannot be written, or nobody reads it.
+    pub fn is_given_up(&self) -> bool {
+        self.is_stale || self.out.failure.is_some()
     }
 
     /// Writes the lines of the log, as far as standard error takes them.
@@ -207,8 +253,5 @@ fn write_unread<W: Write>(writer: &mut W, count: u64) -> io::Result<()>
     // If `write_unread` succeeds, it has appended the line with the number of lines.
     ensures { OnOk result (Appends (W.contents writer.old) (W.contents writer.new) (unread_text count)) }
 {
-    write!(
-        writer,
-        "output: {count} lines not printed, nobody reads them\n"
-    )
+    write!(writer, "output: {count} lines not printed\n")
 }

@@ -1,6 +1,6 @@
 //! One end in a turn: it receives, then it puts telegrams of its list.
 
-ghost use Rattle.std.specs.Prelude.{◌≡◌, ◌∷◌, [], ◌+◌, ◌-◌, ◌≤◌, ◌^◌, ◌%◌, length, ◌==◌, None, false, IfErr, IfOk, OnOk};
+ghost use Rattle.std.specs.Prelude.{◌≡◌, ◌∷◌, [], ◌+◌, ◌-◌, ◌≤◌, ◌^◌, ◌%◌, ◌||◌, length, ◌==◌, None, false, IfErr, IfOk, OnOk};
 ghost use Rattle.rasta_run.specs.Actors.{course_of};
 ghost use Rattle.rasta_run.specs.Counters.{run_counts_of};
 ghost use Rattle.rasta_run.specs.Counts.{printed_counts};
@@ -11,8 +11,8 @@ ghost use Rattle.rasta_run.specs.Turns as turning;
 ghost use Rattle.rasta_run.specs.Leftovers.{doubt_of};
 ghost use Rattle.safe_machine.specs.Connections.{is_closed};
 ghost use Rattle.stack_end.specs.Certain.{confirmed_in};
-ghost use Rattle.stack_end.specs.EndValue.{channels_of, inside, statistics_of};
-ghost use Rattle.stack_end.specs.Turns.{is_over, is_settled};
+ghost use Rattle.stack_end.specs.EndValue.{EndTakesTurn, channels_of, inside, statistics_of};
+ghost use Rattle.stack_end.specs.Turns.{is_over, is_settled, time_turn};
 ghost use Rattle.std.specs.Io.KnownBytes.{Appends};
 ghost use Rattle.octets.specs.declared.limits.TheConstants.{TIME_MAX};
 ghost use Rattle.udp_channels.specs.Sockets.{no_failures};
@@ -259,13 +259,91 @@ impl<'a, C: Channels, A: Allocator + Copy> Actor<'a, C, A> {
         // After `turn` the end's time is at most `now`.
         ensures time { self.new.end.time ≤ now }
     {
+        self.hear(now, app, err)?;
+        self.put_now(now, app, err)?;
+        Ok(())
+    }
+
+    /// Takes a turn in which the end only receives. Events are logged to `err`.
+    ///
+    /// # Errors
+    ///
+    /// - `Output` if the application cannot print.
+    pub fn hear<T: Application, E: Write>(
+        &mut self,
+        now: Milliseconds,
+        app: &mut T,
+        err: &mut E,
+    ) -> Result<(), Fault>
+        requires now { now ≤ TIME_MAX }
+        requires later { self.old.end.time ≤ now }
+        // If `hear` succeeds, the end has received what came, and time has passed; its application has taken what the
+        // session accepted, and lost none of it.
+        ensures heard { OnOk result (turning.Hears (λ o. C.told o.inner) T.takes T.has_lost now
+            (course_of self.old app.old) (course_of self.new app.new)) }
+        // `hear` records when it was, and changes nothing else but the log.
+        ensures kept { self.new ≡ record self.old {
+          end = self.new.end;
+          last_turn = now;
+          deaf_turns = self.new.deaf_turns;
+          was_closed = self.new.was_closed;
+          log = self.new.log;
+        } }
+        // After `hear` the end's time is at most `now`.
+        ensures time { self.new.end.time ≤ now }
+    {
         let _ = self.note_turn(now, err);
         let works = self.poll_end(now, app)?;
         self.log_events(now, err);
         self.note_reception(works);
         let _ = self.note_loss(now, err);
-        self.put_now(now, app, err)?;
         Ok(())
+    }
+
+    /// Takes a turn in which the end receives and puts nothing, because lines wait for the reader of standard output: what
+    /// is not received is not confirmed. Time passes. Events are logged to `err`.
+    ///
+    /// # Errors
+    ///
+    /// - `Output` if the application cannot print.
+    pub fn hold<T: Application, E: Write>(
+        &mut self,
+        now: Milliseconds,
+        app: &mut T,
+        err: &mut E,
+    ) -> Result<(), Fault>
+        requires now { now ≤ TIME_MAX }
+        requires later { self.old.end.time ≤ now }
+        // If `hold` succeeds, time has passed for the end, and nothing else has happened to it; its application has lost
+        // nothing that it took.
+        ensures held { OnOk result (EndTakesTurn (λ o. C.told o.inner) T.takes (time_turn now) self.old.end app.old self.new.end app.new
+            × (T.has_lost app.new ≡ false)) }
+        // `hold` records when it was, and changes nothing else but the end and the log.
+        ensures kept { self.new ≡ record self.old {
+          end = self.new.end;
+          last_turn = now;
+          was_closed = self.new.was_closed;
+          log = self.new.log;
+        } }
+        // After `hold` the end's time is at most `now`.
+        ensures time { self.new.end.time ≤ now }
+    {
+        let _ = self.note_turn(now, err);
+        self.end.tick(now, app);
+        if app.has_failed() {
+            return Err(Fault::Output);
+        }
+        self.log_events(now, err);
+        let _ = self.note_loss(now, err);
+        Ok(())
+    }
+
+    /// Returns whether nothing is left that the peer can confirm.
+    pub fn is_quiet(&self) -> bool
+        // `is_quiet` is true if everything put is confirmed, or if the connection is closed.
+        ensures { result ≡ (is_settled (inside self.now.end) || is_over (inside self.now.end)) }
+    {
+        self.end.settled() || is_closed(self.end.state())
     }
 
     /// Receives what has come. Returns whether all receptions succeeded. If one fails, time passes all the same, so

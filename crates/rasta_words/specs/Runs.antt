@@ -26,12 +26,12 @@ ends_word Il = codes "il"
 ends_word Fe = codes "fe"
 ends_word Pair = codes "pair"
 
--- The command is il FILE (--turns N | --until-end) [--log off|state|all] [--time utc|run] [--stamp] [--expect
+-- The command is il FILE (--turns N | --until-end [--end-on-3]) [--log off|state|all] [--time utc|run] [--stamp] [--expect
 -- up|settled] [--keep] [--stats text|json|prometheus [--every N]]; fe and pair have the same.
 
--- the command with `--turns` and the flag `--until-end`
+-- the command with `--turns` and the flags `--until-end` and `--end-on-3`
 abbrev pub with_length : App → App
-with_length app = with_flag (with_option app (codes "turns")) (codes "until-end")
+with_length app = with_flag (with_flag (with_option app (codes "turns")) (codes "until-end")) (codes "end-on-3")
 
 -- the command with `--log`, `--time` and the flag `--stamp`
 abbrev pub with_log : App → App
@@ -123,6 +123,7 @@ abbrev pub IsRun : List Row → RunRequest → Type 0
 IsRun rows r =
     (first_of (codes "file") rows ≡ Some r.file.now)
     × IsLengthChosen (first_of (codes "turns") rows) (is_flagged (first_of (codes "until-end") rows)) r.length
+    × (is_flagged (first_of (codes "end-on-3") rows) ≡ r.end_on_3)
     × IsLogChosen (first_of (codes "log") rows) r.log × IsTimeChosen (first_of (codes "time") rows) r.time
     × (is_flagged (first_of (codes "stamp") rows) ≡ r.stamp) × IsEndChosen (first_of (codes "expect") rows) r.expected
     × (is_flagged (first_of (codes "keep") rows) ≡ r.keep)

@@ -63,6 +63,8 @@ pub struct RunRequest<'a> {
     pub file: &'a str,
     /// `--turns`, 1 to 1,000,000, or `--until-end`: how long they run.
     pub length: RunLength,
+    /// `--end-on-3`: with `--until-end`, they also end when the other end of descriptor 3 is closed.
+    pub end_on_3: bool,
     /// `--log`: what goes to standard error; `Off` by default.
     pub log: LogLevel,
     /// `--time`: the times of the log; `Utc` by default.

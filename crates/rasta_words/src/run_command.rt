@@ -32,26 +32,32 @@ pub fn net_command<'a>(
     with_operand(alloc, command, "file", "Settings file (TOML)")
 }
 
-/// Adds `--turns` and `--until-end`.
+/// Adds `--turns`, `--until-end` and `--end-on-3`.
 #[inline(never)]
 fn with_length<'a>(alloc: Global, command: Command<'a>) -> Result<Command<'a>, AllocError>
     requires { (fields_of command).has_globals ≡ false }
-    // The command that `with_length` returns has `--turns` and `--until-end` after its other arguments.
+    // The command that `with_length` returns has `--turns`, `--until-end` and `--end-on-3` after its other arguments.
     ensures app { IfOk result (λ made. app_of made ≡ spec.with_length (app_of command.entry)) }
     // No argument of the command that `with_length` returns is global.
     ensures local { IfOk result (λ made. (fields_of made).has_globals ≡ false) }
 {
-    let command = with_option(
+    let turned = with_option(
         alloc,
         command,
         "turns",
         "Stop after this many turns, 1 to 1,000,000; an idle turn lasts at most 5 milliseconds [required without --until-end]",
     )?;
-    with_flag(
+    let until = with_flag(
         alloc,
-        command,
+        turned,
         "until-end",
         "Instead of --turns: put each input line TYPE:HEX as a telegram, and stop when standard input ends",
+    )?;
+    with_flag(
+        alloc,
+        until,
+        "end-on-3",
+        "With --until-end: read and put no more, and end within T_max, when the other end of descriptor 3 is closed",
     )
 }
 

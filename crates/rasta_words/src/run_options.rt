@@ -43,6 +43,7 @@ pub fn ends_run<'a>(
         word,
         file,
         length,
+        end_on_3: is_chosen(entry(entries, "end-on-3")),
         log,
         time,
         stamp: is_chosen(entry(entries, "stamp")),
