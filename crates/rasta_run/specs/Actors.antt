@@ -12,6 +12,7 @@ use Rattle.rasta_run.specs.declared.leftovers.Leftovers.{Leftovers}
 use Rattle.rasta_words.specs.declared.status.ExpectedState.{ExpectedState}
 use Rattle.rasta_words.specs.declared.status.RunLength.{RunLength}
 use Rattle.rasta_words.specs.declared.status.RunLength.TheVariants.{Turns, UntilEnd}
+use Rattle.pdi_session.specs.TelegramCounts.{items_in}
 use Rattle.stack_end.specs.Certain.{confirmed_in}
 use Rattle.stack_end.specs.EndValue.{inside}
 use Rattle.stack_end.specs.Turns.{is_settled}
@@ -55,7 +56,9 @@ leftovers_of a lines =
     record {
       lines = min (lines + a.refused_lines) (2 ^ 64 - 1);
       entries = min (length a.left.now + a.refused_entries) (2 ^ 64 - 1);
-      doubt = min (a.lost + undone.doubt_of a.put a.before (confirmed_in (inside a.end).upper)) (2 ^ 64 - 1);
+      doubt = min (a.lost + undone.doubt_of a.put a.before (confirmed_in (inside a.end).upper)) (2 ^ 64 - 1)
+          - min (a.lost_unsent + items_in (inside a.end).upper.waiting) (2 ^ 64 - 1);
+      unsent = min (a.lost_unsent + items_in (inside a.end).upper.waiting) (2 ^ 64 - 1);
     }
 
 -- an end is in the expected state

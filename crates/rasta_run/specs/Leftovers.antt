@@ -14,7 +14,7 @@ use Rattle.rasta_words.specs.declared.status.Status.TheVariants.{Done, Unexpecte
 
 -- every line and every entry of `puts` was put, and everything put is confirmed
 abbrev pub is_nothing : Leftovers → Bool
-is_nothing u = nat_eq u.lines 0 && (nat_eq u.entries 0 && nat_eq u.doubt 0)
+is_nothing u = nat_eq u.lines 0 && (nat_eq u.entries 0 && (nat_eq u.doubt 0 && nat_eq u.unsent 0))
 
 -- the lines that were not put
 unfoldable pub lines_text : ℕ → List ℕ
@@ -26,12 +26,17 @@ entries_text entries = join_pieces (decimal entries ∷ codes " entries of puts;
 
 -- the telegrams in doubt
 unfoldable pub doubt_text : ℕ → List ℕ
-doubt_text doubt = join_pieces (codes "in doubt: " ∷ decimal doubt ∷ codes " telegrams put and not confirmed\n" ∷ [])
+doubt_text doubt = join_pieces (codes "in doubt: " ∷ decimal doubt ∷ codes " telegrams sent and not confirmed; " ∷ [])
+
+-- the telegrams that were put and not sent
+unfoldable pub unsent_text : ℕ → List ℕ
+unsent_text unsent = join_pieces (codes "not sent: " ∷ decimal unsent ∷ codes "\n" ∷ [])
 
 -- the line of what an end leaves undone
 abbrev pub undone_line : Side → Leftovers → List ℕ
 undone_line side u =
-    join_pieces (side_name side ∷ lines_text u.lines ∷ entries_text u.entries ∷ doubt_text u.doubt ∷ [])
+    join_pieces (side_name side ∷ lines_text u.lines ∷ entries_text u.entries ∷ doubt_text u.doubt ∷
+    unsent_text u.unsent ∷ [])
 
 -- what is printed of it: nothing, if nothing is left undone
 abbrev pub printed_line : Side → Leftovers → List ℕ

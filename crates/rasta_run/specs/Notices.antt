@@ -10,11 +10,11 @@ use Rattle.rasta_run.specs.declared.channel_failures.Call.TheVariants.{Send, Rec
 use Rattle.rasta_run.specs.declared.notices.Notice.{Notice}
 use Rattle.rasta_run.specs.declared.notices.Notice.TheVariants.{CallsFail, CallsSucceed, Unanswered, Drops, WrongRequest, OtherVersion, InDoubt, NoTurn, Fruitless, Session, Unread, Behind, OutputFails, Ending}
 
--- the connection is lost, and this many telegrams were put and not confirmed
-unfoldable pub in_doubt_text : ℕ → List ℕ
-in_doubt_text count =
-    join_pieces (codes "the connection is lost; " ∷ decimal count ∷
-    codes " telegrams are in doubt: put and not confirmed" ∷ [])
+-- the connection is lost; this many telegrams were sent and not confirmed, and this many not sent
+unfoldable pub in_doubt_text : (sent unsent : ℕ) → List ℕ
+in_doubt_text sent unsent =
+    join_pieces (codes "the connection is lost; telegrams in doubt, sent and not confirmed: " ∷ decimal sent ∷
+    codes "; not sent: " ∷ decimal unsent ∷ [])
 
 -- the end took no turn for this many milliseconds
 unfoldable pub no_turn_text : ℕ → List ℕ
@@ -108,7 +108,7 @@ notice_text (Unanswered milliseconds) = unanswered_text milliseconds
 notice_text (Drops count) = drops_text count
 notice_text WrongRequest = codes "a connection request came, which only an interlocking makes: the peer is one, too"
 notice_text (OtherVersion version) = other_version_text version
-notice_text (InDoubt count) = in_doubt_text count
+notice_text (InDoubt sent unsent) = in_doubt_text sent unsent
 notice_text (NoTurn milliseconds) = no_turn_text milliseconds
 notice_text (Fruitless count) = fruitless_text count
 notice_text (Session count) = session_text count

@@ -89,6 +89,7 @@ gap_most = 1_500
 abbrev pub gap_notice : (gap : ℕ) → Option Notice
 gap_notice gap = if nat_lt gap_most gap then Some (NoTurn gap) else None
 
--- the notice of a connection that is found closed with telegrams in doubt
-abbrev pub loss_notice : (before now : Bool) → (doubt : ℕ) → Option Notice
-loss_notice before now doubt = if now && (not before && nat_lt 0 doubt) then Some (InDoubt doubt) else None
+-- the notice of a connection that is found closed with telegrams that are not confirmed
+abbrev pub loss_notice : (before now : Bool) → (open unsent : ℕ) → Option Notice
+loss_notice before now open unsent =
+    if now && (not before && nat_lt 0 open) then Some (InDoubt (open - unsent) unsent) else None

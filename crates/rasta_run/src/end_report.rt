@@ -9,6 +9,7 @@ ghost use Rattle.rasta_run.specs.Counters.{run_counts_of};
 ghost use Rattle.rasta_run.specs.Counts as counts;
 ghost use Rattle.rasta_run.specs.LineTimes.{LogsLine, LogsNotice};
 ghost use Rattle.rasta_run.specs.ExpectedStates.{is_expected};
+ghost use Rattle.pdi_session.specs.TelegramCounts.{items_in};
 ghost use Rattle.rasta_run.specs.Leftovers as undone;
 ghost use Rattle.rasta_run.specs.Waits.{IsDeadlineOf, again_at};
 ghost use Rattle.stack_end.specs.Certain.{confirmed_in};
@@ -55,18 +56,23 @@ impl<C: Channels, A: Allocator + Copy> Actor<'_, C, A> {
     /// Returns what is left undone, if this many lines of input were not offered to the end.
     pub fn undone(&self, lines: u64) -> Leftovers
         // `undone` adds the lines that were refused to those not offered, the entries that were refused to those
-        // left, and the telegrams in doubt to those of lost connections.
+        // left, and the telegrams not confirmed to those of lost connections. Of these it tells apart those that were
+        // not sent.
         ensures { result ≡ record {
           lines = min (lines + self.now.refused_lines) (2 ^ 64 - 1);
           entries = min (length self.now.left.now + self.now.refused_entries) (2 ^ 64 - 1);
-          doubt = min (self.now.lost + undone.doubt_of self.now.put self.now.before (confirmed_in (inside self.now.end).upper)) (2 ^ 64 - 1);
+          doubt = min (self.now.lost + undone.doubt_of self.now.put self.now.before (confirmed_in (inside self.now.end).upper)) (2 ^ 64 - 1)
+              - min (self.now.lost_unsent + items_in (inside self.now.end).upper.waiting) (2 ^ 64 - 1);
+          unsent = min (self.now.lost_unsent + items_in (inside self.now.end).upper.waiting) (2 ^ 64 - 1);
         } }
     {
         let left = self.left.len() as u64;
+        let unsent = self.lost_unsent.saturating_add(self.end.unsent());
         Leftovers {
             lines: lines.saturating_add(self.refused_lines),
             entries: left.saturating_add(self.refused_entries),
-            doubt: self.lost.saturating_add(self.doubt()),
+            doubt: self.lost.saturating_add(self.doubt()).saturating_sub(unsent),
+            unsent,
         }
     }
 

@@ -28,29 +28,32 @@ pub struct Leftovers {
     pub lines: u64,
     /// The number of entries of `puts` that were not put.
     pub entries: u64,
-    /// The number of telegrams that were put and not confirmed.
+    /// The number of telegrams that were sent and not confirmed.
     pub doubt: u64,
+    /// The number of telegrams that were put and not sent.
+    pub unsent: u64,
 }
 
 impl Leftovers {
     /// Returns that nothing is left undone.
     pub fn nothing() -> Self
-        // `nothing` returns three numbers of 0.
-        ensures { result ≡ record { lines = 0; entries = 0; doubt = 0 } }
+        // `nothing` returns four numbers of 0.
+        ensures { result ≡ record { lines = 0; entries = 0; doubt = 0; unsent = 0 } }
     {
         Leftovers {
             lines: 0,
             entries: 0,
             doubt: 0,
+            unsent: 0,
         }
     }
 
     /// Returns whether everything was put and confirmed.
     pub fn is_nothing(&self) -> bool
-        // `is_nothing` is true if and only if all three numbers are 0.
+        // `is_nothing` is true if and only if all four numbers are 0.
         ensures { result ≡ undone.is_nothing self.now }
     {
-        self.lines == 0 && self.entries == 0 && self.doubt == 0
+        self.lines == 0 && self.entries == 0 && self.doubt == 0 && self.unsent == 0
     }
 
     /// Writes the line of what an end leaves undone.
@@ -59,14 +62,15 @@ impl Leftovers {
     ///
     /// - The error of the writer; what it wrote before stays written.
     pub fn write<W: Write>(&self, writer: &mut W, side: Side) -> io::Result<()>
-        // If `write` succeeds, it has appended the line with the end and the three numbers.
+        // If `write` succeeds, it has appended the line with the end and the four numbers.
         ensures { OnOk result (Appends (W.contents writer.old) (W.contents writer.new)
             (undone.undone_line side self.now)) }
     {
         write_text(writer, side_name(side))?;
         write_lines(writer, self.lines)?;
         write_entries(writer, self.entries)?;
-        write_doubt(writer, self.doubt)
+        write_doubt(writer, self.doubt)?;
+        write_unsent(writer, self.unsent)
     }
 
     /// Writes the line of what an end leaves undone, if it is anything.
@@ -109,10 +113,16 @@ fn write_doubt<W: Write>(writer: &mut W, doubt: u64) -> io::Result<()>
     // If `write_doubt` succeeds, it has appended the number of telegrams.
     ensures { OnOk result (Appends (W.contents writer.old) (W.contents writer.new) (undone.doubt_text doubt)) }
 {
-    write!(
-        writer,
-        "in doubt: {doubt} telegrams put and not confirmed\n"
-    )
+    write!(writer, "in doubt: {doubt} telegrams sent and not confirmed; ")
+}
+
+/// Writes how many telegrams were not sent.
+#[tactic(auto, unfolding(crate::specs::Leftovers::unsent_text))]
+fn write_unsent<W: Write>(writer: &mut W, unsent: u64) -> io::Result<()>
+    // If `write_unsent` succeeds, it has appended the number of telegrams.
+    ensures { OnOk result (Appends (W.contents writer.old) (W.contents writer.new) (undone.unsent_text unsent)) }
+{
+    write!(writer, "not sent: {unsent}\n")
 }
 
 /// Writes that a telegram was refused: where it comes from, its message type, and the name of the fault.

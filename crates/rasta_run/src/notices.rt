@@ -32,8 +32,8 @@ pub enum Notice {
     WrongRequest,
     /// The peer has this version of RaSTA, another one: its four bytes, as a little-endian number.
     OtherVersion(u32),
-    /// The connection is lost, and this many telegrams were put and not confirmed.
-    InDoubt(u64),
+    /// The connection is lost; this many telegrams were sent and not confirmed, and this many not sent.
+    InDoubt(u64, u64),
     /// The end took no turn for this many milliseconds.
     NoTurn(u64),
     /// This many openings in a row got no session, and openings are only counted.
@@ -102,7 +102,7 @@ fn write_what<W: Write>(writer: &mut W, notice: Notice) -> io::Result<()>
             "a connection request came, which only an interlocking makes: the peer is one, too",
         ),
         Notice::OtherVersion(version) => write_other_version(writer, version),
-        Notice::InDoubt(count) => write_in_doubt(writer, count),
+        Notice::InDoubt(sent, unsent) => write_in_doubt(writer, sent, unsent),
         Notice::NoTurn(milliseconds) => write_no_turn(writer, milliseconds),
         Notice::Fruitless(count) => write_fruitless(writer, count),
         Notice::Session(count) => write_session(writer, count),
@@ -262,15 +262,15 @@ fn bytes_of(version: u32) -> [u8; 4]
     ]
 }
 
-/// Writes how many telegrams are in doubt.
+/// Writes how many telegrams are in doubt, and how many were not sent.
 #[tactic(auto, unfolding(crate::specs::Notices::in_doubt_text))]
-fn write_in_doubt<W: Write>(writer: &mut W, count: u64) -> io::Result<()>
-    // If `write_in_doubt` succeeds, it has appended the number of telegrams, and what that means.
-    ensures { OnOk result (Appends (W.contents writer.old) (W.contents writer.new) (noticing.in_doubt_text count)) }
+fn write_in_doubt<W: Write>(writer: &mut W, sent: u64, unsent: u64) -> io::Result<()>
+    // If `write_in_doubt` succeeds, it has appended both numbers of telegrams, and what they mean.
+    ensures { OnOk result (Appends (W.contents writer.old) (W.contents writer.new) (noticing.in_doubt_text sent unsent)) }
 {
     write!(
         writer,
-        "the connection is lost; {count} telegrams are in doubt: put and not confirmed"
+        "the connection is lost; telegrams in doubt, sent and not confirmed: {sent}; not sent: {unsent}"
     )
 }
 

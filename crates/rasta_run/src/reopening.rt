@@ -5,6 +5,7 @@ ghost use Rattle.channels.specs.ChannelHistory.{SendsOne};
 ghost use Rattle.rasta_run.specs.Keepers as keeping;
 ghost use Rattle.rasta_run.specs.ExpectedStates.{is_up};
 ghost use Rattle.rasta_run.specs.Totals as totals;
+ghost use Rattle.pdi_session.specs.TelegramCounts.{items_in};
 ghost use Rattle.rasta_run.specs.Leftovers.{doubt_of};
 ghost use Rattle.stack_end.specs.Certain.{confirmed_in};
 ghost use Rattle.stack_end.specs.Datagrams.{sent_at_opening};
@@ -71,11 +72,13 @@ impl<C: Channels + Drop, A: Allocator + Copy> Actor<'_, C, A> {
           keeper = keeping.reopen_keeper now self.old.keeper;
           anew_at = None;
           lost = min (self.old.lost + doubt_of self.old.put self.old.before (confirmed_in (inside self.old.end).upper)) (2 ^ 64 - 1);
+          lost_unsent = min (self.old.lost_unsent + items_in (inside self.old.end).upper.waiting) (2 ^ 64 - 1);
           before = self.old.put;
           openings = (self.old.openings + 1) % 2 ^ 64;
         } }
     {
         self.lost = self.lost.saturating_add(self.doubt());
+        self.lost_unsent = self.lost_unsent.saturating_add(self.end.unsent());
         self.before = self.put;
         self.openings = self.openings.wrapping_add(1);
         self.keeper.note(now);
@@ -182,6 +185,7 @@ impl Actor<'_, UdpChannels> {
           keeper = self.new.keeper;
           anew_at = None;
           lost = min (self.old.lost + doubt_of self.old.put self.old.before (confirmed_in (inside self.old.end).upper)) (2 ^ 64 - 1);
+          lost_unsent = min (self.old.lost_unsent + items_in (inside self.old.end).upper.waiting) (2 ^ 64 - 1);
           before = self.old.put;
           openings = (self.old.openings + 1) % 2 ^ 64;
         }) }

@@ -8,6 +8,7 @@ ghost use Rattle.rasta_run.specs.Progress as progress;
 ghost use Rattle.rasta_run.specs.LineTimes.{LogsNotice};
 ghost use Rattle.rasta_run.specs.Totals as totals;
 ghost use Rattle.rasta_run.specs.Turns as turning;
+ghost use Rattle.pdi_session.specs.TelegramCounts.{items_in};
 ghost use Rattle.rasta_run.specs.Leftovers.{doubt_of};
 ghost use Rattle.safe_machine.specs.Connections.{is_closed};
 ghost use Rattle.stack_end.specs.Certain.{confirmed_in};
@@ -60,8 +61,10 @@ pub struct Actor<'a, C, A: Allocator = Global> {
     pub put: u64,
     /// The number of telegrams that were put before the present opening.
     pub before: u64,
-    /// The number of telegrams in doubt of connections that were lost.
+    /// The number of telegrams of connections that were lost that were not confirmed.
     pub lost: u64,
+    /// How many of these were never sent.
+    pub lost_unsent: u64,
     /// The number of lines of input that it refused.
     pub refused_lines: u64,
     /// The number of telegrams of the list that it refused.
@@ -122,7 +125,7 @@ impl<'a, C: Channels, A: Allocator + Copy> Actor<'a, C, A> {
         // A new `Actor` logs and prints as it is given.
         ensures outputs { (result.log ≡ log) × (result.teller ≡ teller) }
         // A new `Actor` has put, taken, refused and lost nothing, and got on when it was opened.
-        ensures begins { (result.put ≡ 0) × (result.before ≡ 0) × (result.lost ≡ 0) × (result.taken ≡ 0)
+        ensures begins { (result.put ≡ 0) × (result.before ≡ 0) × (result.lost ≡ 0) × (result.lost_unsent ≡ 0) × (result.taken ≡ 0)
             × (result.refused_lines ≡ 0) × (result.refused_entries ≡ 0) × (result.openings ≡ 0)
             × (result.deaf_turns ≡ 0) × (result.was_closed ≡ false) × (result.last_turn ≡ keeper.opened)
             × (result.progress ≡ progress.new_progress keeper.opened) × (result.anew_at ≡ None) }
@@ -135,6 +138,7 @@ impl<'a, C: Channels, A: Allocator + Copy> Actor<'a, C, A> {
             put: 0,
             before: 0,
             lost: 0,
+            lost_unsent: 0,
             refused_lines: 0,
             refused_entries: 0,
             openings: 0,
@@ -454,11 +458,17 @@ impl<'a, C: Channels, A: Allocator + Copy> Actor<'a, C, A> {
         // If `note_loss` succeeds, it has logged the telegrams in doubt, if there are any and the connection was
         // just found closed.
         ensures told { OnOk result (LogsNotice (turning.loss_notice self.old.was_closed (is_over (inside self.old.end))
-            (doubt_of self.old.put self.old.before (confirmed_in (inside self.old.end).upper))) self.old.log now
+            (doubt_of self.old.put self.old.before (confirmed_in (inside self.old.end).upper))
+            (items_in (inside self.old.end).upper.waiting)) self.old.log now
             (E.contents err.old) (E.contents err.new)) }
     {
         let is_closed = is_closed(self.end.state());
-        let notice = loss_notice(self.was_closed, is_closed, self.doubt());
+        let notice = loss_notice(
+            self.was_closed,
+            is_closed,
+            self.doubt(),
+            self.end.unsent(),
+        );
         self.was_closed = is_closed;
         self.log.notice(notice, now, err)
     }
@@ -534,12 +544,13 @@ fn deaf_after(works: bool, count: u64) -> u64
 }
 
 /// Returns the notice of a connection that was just found closed.
-fn loss_notice(was_closed: bool, is_closed: bool, doubt: u64) -> Option<Notice>
-    // `loss_notice` returns the number of telegrams in doubt if it is not 0 and the connection was not closed before.
-    ensures { result ≡ turning.loss_notice was_closed is_closed doubt }
+fn loss_notice(was_closed: bool, is_closed: bool, open: u64, unsent: u64) -> Option<Notice>
+    // `loss_notice` returns how many of the telegrams that are not confirmed were sent, and how many were not, if there
+    // are any and the connection was not closed before.
+    ensures { result ≡ turning.loss_notice was_closed is_closed open unsent }
 {
-    if is_closed && !was_closed && doubt > 0 {
-        return Some(Notice::InDoubt(doubt));
+    if is_closed && !was_closed && open > 0 {
+        return Some(Notice::InDoubt(open.saturating_sub(unsent), unsent));
     }
     None
 }

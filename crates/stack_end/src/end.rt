@@ -17,6 +17,7 @@ ghost use Rattle.stack_end.specs.Recent.{DatagramRecent, TickRecent};
 ghost use Rattle.red_layer.specs.Redundancy.{is_due};
 ghost use Rattle.stack_end.specs.Bounds.{IsBounded};
 ghost use Rattle.stack_end.specs.Certain.{confirmed_in};
+ghost use Rattle.pdi_session.specs.TelegramCounts.{items_in};
 ghost use Rattle.stack_end.specs.Stale.{is_stale};
 ghost use Rattle.stack_end.specs.Timely.{margin_of};
 ghost use Rattle.stack_end.specs.Reopening.{reopening_turn};
@@ -501,6 +502,18 @@ impl<C: Channels, A: Allocator> End<C, A> {
         ensures { result ≡ confirmed_in (inside self.now).upper }
     {
         self.layers.upper.confirmed()
+    }
+
+    /// Returns how many of the telegrams put since the opening wait: no PDU was made of them, so the peer cannot have
+    /// them.
+    ///
+    /// They are counted among those that are not confirmed. The number stays readable after the end has closed, until
+    /// the next opening.
+    pub fn unsent(&self) -> u64
+        // The result is the number of telegrams that wait.
+        ensures { result ≡ items_in (inside self.now).upper.waiting }
+    {
+        self.layers.upper.waiting.items() as u64
     }
 
     /// Returns the own time last confirmed by the peer, in milliseconds. After a call at which a telegram was taken it is
