@@ -17,7 +17,7 @@ mod upper;
 
 pub use departure::{Departure, Leaver};
 pub use end::End;
-pub use law::{end_law, stale_law, statistics_law, timely_law};
+pub use law::{end_law, reopening_law, stale_law, statistics_law, timely_law};
 pub use statistics::{
     MadeCounts, PartCounts, ReceptionCounts, RedFaultCounts, SafeFaultCounts, Statistics,
 };

@@ -1,0 +1,9 @@
+pub mod PairPlaces
+pub mod PartPlaces
+pub mod PduMakers
+pub mod TelegramNumbers
+pub mod EndPlaces
+pub mod EndCounts
+pub mod Polls
+pub mod Took
+pub mod OpenedAgain
