@@ -22,7 +22,6 @@ pub struct PlainAgreement {
 /// Returns an agreement in numbers.
 pub(crate) fn plain_agreement(agreed: &Agreed<'_>) -> PlainAgreement
     requires { length agreed.now.checksum.now ≤ CHECKSUM_MAX }
-    // The version, the length of the checksum and its bytes are those of the agreement; zeros follow.
     ensures { result ≡ agreement_in (agreement_of agreed.now) }
 {
     let mut checksum = [0; CHECKSUM_MAX];

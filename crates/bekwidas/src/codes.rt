@@ -72,7 +72,6 @@ pub fn of_call(answer: Result<Outcome, CallFault>) -> i32
 
 /// Returns the code of an outcome.
 fn of_outcome(outcome: Outcome) -> i32
-    // Whole is `OK`, Unsent is `UNSENT` and Lost is `LOST`.
     ensures { result ≡ code_of_outcome outcome }
 {
     match outcome {

@@ -76,7 +76,6 @@ pub extern "C" fn bekr_rooms(
 
 /// Returns the code with which an opening at time 0 is refused, or OK.
 fn code_to_open(settings: &PlainSettings) -> i32
-    // The result is the code of the first refusal, or OK.
     ensures { result ≡ code_to_open settings.now 0 }
 {
     if settings.size != PLAIN_SETTINGS_SIZE {
@@ -93,7 +92,6 @@ fn code_to_open(settings: &PlainSettings) -> i32
 
 /// Returns the code of settings that can be opened.
 fn code_of_warning(warning: Option<SettingFault>) -> i32
-    // With a warning the code is `UNWISE`, otherwise OK.
     ensures { result ≡ code_of_warning warning }
 {
     match warning {
@@ -104,7 +102,6 @@ fn code_of_warning(warning: Option<SettingFault>) -> i32
 
 /// Returns what is written for a fault.
 fn written_for(fault: Option<SettingFault>) -> SettingFault
-    // The fault itself, or zeros without a fault.
     ensures { result ≡ written_for fault }
 {
     match fault {
@@ -120,7 +117,6 @@ fn written_for(fault: Option<SettingFault>) -> SettingFault
 
 /// Returns the first of two faults.
 fn first(fault: Option<SettingFault>, other: Option<SettingFault>) -> Option<SettingFault>
-    // The first fault if there is one, otherwise the other.
     ensures { result ≡ or_else fault other }
 {
     match fault {
@@ -131,7 +127,6 @@ fn first(fault: Option<SettingFault>, other: Option<SettingFault>) -> Option<Set
 
 /// Returns the fault of a member, unless a test holds.
 fn unless(fits: bool, field: u32, value: u32, least: u32, most: u32) -> Option<SettingFault>
-    // If the test holds, there is no fault; otherwise it has these numbers.
     ensures { result ≡ unless fits field value least most }
 {
     if fits {
@@ -147,7 +142,6 @@ fn unless(fits: bool, field: u32, value: u32, least: u32, most: u32) -> Option<S
 
 /// Returns the fault of a member that is outside its range.
 fn outside(field: u32, value: u32, least: u32, most: u32) -> Option<SettingFault>
-    // There is no fault if and only if the value is at least `least` and at most `most`.
     ensures { result ≡ outside field value least most }
 {
     unless(least <= value && value <= most, field, value, least, most)
@@ -155,7 +149,6 @@ fn outside(field: u32, value: u32, least: u32, most: u32) -> Option<SettingFault
 
 /// Returns the first member that is wrong.
 fn first_fault(settings: &PlainSettings) -> Option<SettingFault>
-    // The first fault of the front, of the numbers, of the lists, and of the rooms, in this order.
     ensures { result ≡ first_fault settings.now }
 {
     let numbers = in_numbers(settings);
@@ -165,8 +158,6 @@ fn first_fault(settings: &PlainSettings) -> Option<SettingFault>
 
 /// Returns the first fault of size, side, identifiers, protocol type and safety code.
 fn in_front(s: &PlainSettings) -> Option<SettingFault>
-    // The size is this version's, the side is 1 or 2, the identifiers differ, the protocol type is at most 255, and the
-    // safety code has 8 or 16 bytes; otherwise the first that is not so is returned.
     ensures { result ≡ in_front s.now }
 {
     let code = unless(s.code == 8 || s.code == 16, 7, s.code, 8, 16);
@@ -181,7 +172,6 @@ fn in_front(s: &PlainSettings) -> Option<SettingFault>
 
 /// Returns the first fault of the numbers of the layers.
 fn in_numbers(s: &PlainSettings) -> Option<SettingFault>
-    // The first number, from `channels` to `pdu_limit`, that is outside its range, if one is.
     ensures { result ≡ in_numbers s.now }
 {
     let limit = outside(16, s.pdu_limit, 100, 4_294_901_760);
@@ -199,7 +189,6 @@ fn in_numbers(s: &PlainSettings) -> Option<SettingFault>
 
 /// Returns the first fault of lists and names.
 fn in_lists(s: &PlainSettings) -> Option<SettingFault>
-    // The first fault of the numbers of versions and checksum bytes, of versions that are equal, and of the two names.
     ensures { result ≡ in_lists s.now }
 {
     let most = most_versions(s.side);
@@ -221,7 +210,6 @@ fn in_lists(s: &PlainSettings) -> Option<SettingFault>
 
 /// Returns the greatest number of versions of a side.
 fn most_versions(side: u32) -> u32
-    // One for an interlocking, otherwise four.
     ensures { result ≡ most_versions side }
 {
     if side == 1 { 1 } else { 4 }
@@ -229,7 +217,6 @@ fn most_versions(side: u32) -> u32
 
 /// Returns false if two versions are equal, or if the list is empty.
 fn have_versions(s: &PlainSettings) -> bool
-    // Of at most four versions no two are equal, and there is one; more are not looked at.
     ensures { result ≡ have_versions s.now }
 {
     if s.version_count > 4 {
@@ -240,7 +227,6 @@ fn have_versions(s: &PlainSettings) -> bool
 
 /// Returns the first fault of the rooms.
 fn in_rooms(s: &PlainSettings) -> Option<SettingFault>
-    // There must be room for 27 telegrams, and for 37 datagrams for each channel.
     ensures { result ≡ in_rooms s.now }
 {
     let least = s.channels.saturating_mul((WINDOW_MAX + PART_PDUS) as u32);
@@ -252,8 +238,6 @@ fn in_rooms(s: &PlainSettings) -> Option<SettingFault>
 
 /// Returns the first member with which an end opens and works badly.
 fn first_warning(s: &PlainSettings) -> Option<SettingFault>
-    // `mwa` is to be below `n_sendmax`, `t_seq` below `t_max`, and `q` enough for what is deferred after one lost
-    // datagram.
     ensures { result ≡ first_warning s.now }
 {
     let deferred = outside(11, s.q, most_deferred(s.n_sendmax, s.mwa), 8);
@@ -276,7 +260,6 @@ fn first_warning(s: &PlainSettings) -> Option<SettingFault>
 
 /// Returns how many parts can be deferred after one lost datagram.
 fn most_deferred(window: u32, mwa: u32) -> u32
-    // The other units of a window, and the heartbeats that confirm its units.
     ensures { result ≡ most_deferred window mwa }
 {
     if mwa == 0 {

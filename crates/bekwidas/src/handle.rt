@@ -32,7 +32,6 @@ impl Model for Handle {
 impl Handle {
     /// Makes a handle from the parts of a box.
     fn of_parts(parts: Parts<Station, Global>) -> Handle
-        // The handle holds the station of the box.
         ensures { result.held ≡ Some parts.value }
     {
         let Parts { ptr, alloc } = parts;
@@ -45,7 +44,6 @@ impl Handle {
     /// Returns the parts of the box that a handle holds.
     fn into_parts(self) -> Parts<Station, Global>
         requires { IsSome self.held }
-        // The parts are those of the station that the handle held.
         ensures { Some result.value ≡ self.held }
     {
         let Handle { ptr, alloc } = self;
@@ -57,7 +55,6 @@ impl Handle {
 
     /// Makes a handle without a station.
     fn empty(alloc: Global) -> Handle
-        // An empty handle holds nothing.
         ensures { result.held ≡ None }
     {
         Handle {

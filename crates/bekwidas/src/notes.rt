@@ -72,7 +72,6 @@ pub fn plain_note(note: StationNote) -> PlainNote
 
 /// Returns the number of what the redundancy layer did with a datagram.
 fn of_event(event: RedEvent) -> i32
-    // Passed, deferred, old, repeated, too far ahead, without a place and damaged are 0 to 6, in this order.
     ensures { result ≡ code_of_event event }
 {
     match event {
@@ -88,7 +87,6 @@ fn of_event(event: RedEvent) -> i32
 
 /// Returns the number of the test that a datagram failed, or 0.
 fn failed_by_datagram(event: RedEvent) -> u32
-    // A damaged datagram has the number of its fault, any other has 0.
     ensures { result ≡ fault_of_event event }
 {
     match event {
@@ -99,7 +97,6 @@ fn failed_by_datagram(event: RedEvent) -> u32
 
 /// Returns the number of what the safety machine did with a part.
 fn of_step(step: Step) -> i32
-    // Taken, gap, left and nothing are 0 to 3, in this order; a dropped part has the number of its cause.
     ensures { result ≡ code_of_step step }
 {
     match step {
@@ -113,7 +110,6 @@ fn of_step(step: Step) -> i32
 
 /// Returns the number of why the safety machine dropped a part.
 fn of_cause(cause: DropCause) -> i32
-    // Damaged, of a stranger, not opened, too far, not requested, answered before and below are 4 to 10, in this order.
     ensures { result ≡ code_of_cause cause }
 {
     match cause {
@@ -129,7 +125,6 @@ fn of_cause(cause: DropCause) -> i32
 
 /// Returns the number of the test that a part failed, or 0.
 fn failed_by_part(step: Step) -> u32
-    // A damaged part has the number of its fault, any other has 0.
     ensures { result ≡ fault_of_step step }
 {
     match step {

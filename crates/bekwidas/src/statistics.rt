@@ -108,7 +108,6 @@ pub struct PlainStatistics {
 
 /// Returns the counts of a channel in numbers.
 fn plain_receptions(counts: ReceptionCounts) -> PlainReceptions
-    // Each number is the count of its name. No time is 2^64 - 1.
     ensures { result ≡ plain.receptions_of counts }
 {
     let last = match counts.last {
@@ -130,7 +129,6 @@ fn plain_receptions(counts: ReceptionCounts) -> PlainReceptions
 
 /// Returns the counts of a channel's damaged datagrams in numbers.
 fn plain_red_faults(counts: RedFaultCounts) -> PlainRedFaults
-    // Each number is the count of the datagrams with this fault.
     ensures { result ≡ plain.red_faults_of counts }
 {
     PlainRedFaults {
@@ -142,7 +140,6 @@ fn plain_red_faults(counts: RedFaultCounts) -> PlainRedFaults
 
 /// Returns the counts of damaged parts in numbers.
 fn plain_safe_faults(counts: SafeFaultCounts) -> PlainSafeFaults
-    // Each number is the count of the parts with this fault.
     ensures { result ≡ plain.safe_faults_of counts }
 {
     PlainSafeFaults {
@@ -156,7 +153,6 @@ fn plain_safe_faults(counts: SafeFaultCounts) -> PlainSafeFaults
 
 /// Returns all counts of an end in numbers.
 pub(crate) fn plain_statistics(counts: Statistics) -> PlainStatistics
-    // Each number is the count of its name, and the channels are in order.
     ensures { result ≡ plain.statistics_in counts }
 {
     let [first, second, third, fourth] = counts.channels;

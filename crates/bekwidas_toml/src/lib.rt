@@ -130,7 +130,6 @@ enum Unread {
 
 /// Returns the side with this number.
 fn side_of(side: u32) -> Option<Side>
-    // The number 1 is the interlocking, 2 the field element, and any other no side.
     ensures { result ≡ side_in side }
 {
     match side {
@@ -142,8 +141,6 @@ fn side_of(side: u32) -> Option<Side>
 
 /// Returns the address of a channel, numbered from 1.
 fn address_of(file: &Settings, is_remote: u32, channel: u32) -> Option<&str>
-    // The address is that of the list at place `channel` - 1, and `None` if there is no such place or the channel
-    // is 0.
     ensures { option_map (λ a. a.now) result ≡ address_of is_remote channel (settings_seen file.now) }
 {
     if channel == 0 {
@@ -155,7 +152,6 @@ fn address_of(file: &Settings, is_remote: u32, channel: u32) -> Option<&str>
 
 /// Returns the own addresses, or the peer's.
 fn addresses(file: &Settings, is_remote: u32) -> &[String]
-    // The own addresses are returned if `is_remote` is 0, otherwise the peer's.
     ensures { map string_bytes result.now ≡ addresses_in is_remote (settings_seen file.now) }
 {
     if is_remote == 0 {
@@ -201,7 +197,6 @@ fn report(alloc: Global, fault: &Unread, row: &mut [u8], length: &mut usize) -> 
 
 /// Writes a text to `row`, cut to its length, and the size of the complete text to `length`.
 fn write_told(text: &str, row: &mut [u8], length: &mut usize) -> i32
-    // `write_told` always returns `NO_SETTINGS`.
     ensures { result ≡ NO_SETTINGS }
 {
     let octets = text.as_bytes();

@@ -249,7 +249,6 @@ pub extern "C" fn bench_end_rows(
 /// Writes datagrams after the filled part of a buffer, as far as there is room. Returns how many bytes are filled.
 fn keep(datagrams: &ArrayVec<Datagram, KEPT_MAX>, row: &mut [u8], filled: usize) -> usize
     requires { filled ≤ length row.old }
-    // `keep` never fills more than the buffer has.
     ensures { result ≤ length row.new }
 {
     let mut filled = filled;

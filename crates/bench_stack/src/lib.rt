@@ -115,7 +115,6 @@ pub extern "C" fn bench_repeats(alloc: Global, datagrams: &[u8], size: usize, ti
 /// Writes bytes after the filled part of a buffer, if there is room. Returns how many bytes are filled.
 fn append(row: &mut [u8], filled: usize, more: &[u8]) -> usize
     requires { filled ≤ length row.old }
-    // `append` never fills more than the buffer has.
     ensures { result ≤ length row.new }
 {
     if more.len() > row.len() - filled {

@@ -133,7 +133,6 @@ struct Ends {
 
 /// Opens two ends and a connection between them. Both are then in Up.
 fn open_connection(alloc: Global, code: u32, mwa: u32) -> Option<Ends>
-    // The client has received one PDU and the server two; each raises the index of the next one by at most 321.
     ensures { IfSome result (λ ends. (ends.client.expected ≤ 321) × (ends.server.expected ≤ 642)) }
 {
     let mut asked = Latest::new();
@@ -276,7 +275,6 @@ pub extern "C" fn bench_machine_sends(
 /// Sends a unit `times` times, or until the window is full.
 fn send_times(client: &mut Machine, unit: &Unit, times: u32, made: &mut Counted)
     requires { IsUnitSized unit.now.items }
-    // `send_times` does not change the index of the peer's next PDU.
     ensures { client.new.expected ≡ client.old.expected }
 {
     for _ in 0..times {

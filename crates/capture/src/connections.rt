@@ -75,7 +75,6 @@ impl Model for Entry {
 impl Entry {
     /// Makes it a connection between two ends without PDUs.
     fn reopen(&mut self, low: u32, high: u32)
-        // The connection is new, whatever it was before.
         ensures { self.new ≡ new_connection low high }
     {
         self.connection.reopen(low, high);
@@ -156,7 +155,6 @@ impl Connections {
 
 /// Returns an entry in new memory.
 fn new_entry(alloc: Global) -> Result<Entry, AllocError>
-    // The entry has a connection without PDUs.
     ensures { IfOk result (λ entry. entry ≡ new_connection 0 0) }
 {
     let sessions = Sessions::new(alloc)?;
@@ -207,7 +205,6 @@ fn follow_entry(entry: &mut Entry, line: u64, record: &Record, seq: u32, header:
 
 /// Returns `true` if a PDU needs a further connection and one must be forgotten.
 pub(crate) fn has_no_room(connections: &Connections, record: &Record, header: &Header) -> bool
-    // The result is true exactly if `CONNECTIONS` are kept and none is the PDU's (`connection_place`).
     ensures { result ≡ forgets_connection connections.now record.now header.now }
 {
     if connections.list.len() < CONNECTIONS {
@@ -218,8 +215,6 @@ pub(crate) fn has_no_room(connections: &Connections, record: &Record, header: &H
 
 /// Moves the connection of a PDU to the end of the list, or adds a new one in the entry `spare`.
 fn bring_to_end(connections: &mut Connections, record: &Record, header: &Header, spare: Entry)
-    // The list is the others that stay, in order, then the connection of the PDU, new if there was none (`other_connections`,
-    // `connection_of`).
     ensures { connections.new ≡ other_connections header.now record.now connections.old ++ connection_of header.now record.now connections.old ∷ [] }
 {
     match place(connections.list.as_slice(), record, header) {
@@ -267,7 +262,6 @@ fn push(list: &mut Vec<Entry>, entry: Entry)
 
 /// Returns the identifiers of two ends, the lower one first.
 fn ends(sender: Identifier, receiver: Identifier) -> (Identifier, Identifier)
-    // The pair is sorted: the lower identifier is the first (`ends_of`).
     ensures { result ≡ ends_of sender receiver }
 {
     if sender <= receiver {
@@ -330,7 +324,6 @@ fn behind_continued(list: &[Entry], header: &Header) -> Option<usize>
 
 /// Returns `true` if a connection is between a PDU's ends and its addresses.
 fn is_between(connection: &Connection, record: &Record, header: &Header) -> bool
-    // Both identifiers are compared, then the addresses of each channel.
     ensures { result ≡ (has_ends connection.now header.now && has_channel connection.now record.now) }
 {
     joins_ends(connection, header) && is_way(connection, record)
@@ -338,7 +331,6 @@ fn is_between(connection: &Connection, record: &Record, header: &Header) -> bool
 
 /// Returns `true` if a connection is between a PDU's ends and the PDU goes on with it.
 fn is_before(connection: &Connection, header: &Header) -> bool
-    // Both identifiers are compared, then the numbers of both ends (`is_continued`).
     ensures { result ≡ (has_ends connection.now header.now && is_continued connection.now header.now) }
 {
     joins_ends(connection, header) && continues(connection, header)
@@ -346,7 +338,6 @@ fn is_before(connection: &Connection, header: &Header) -> bool
 
 /// Returns `true` if a connection is between the ends of a PDU.
 fn joins_ends(connection: &Connection, header: &Header) -> bool
-    // Both identifiers are compared.
     ensures { result ≡ has_ends connection.now header.now }
 {
     let (low, high) = ends(header.sender, header.receiver);
@@ -363,7 +354,6 @@ pub fn has_identifiers(connection: &Connection, low: u32, high: u32) -> bool
 
 /// Returns `true` if a PDU goes on with what the ends of a connection have sent.
 fn continues(connection: &Connection, header: &Header) -> bool
-    // The direction of the PDU's end is the first that is compared (`is_continued`).
     ensures { result ≡ is_continued connection.now header.now }
 {
     if comes_from_low(connection, header) {
@@ -397,7 +387,6 @@ fn closed_place(list: &[Entry]) -> Option<usize>
 
 /// Returns `true` if an end has left the current session of a connection.
 fn is_left(connection: &Connection) -> bool
-    // A DiscReq of either end is enough.
     ensures { result ≡ is_closed connection.now }
 {
     connection.sessions.current.low.left.is_sent()
@@ -422,7 +411,6 @@ fn make_room(list: &mut Vec<Entry>, spare: &mut Option<Entry>)
 
 /// Returns an entry with a connection between two ends without PDUs.
 fn start_connection(spare: Entry, low: u32, high: u32) -> Entry
-    // The connection is new, whatever the entry had before.
     ensures { result ≡ new_connection low high }
 {
     let mut entry = spare;
@@ -432,7 +420,6 @@ fn start_connection(spare: Entry, low: u32, high: u32) -> Entry
 
 /// Returns a connection without identifiers and PDUs.
 fn open(sessions: Sessions) -> Connection
-    // The connection has the identifiers 0 and 0, no time, no channels, both directions empty, and these `sessions`.
     ensures { result ≡ record (new_connection 0 0) { sessions = sessions } }
 {
     Connection {
@@ -450,7 +437,6 @@ fn open(sessions: Sessions) -> Connection
 impl Connection {
     /// Makes it a connection between two ends without PDUs. It keeps its memory.
     fn reopen(&mut self, low: u32, high: u32)
-        // The connection has the identifiers `low` and `high`, and nothing of what it was before.
         ensures { self.new ≡ new_connection low high }
     {
         self.low = low;
@@ -524,7 +510,6 @@ fn follow_way(
 
 /// Returns `true` if the end with the lower identifier made a PDU.
 fn comes_from_low(connection: &Connection, header: &Header) -> bool
-    // The sender of the PDU is compared with the lower identifier.
     ensures { result ≡ is_from_low connection.now header.now }
 {
     header.sender == connection.low
@@ -551,7 +536,6 @@ fn note_route(routes: &mut [Option<Route>; CHANNELS], from_low: bool, record: &R
 
 /// Returns the addresses of both ends.
 fn addresses(from_low: bool, record: &Record) -> Route
-    // The source is the address of the end that made the datagram: the lower one if `from_low` (`route_from`).
     ensures { result ≡ route_from from_low record.now }
 {
     if from_low {
@@ -578,7 +562,6 @@ fn route_place(routes: &[Option<Route>; CHANNELS], record: &Record) -> Option<us
 
 /// Returns `true` if a place is free, or has the channel between a datagram's addresses.
 fn holds(route: &Option<Route>, record: &Record) -> bool
-    // A free place counts; a used one only if its addresses are those of the `record`, in either direction.
     ensures { result ≡ is_held route.now record.now }
 {
     match route {
@@ -589,8 +572,6 @@ fn holds(route: &Option<Route>, record: &Record) -> bool
 
 /// Returns `true` if a channel is between a datagram's addresses, in either direction.
 fn joins(route: &Route, record: &Record) -> bool
-    // Both addresses of the `route` are those of the source and destination, in this or the other order
-    // (`is_between`).
     ensures { result ≡ is_between route.now record.now }
 {
     is_same(route.low, record.source) && is_same(route.high, record.destination)
@@ -602,8 +583,6 @@ fn joins(route: &Route, record: &Record) -> bool
 ///
 /// `damage` is its redundancy number and line, if it has such a number.
 pub(crate) fn note_damage(connections: &mut Connections, record: &Record, damage: Option<Damage>)
-    // The count of damage on that channel grows, and the `damage` is kept, in the last connection that has it; without
-    // one, nothing changes (`damage_at`).
     ensures { connections.new ≡ count_damaged_datagram connections.old record.now damage }
 {
     if let Some(behind) = behind(connections.list.as_slice(), record) {
@@ -614,7 +593,6 @@ pub(crate) fn note_damage(connections: &mut Connections, record: &Record, damage
 
 /// Counts a datagram that is not a PDU in the connection of an entry.
 fn damage_entry(entry: &mut Entry, record: &Record, damage: Option<Damage>)
-    // The connection changes as `count_connection_damage` says.
     ensures { entry.new ≡ count_connection_damage entry.old record.now damage }
 {
     damage_connection(&mut entry.connection, record, damage);
@@ -634,7 +612,6 @@ fn behind(list: &[Entry], record: &Record) -> Option<usize>
 
 /// Returns `true` if a connection has a datagram's channel.
 fn is_way(connection: &Connection, record: &Record) -> bool
-    // The result is true exactly if one of its channels is between the addresses of the `record`.
     ensures { result ≡ has_channel connection.now record.now }
 {
     known_place(&connection.routes, record).is_some()
@@ -652,7 +629,6 @@ fn known_place(routes: &[Option<Route>; CHANNELS], record: &Record) -> Option<us
 
 /// Returns `true` if a place has a datagram's channel.
 fn knows(route: &Option<Route>, record: &Record) -> bool
-    // A free place does not count; a used one is compared by its addresses.
     ensures { result ≡ is_known route.now record.now }
 {
     match route {
@@ -663,8 +639,6 @@ fn knows(route: &Option<Route>, record: &Record) -> bool
 
 /// Counts a datagram that is not a PDU on its channel, for the end whose address sent it.
 fn damage_connection(connection: &mut Connection, record: &Record, damage: Option<Damage>)
-    // The count grows, and the `damage` is kept, in the direction of the end whose address is the source; without such
-    // a channel, nothing changes (`count_connection_damage`).
     ensures { connection.new ≡ count_connection_damage connection.old record.now damage }
 {
     if let Some(place) = known_place(&connection.routes, record) {
@@ -678,7 +652,6 @@ fn damage_connection(connection: &mut Connection, record: &Record, damage: Optio
 
 /// Returns `true` if the address of the end with the lower identifier sent a datagram.
 fn is_low(route: &Option<Route>, record: &Record) -> bool
-    // The source of the `record` is compared with the lower end's address; a free place has none.
     ensures { result ≡ is_source_low route.now record.now }
 {
     match route {
@@ -690,7 +663,6 @@ fn is_low(route: &Option<Route>, record: &Record) -> bool
 /// Counts one more damaged datagram on a channel, and keeps its redundancy number.
 fn count_damage(direction: &mut Direction, place: usize, damage: Option<Damage>)
     requires { place < CHANNELS }
-    // The count at `place` grows by 1, limited to 2^64 - 1, and the `damage` is kept.
     ensures { direction.new ≡ count_damage_at direction.old place damage }
 {
     direction.damaged[place] = direction.damaged[place].saturating_add(1);
@@ -707,7 +679,6 @@ pub fn is_same(one: Address, other: Address) -> bool
 
 /// Compares two hosts.
 fn is_host(one: Host, other: Host) -> bool
-    // Hosts are the same if both are IPv4 or both IPv6, with equal bytes.
     ensures { result ≡ is_same_host one other }
 {
     match (one, other) {
@@ -719,7 +690,6 @@ fn is_host(one: Host, other: Host) -> bool
 
 /// Compares four bytes with four others.
 fn is_four(one: [u8; 4], other: [u8; 4]) -> bool
-    // The result is true exactly if each byte is equal to the one at its place.
     ensures { result ≡ bytes_eq one other }
 {
     one[0] == other[0] && one[1] == other[1] && one[2] == other[2] && one[3] == other[3]

@@ -13,8 +13,6 @@ use safe_pdu::Kind;
 
 /// Returns `true` if a PDU goes on with what its own end and the other end have sent.
 pub(crate) fn goes_on(own: &Direction, other: &Direction, header: &Header) -> bool
-    // An opening must be a copy of the last one of its end, or confirm that of the other end. Any other PDU must have a
-    // sequence number near the newest of its end, or confirm one near the newest of the other end.
     ensures { result ≡ goes_on_with own.now other.now header.now }
 {
     match header.kind {
@@ -35,7 +33,6 @@ pub(crate) fn goes_on(own: &Direction, other: &Direction, header: &Header) -> bo
 
 /// Returns `true` if an opening has this sequence number and timestamp.
 fn is_opening_with(opening: Option<SessionOpening>, sn: u32, ts: u32) -> bool
-    // Both numbers are compared; without an `opening` the result is false.
     ensures { result ≡ is_opening_at opening sn ts }
 {
     match opening {
@@ -46,7 +43,6 @@ fn is_opening_with(opening: Option<SessionOpening>, sn: u32, ts: u32) -> bool
 
 /// Returns `true` if a number is near the newest one.
 fn is_close(newest: Option<u32>, number: u32) -> bool
-    // It may be up to `PASSED_MAX` + 1 ahead of it, or behind it (`is_near`).
     ensures { result ≡ is_near newest number }
 {
     match newest {

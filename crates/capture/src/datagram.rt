@@ -61,7 +61,6 @@ pub fn decode(octets: &[u8], rule: &CodeRule) -> DecodedDatagram
 
 /// Decodes the part of a redundancy PDU.
 fn decode_upper(seq: u32, upper: &[u8], rule: &CodeRule) -> DecodedDatagram
-    // The result is the header of the safety PDU in `upper`, or its fault, each with the redundancy number `seq`.
     ensures { result ≡ datagram_above seq upper.now (safe_seen rule.now upper.now) }
 {
     match safe_pdu::decode(upper, rule) {
@@ -73,8 +72,6 @@ fn decode_upper(seq: u32, upper: &[u8], rule: &CodeRule) -> DecodedDatagram
 /// Copies the header fields of a safety PDU and computes its fingerprint.
 fn read_header(pdu: &SafePdu<'_>, octets: &[u8]) -> Header
     requires { IsBody pdu.now.kind pdu.now.body.now }
-    // The header has the fields of the `pdu`, the fingerprint of all its bytes, and the reason of a DiscReq
-    // (`header_of`).
     ensures { result ≡ header_of (pdu_of pdu.now) (fingerprint_of octets.now) }
 {
     Header {
@@ -113,7 +110,6 @@ pub fn spell(octets: &[u8]) -> u64
 
 /// Adds a digit to a fingerprint.
 fn join_digit(fingerprint: u64, digit: u32) -> u64
-    // The result is the fingerprint times the base plus the digit, modulo 2^64.
     ensures { result ≡ with_digit fingerprint digit }
 {
     fingerprint
@@ -124,7 +120,6 @@ fn join_digit(fingerprint: u64, digit: u32) -> u64
 /// Returns reason and detail of a DiscReq.
 fn departure(kind: Kind, body: &[u8]) -> Option<Leaving>
     requires { IsBody kind body.now }
-    // Only a DiscReq has a reason and a detail; they are read from its `body`.
     ensures { result ≡ leaving_of kind body.now }
 {
     match kind {

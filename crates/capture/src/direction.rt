@@ -285,8 +285,6 @@ fn follow_opened(
 
 /// Returns what an end said, as far as it concerns a PDU of the other end.
 pub(crate) fn see_peer(direction: &Direction, header: &Header) -> Peer
-    // The result has the timestamps of the last opening and the newest PDU, the timestamp that the PDU confirms
-    // which `header` confirms, and the line of the PDU for which it asks (`peer_of`).
     ensures { result ≡ peer_of direction.now header.now }
 {
     Peer {
@@ -299,8 +297,6 @@ pub(crate) fn see_peer(direction: &Direction, header: &Header) -> Peer
 
 /// Returns the line of the PDU for which a RetrReq asks.
 fn asked_line(sequence: &Window, header: &Header) -> Option<u64>
-    // A RetrReq asks for the sequence number after the one that it confirms; any other PDU asks for none
-    // (`requested_line`).
     ensures { result ≡ requested_line sequence.now header.now }
 {
     if matches!(header.kind, Kind::RetrReq) {
@@ -311,7 +307,6 @@ fn asked_line(sequence: &Window, header: &Header) -> Option<u64>
 
 /// Returns the line of a damaged datagram with a redundancy number.
 fn damaged_before(damages: &[Option<Damage>; DAMAGES], number: u32) -> Option<u64>
-    // The slot of the `number` must have exactly this number (`damage_with`).
     ensures { result ≡ damage_with damages.now number }
 {
     let damage = damages[number as usize % DAMAGES]?;
@@ -323,7 +318,6 @@ fn damaged_before(damages: &[Option<Damage>; DAMAGES], number: u32) -> Option<u6
 
 /// Keeps a damaged datagram, if it has a redundancy number.
 pub(crate) fn keep_damage(damages: &mut [Option<Damage>; DAMAGES], damage: Option<Damage>)
-    // Only the slot of its number changes (`damages_after`).
     ensures { damages.new ≡ damages_after damages.old damage }
 {
     if let Some(damage) = damage {
@@ -333,7 +327,6 @@ pub(crate) fn keep_damage(damages: &mut [Option<Damage>; DAMAGES], damage: Optio
 
 /// Returns a line if a PDU is new.
 fn if_new(is_new: bool, line: Option<u64>) -> Option<u64>
-    // A copy has no line.
     ensures { result ≡ line_if is_new line }
 {
     if is_new { line } else { None }
@@ -341,7 +334,6 @@ fn if_new(is_new: bool, line: Option<u64>) -> Option<u64>
 
 /// Returns the timestamp of an opening.
 fn timestamp_of_opening(opening: Option<SessionOpening>) -> Option<u32>
-    // The result is the TS of the `opening`, or `None` without one.
     ensures { result ≡ opening_timestamp opening }
 {
     let opening = opening?;
@@ -350,8 +342,6 @@ fn timestamp_of_opening(opening: Option<SessionOpening>) -> Option<u32>
 
 /// Returns the timestamp that the PDU confirms which a PDU confirms.
 fn find_confirmed(confirmations: &[Option<Confirmation>; KEPT], header: &Header) -> Option<u32>
-    // The PDU is the one with the CS of `header` as its SN and the CTS as its TS; `None` without it
-    // (`confirmed_timestamp`).
     ensures { result ≡ confirmed_timestamp confirmations.now header.now }
 {
     let confirmation = confirmations[header.cs as usize % KEPT]?;
@@ -367,7 +357,6 @@ fn keep_confirmation(
     is_new: bool,
     header: &Header,
 )
-    // Only the entry in the slot of the SN changes, and only if the PDU `is_new`; a ConnReq leaves it empty.
     ensures { confirmations.new ≡ confirmations_after is_new confirmations.old header.now }
 {
     if is_new {
@@ -377,7 +366,6 @@ fn keep_confirmation(
 
 /// Returns what a PDU confirms.
 fn read_confirmation(header: &Header) -> Option<Confirmation>
-    // A ConnReq confirms nothing; any other PDU has its SN, TS and CTS.
     ensures { result ≡ confirmation_of header.now }
 {
     if matches!(header.kind, Kind::ConnReq) {
@@ -398,8 +386,6 @@ fn confirm(
     confirmed: Option<u32>,
     header: &Header,
 ) -> Option<u32>
-    // The result is `confirmed` if the PDU is new and confirms something, and that is known; otherwise it is `since`
-    // (`since_after`).
     ensures { result ≡ since_after is_new opening since confirmed header.now }
 {
     if !is_new || confirms_none(opening, header.kind, header.sn) {
@@ -413,8 +399,6 @@ fn confirm(
 
 /// Returns how long an end has waited at this timestamp, in milliseconds.
 fn wait(is_new: bool, since: Option<u32>, ts: u32) -> Option<u32>
-    // The wait is `ts` minus `since` on the ring of 2^32; a copy has none, nor has an end without `since`, or from
-    // 2^31 on (`waits_at`).
     ensures { result ≡ waits_at is_new since ts }
 {
     if !is_new {
@@ -426,7 +410,6 @@ fn wait(is_new: bool, since: Option<u32>, ts: u32) -> Option<u32>
 
 /// Returns how far a timestamp is after another one.
 fn distance(from: u32, to: u32) -> Option<u32>
-    // The distance is `to` minus `from` on the ring of 2^32; from 2^31 on, `to` is before `from`: `None`.
     ensures { result ≡ age_within (ahead from to) }
 {
     let steps = to.wrapping_sub(from);
@@ -439,7 +422,6 @@ fn distance(from: u32, to: u32) -> Option<u32>
 
 /// Returns the opening in a PDU.
 fn opening_in(header: &Header) -> Option<SessionOpening>
-    // Only a ConnReq and a ConnResp are openings; the opening has their type and sequence number.
     ensures { result ≡ opening_of header.now }
 {
     match header.kind {
@@ -465,7 +447,6 @@ fn opens_session(
     seq: u32,
     octets: u64,
 ) -> bool
-    // Without an `opening` the result is false; with one, it is true unless the PDU is a copy (`is_opened`).
     ensures { result ≡ is_opened direction.now opening channel seq octets }
 {
     match opening {
@@ -477,8 +458,6 @@ fn opens_session(
 /// Returns `true` if an opening is a copy: it is kept with the same bytes, and on this channel nothing else of its
 /// end has come since.
 fn copies(direction: &Direction, channel: usize, seq: u32, octets: u64) -> bool
-    // The result is true if the number repeats one of all channels, and the newest of its channel is not another
-    // number (`is_copy`).
     ensures { result ≡ is_copy direction.now channel seq octets }
 {
     repeats(judge(&direction.together, seq, octets)) && !goes_on(&direction.channels, channel, seq)
@@ -486,7 +465,6 @@ fn copies(direction: &Direction, channel: usize, seq: u32, octets: u64) -> bool
 
 /// Returns `true` for a repeat.
 fn repeats(judged: NumberOrder) -> bool
-    // Only `Repeat` counts; other bytes under the number do not (`is_repeat`).
     ensures { result ≡ is_repeat judged }
 {
     matches!(judged, NumberOrder::Repeat(_))
@@ -494,8 +472,6 @@ fn repeats(judged: NumberOrder) -> bool
 
 /// Returns `true` if another number is the newest of this channel.
 fn goes_on(channels: &[Window; CHANNELS], channel: usize, seq: u32) -> bool
-    // On a further channel the result is false; otherwise it compares the channel's newest number with `seq`
-    // (`has_gone_on`).
     ensures { result ≡ has_gone_on channels.now channel seq }
 {
     if channel < CHANNELS {
@@ -506,7 +482,6 @@ fn goes_on(channels: &[Window; CHANNELS], channel: usize, seq: u32) -> bool
 
 /// Returns `true` if there is a newest number and it is another one.
 fn differs(newest: Option<u32>, seq: u32) -> bool
-    // Without a `newest` number the result is false.
     ensures { result ≡ is_other newest seq }
 {
     match newest {
@@ -517,8 +492,6 @@ fn differs(newest: Option<u32>, seq: u32) -> bool
 
 /// Starts a session: all numbers start again.
 fn open(direction: &mut Direction, opening: Option<SessionOpening>, time: u64)
-    // All windows start again and keep their counts. No confirmation and no damaged datagram is kept, and the end
-    // waits from the timestamp of the `opening` on. The tally counts the opening, and forgets the reason (`reopen_direction`).
     ensures { direction.new ≡ reopen_direction true direction.old opening time }
 {
     reopen_all(&mut direction.channels);
@@ -535,7 +508,6 @@ fn open(direction: &mut Direction, opening: Option<SessionOpening>, time: u64)
 
 /// Starts the windows of all channels again.
 fn reopen_all(channels: &mut [Window; CHANNELS])
-    // Every channel's window is `restart_window`.
     ensures { channels.new ≡ map restart_window channels.old }
 {
     reopen(&mut channels[0]);
@@ -580,7 +552,6 @@ pub fn is_first_copy(together: NumberOrder) -> bool
 
 /// Returns `true` if a PDU is the newest: new, and not late.
 fn is_newest(together: NumberOrder) -> bool
-    // The result is true exactly for the first, the next, one ahead, and one that starts again (`is_furthest`).
     ensures { result ≡ is_furthest together }
 {
     match together {
@@ -610,7 +581,6 @@ fn note_sequence(
 
 /// Returns `true` for a unit that is sent again.
 fn carries_again(kind: Kind) -> bool
-    // The result is true exactly for RetrData.
     ensures { result ≡ is_resent kind }
 {
     match kind {
@@ -627,8 +597,6 @@ fn carries_again(kind: Kind) -> bool
 
 /// Returns the age of the confirmed timestamp at the end that made it, in milliseconds.
 fn age(opening: Option<SessionOpening>, peer: Peer, header: &Header) -> Option<u32>
-    // A PDU that confirms nothing has no age; for any other it is the age of its CTS in the session of the `peer`
-    // (`age_of`).
     ensures { result ≡ age_of opening peer header.now }
 {
     if confirms_none(opening, header.kind, header.sn) || precedes(peer.opened, header.cts) {
@@ -639,8 +607,6 @@ fn age(opening: Option<SessionOpening>, peer: Peer, header: &Header) -> Option<u
 
 /// Returns `true` if a timestamp is from before the opening of its end.
 fn precedes(opened: Option<u32>, stamp: u32) -> bool
-    // Without an opening the result is false; with one, the `stamp` is before it if it is 2^31 or more ahead on the
-    // ring of 2^32.
     ensures { result ≡ is_before opened stamp }
 {
     match opened {
@@ -651,8 +617,6 @@ fn precedes(opened: Option<u32>, stamp: u32) -> bool
 
 /// Returns `true` if a PDU confirms nothing: a ConnReq, or a DiscReq directly after one.
 fn confirms_none(opening: Option<SessionOpening>, kind: Kind, sn: u32) -> bool
-    // A ConnReq confirms nothing; a DiscReq confirms nothing if its `sn` is the next one after the ConnReq
-    // (`confirms_nothing`).
     ensures { result ≡ confirms_nothing opening kind sn }
 {
     match kind {
@@ -669,7 +633,6 @@ fn confirms_none(opening: Option<SessionOpening>, kind: Kind, sn: u32) -> bool
 
 /// Returns `true` if a sequence number is the next one after the last opening, and that was a ConnReq.
 fn follows_request(opening: Option<SessionOpening>, sn: u32) -> bool
-    // The result is true exactly if the `opening` is a ConnReq and `sn` is one step ahead of it.
     ensures { result ≡ is_behind_request opening sn }
 {
     match opening {
@@ -680,7 +643,6 @@ fn follows_request(opening: Option<SessionOpening>, sn: u32) -> bool
 
 /// Returns how far a confirmed timestamp is before the newest one.
 fn age_behind(stamp: Option<u32>, confirmed: u32) -> Option<u32>
-    // The age is `stamp` minus `confirmed` on the ring of 2^32; `None` without a stamp, or from 2^31 on.
     ensures { result ≡ age_at stamp confirmed }
 {
     let stamp = stamp?;
@@ -689,8 +651,6 @@ fn age_behind(stamp: Option<u32>, confirmed: u32) -> Option<u32>
 
 /// Counts a PDU that has not come before.
 fn count(tally: &mut Tally, time: u64, age: Option<u32>, waits: Option<u32>, header: &Header)
-    // The tally counts the type, and keeps the greatest age, the longest wait, the longest silence, this time, and
-    // the reason and time of a DiscReq (`count_pdu`).
     ensures { tally.new ≡ count_pdu tally.old time age waits header.now }
 {
     count_kind(tally, header.kind);
@@ -718,7 +678,6 @@ pub fn silence(tally: &Tally, time: u64) -> u64
 
 /// Returns the greater of a value, if there is one, and the greatest so far.
 pub(crate) fn greatest(more: Option<u32>, so_far: u32) -> u32
-    // Without `more` the result is `so_far`, otherwise the greater of both.
     ensures { result ≡ greatest_of more so_far }
 {
     match more {
@@ -729,7 +688,6 @@ pub(crate) fn greatest(more: Option<u32>, so_far: u32) -> u32
 
 /// Counts the type of a PDU.
 fn count_kind(tally: &mut Tally, kind: Kind)
-    // Heartbeats, RetrReq, RetrData and DiscReq have counts; other types change nothing (`tally_with_kind`).
     ensures { tally.new ≡ tally_with_kind kind tally.old }
 {
     match kind {

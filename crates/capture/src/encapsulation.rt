@@ -32,7 +32,6 @@ pub(crate) struct Packet {
 
 /// Returns the packet at `place`, whose EtherType is at `at`.
 pub(crate) fn kind(octets: &[u8], at: usize, place: usize) -> Option<Packet>
-    // There is a packet if the two bytes of the EtherType are there.
     ensures { result ≡ kind_at at place octets.now }
 {
     let kind = big(octets, at)?;
@@ -79,7 +78,6 @@ fn unwrap_once(octets: &[u8], packet: Packet) -> Option<Packet>
 
 /// Returns `true` for the EtherTypes of VLAN tags (802.1Q, 802.1ad, and the older 0x9100).
 fn has_tag(kind: u16) -> bool
-    // Exactly 0x8100, 0x88a8 and 0x9100 are tags.
     ensures { result ≡ is_tag kind }
 {
     kind == 0x8100 || kind == 0x88a8 || kind == 0x9100
@@ -87,7 +85,6 @@ fn has_tag(kind: u16) -> bool
 
 /// Returns `true` for the EtherTypes of MPLS.
 fn has_label(kind: u16) -> bool
-    // Exactly 0x8847 and 0x8848 are MPLS.
     ensures { result ≡ is_label kind }
 {
     kind == 0x8847 || kind == 0x8848
@@ -95,7 +92,6 @@ fn has_label(kind: u16) -> bool
 
 /// Returns `true` if the field of the EtherType has the length of the frame.
 fn has_length(kind: u16) -> bool
-    // The values 1 to 1,500 are lengths.
     ensures { result ≡ is_length kind }
 {
     1 <= kind && kind <= 1500
@@ -125,7 +121,6 @@ fn pass_label(octets: &[u8], packet: Packet) -> Option<Packet>
 
 /// Returns the EtherType of a packet after the last label, by its first four bits.
 fn kind_after_label(version: u8) -> u16
-    // 4 is IPv4 and 6 is IPv6; anything else counts as an Ethernet frame within the label.
     ensures { result ≡ label_kind version }
 {
     match version {
@@ -154,7 +149,6 @@ fn pass_session(octets: &[u8], place: usize) -> Option<Packet>
 
 /// Returns the EtherType of the protocol of PPP in a session.
 fn kind_in_session(head: u16, protocol: u16) -> u16
-    // In a session of version 1 with the code 0, 0x0021 is IPv4 and 0x0057 IPv6; anything else is not a packet.
     ensures { result ≡ session_kind head protocol }
 {
     if head != 0x1100 {
@@ -189,7 +183,6 @@ fn pass_llc(octets: &[u8], place: usize) -> Option<Packet>
 
 /// Returns the EtherType of SNAP.
 fn kind_in_snap(access: u16, control: u16, maker: u16, kind: u16) -> u16
-    // Only after the access points 0xaa, the control byte 3 and the maker 0 there is an EtherType.
     ensures { result ≡ snap_kind access control maker kind }
 {
     if access == 0xaaaa && control == 0x0300 && maker == 0 {
@@ -201,7 +194,6 @@ fn kind_in_snap(access: u16, control: u16, maker: u16, kind: u16) -> u16
 
 /// Returns `true` for the EtherTypes of packets within which a further frame may be that is not read.
 pub(crate) fn has_frame(kind: u16) -> bool
-    // These are one more tag, label or session, an Ethernet frame, MACsec (0x88e5) and backbone bridges (0x88e7).
     ensures { result ≡ is_bridged kind }
 {
     has_tag(kind)

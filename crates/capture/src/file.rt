@@ -233,7 +233,6 @@ fn take_step(recording: &Recording, octets: &[u8]) -> Result<Step, FileFault>
 
 /// Returns the time of the last frame after a block.
 fn time_after(last: u64, event: &BlockContent) -> u64
-    // The result is the time of the block's frame, and `last` if it has none.
     ensures { result ≡ last_after last event.now }
 {
     match event {
@@ -244,7 +243,6 @@ fn time_after(last: u64, event: &BlockContent) -> u64
 
 /// Returns a step to another part, without content.
 fn on_to(part: FilePart) -> Step
-    // The step goes to `part`, has no frame, and keeps the interfaces.
     ensures { result ≡ part_after part }
 {
     Step {
@@ -292,7 +290,6 @@ const SECTION: u32 = 0x0a0d_0d0a;
 
 /// Returns the step of a file that is not a recording.
 fn text() -> Step
-    // The step stays at the start and reports a text.
     ensures { result ≡ text_step }
 {
     Step {
@@ -351,7 +348,6 @@ fn record_head(form: FileForm, link: Option<Link>, octets: &[u8]) -> Result<Step
 
 /// Returns whole microseconds from seconds and a fraction.
 fn moment(nanos: bool, seconds: u32, part: u32) -> u64
-    // A fraction in nanoseconds is divided by 1,000; the rest is cut off.
     ensures { result ≡ micros_of nanos seconds part }
 {
     let part = if nanos { part / 1000 } else { part };
@@ -436,7 +432,6 @@ fn read_section_size(big: bool, size: &[u8; 4]) -> Result<Step, FileFault>
 
 /// Returns `true` if a block may have this length.
 fn is_sized(least: u32, size: u32) -> bool
-    // The length is at least `least`, at most `BLOCK_MAX`, and a multiple of four.
     ensures { result ≡ sized_block least size }
 {
     least <= size && size <= BLOCK_MAX && size % 4 == 0
@@ -498,7 +493,6 @@ fn block(big: bool, octets: &[u8]) -> Result<Step, FileFault>
 
 /// Returns `true` for the types of blocks that are read.
 fn has_content(kind: u32) -> bool
-    // These are an interface (1), and the obsolete, the simple and the enhanced packet (2, 3, 6).
     ensures { result ≡ is_read kind }
 {
     kind == 1 || kind == 2 || kind == 3 || kind == 6
@@ -506,7 +500,6 @@ fn has_content(kind: u32) -> bool
 
 /// Returns `true` if a block that is not read may have this length.
 fn is_long_enough(size: u32) -> bool
-    // The length is at least 12, and a multiple of four.
     ensures { result ≡ long_block size }
 {
     12 <= size && size % 4 == 0
@@ -608,7 +601,6 @@ fn first_free(interfaces: &[Option<Interface>; INTERFACES]) -> Option<usize>
 
 /// Applies a change to the interfaces.
 fn apply(interfaces: &mut [Option<Interface>; INTERFACES], change: Change)
-    // The interfaces stay, are all removed, or have a new one at the first free place (`interfaces_after`).
     ensures { interfaces.new ≡ interfaces_after interfaces.old change }
 {
     match change {

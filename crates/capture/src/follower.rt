@@ -156,8 +156,6 @@ impl Follower {
 
 /// Returns the count of datagrams with another safety code after one that is not a safety PDU.
 fn count_miscoded(miscoded: Option<u64>, fault: SafeFault) -> Option<u64>
-    // The count grows by 1 exactly if the `fault` is that of the code, or the datagram is too short for one. A fault
-    // behind the code ends the count (`miscoded_count_with`).
     ensures { result ≡ miscoded_count_with miscoded fault }
 {
     let count = miscoded?;
@@ -175,7 +173,6 @@ fn count_forgotten(
     record: &Record,
     header: &Header,
 ) -> u64
-    // The count grows by 1 exactly if the PDU needs a connection and there is no room (`forgotten_count_with`).
     ensures { result ≡ forgotten_count_with forgotten connections.now record.now header.now }
 {
     if has_no_room(connections, record, header) {
@@ -191,7 +188,6 @@ fn sum_forgotten(
     record: &Record,
     header: &Header,
 ) -> Totals
-    // If a connection is forgotten, its sums are added.
     ensures { result ≡ forgotten_totals_with gone connections.now record.now header.now }
 {
     if has_no_room(connections, record, header) {
@@ -215,7 +211,6 @@ pub fn sum_up(gone: Totals, connections: &[Entry]) -> Totals
 
 /// Returns sums of nothing.
 fn new_totals() -> Totals
-    // All six sums are 0.
     ensures { result ≡ no_totals }
 {
     Totals {
@@ -230,7 +225,6 @@ fn new_totals() -> Totals
 
 /// Adds a connection to the sums.
 fn add_connection(totals: Totals, connection: &Connection) -> Totals
-    // Both directions are added, each by its window over all channels (`add_connection_counts`).
     ensures { result ≡ add_connection_counts totals connection.now }
 {
     let low = count_window(totals, &connection.from_low.together);
@@ -239,7 +233,6 @@ fn add_connection(totals: Totals, connection: &Connection) -> Totals
 
 /// Adds a window to the sums.
 fn count_window(totals: Totals, window: &Window) -> Totals
-    // Each count of the `window` is added to its sum, limited to 2^64 - 1.
     ensures { result ≡ add_window_counts totals window.now }
 {
     Totals {

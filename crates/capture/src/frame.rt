@@ -122,7 +122,6 @@ fn read_packet(octets: &[u8], packet: Packet) -> Result<FoundDatagram, NoDatagra
 
 /// Returns why a packet with this EtherType is passed over.
 fn pass_packet(kind: u16) -> NoDatagramCause
-    // A packet that may have a further frame in it is a tunnel; any other is no IP packet (`no_packet`).
     ensures { result ≡ no_packet kind }
 {
     if has_frame(kind) {
@@ -164,7 +163,6 @@ fn raw(octets: &[u8]) -> Option<Packet>
 
 /// Returns the EtherType of an IP version.
 fn of_version(version: u8) -> u16
-    // The result is that of IPv4 for 4, of IPv6 for 6, and `NOTHING` for any other version.
     ensures { result ≡ version_kind version }
 {
     match version {
@@ -189,7 +187,6 @@ fn loopback(octets: &[u8]) -> Option<Packet>
 
 /// Returns the EtherType of an address family.
 fn of_family(high: u16, low: u16) -> u16
-    // Family 2 is IPv4; 24, 28 and 30 are IPv6; for any other the result is `NOTHING` (`family_kind`).
     ensures { result ≡ family_kind high low }
 {
     if is_of_family(high, low, 2) {
@@ -207,7 +204,6 @@ fn of_family(high: u16, low: u16) -> u16
 /// Returns `true` if four bytes are this family, in either byte order.
 fn is_of_family(high: u16, low: u16, family: u16) -> bool
     requires { family < 256 }
-    // The family is in the low byte of `low`, or in the high byte of `high`, and all other bytes are 0.
     ensures { result ≡ is_family high low family }
 {
     high == 0 && low == family || high == family * 256 && low == 0
@@ -318,7 +314,6 @@ fn read_v4_header(octets: &[u8], place: usize) -> Result<V4Header, NoDatagramCau
 
 /// Returns the size of an IPv4 packet by its total length.
 fn whole_size(total: u16) -> u16
-    // A length of 0 is that of a packet which the network card completes: it has at most 65,535 bytes (`size_of`).
     ensures { result ≡ size_of total }
 {
     if total == 0 { 65_535 } else { total }
@@ -326,7 +321,6 @@ fn whole_size(total: u16) -> u16
 
 /// Returns the place of the packet that an IPv4 packet carries.
 fn pass_v4_header(header: &V4Header) -> Result<usize, NoDatagramCause>
-    // A fragment is `Fragment`; of any other packet the result is the place after the header (`behind_ipv4`).
     ensures { result ≡ behind_ipv4 header.now }
 {
     if header.is_part {
@@ -355,7 +349,6 @@ fn read_udp_after(octets: &[u8], header: &V4Header) -> Result<FoundDatagram, NoD
 
 /// Returns why a packet with this protocol is passed over.
 fn pass_protocol(protocol: u8) -> NoDatagramCause
-    // A protocol that carries a further packet is a tunnel; any other is something without UDP (`no_datagram`).
     ensures { result ≡ no_datagram protocol }
 {
     if carries_packet(protocol) {
@@ -367,7 +360,6 @@ fn pass_protocol(protocol: u8) -> NoDatagramCause
 
 /// Returns `true` for the protocols that carry a further packet.
 fn carries_packet(protocol: u8) -> bool
-    // These are IP (4, 41), GRE (47), ESP (50), AH (51), Ethernet (97, 143), L2TP (115) and MPLS (137).
     ensures { result ≡ is_tunnel protocol }
 {
     match protocol {
@@ -378,7 +370,6 @@ fn carries_packet(protocol: u8) -> bool
 
 /// Returns `true` if a packet is a fragment: more follow, or its offset is not 0.
 fn has_parts(flags: u16) -> bool
-    // The result is true exactly if one of the lower 14 bits of the `flags` is set.
     ensures { result ≡ is_fragment flags }
 {
     flags % 0x4000 != 0
@@ -479,7 +470,6 @@ const FRAGMENT: u8 = 44;
 
 /// Returns `true` for headers that are skipped: hop-by-hop options, routing, destination options.
 fn is_option(kind: u8) -> bool
-    // Exactly 0, 43 and 60 are skipped.
     ensures { result ≡ is_passed kind }
 {
     kind == 0 || kind == 43 || kind == 60
@@ -535,7 +525,6 @@ fn pass_fragment(octets: &[u8], place: usize) -> Result<UpperHeader, NoDatagramC
 
 /// Returns `true` if a fragment is one of several: more follow, or its offset is not 0.
 fn is_part(part: u16) -> bool
-    // The result is true exactly if the upper 13 bits of `part` are not all 0, or its lowest bit is 1.
     ensures { result ≡ is_piece part }
 {
     part / 8 != 0 || part % 2 == 1

@@ -53,7 +53,6 @@ pub fn is_between(span: &Span, first: u64, time: u64) -> bool
 
 /// Returns `true` if a time is not before an instant.
 fn is_after(from: Option<Instant>, first: u64, time: u64) -> bool
-    // Without an instant every time is after it (`is_reached`).
     ensures { result ≡ is_reached from first time }
 {
     match from {
@@ -64,7 +63,6 @@ fn is_after(from: Option<Instant>, first: u64, time: u64) -> bool
 
 /// Returns `true` if a time is not after an instant.
 fn is_before(to: Option<Instant>, first: u64, time: u64) -> bool
-    // Without an instant every time is before it (`is_passed_by`).
     ensures { result ≡ is_passed_by to first time }
 {
     match to {
@@ -75,7 +73,6 @@ fn is_before(to: Option<Instant>, first: u64, time: u64) -> bool
 
 /// Returns the time of an instant, in microseconds since 1970.
 fn moment(instant: Instant, first: u64) -> u64
-    // An instant since the first datagram is added to its time, limited to 2^64 - 1.
     ensures { result ≡ moment_of instant first }
 {
     match instant {
@@ -106,7 +103,6 @@ pub fn read_instant(text: &[u8]) -> Option<Instant>
 
 /// Reads seconds since 1970 after an `@`.
 fn read_stamp(text: &[u8]) -> Option<Instant>
-    // The text before the `@` must be empty, and the text after it must spell seconds (`stamp_of`).
     ensures { result ≡ stamp_of text.now }
 {
     let (front, back) = part(text, SIGN);
@@ -154,7 +150,6 @@ fn read_fraction(digits: &[u8]) -> Option<u64>
 
 /// Reads a date and a time of day in UTC, as microseconds since 1970.
 fn read_date_time(text: &[u8]) -> Option<u64>
-    // The text before the first `T` must be a date, and the text after it a time of day (`date_time_of`).
     ensures { result ≡ date_time_of text.now }
 {
     let (date, clock) = part(text, DIVIDER);
@@ -216,7 +211,6 @@ fn days_until(year: u64, month: u64, day: u64) -> Option<u64>
 /// Returns how many leap years there are up to a year, from the year 1 on.
 fn leap_years(year: u64) -> u64
     requires { year ≤ 9999 }
-    // Each fourth year is one, but each hundredth only if it is a four hundredth (`leaps`).
     ensures { result ≡ leaps year }
 {
     year / 4 - year / 100 + year / 400
@@ -224,7 +218,6 @@ fn leap_years(year: u64) -> u64
 
 /// Returns `true` for a leap year.
 fn is_leap_year(year: u64) -> bool
-    // The result is true for each fourth year, but for a hundredth only if it is a four hundredth.
     ensures { result ≡ is_leap year }
 {
     year % 4 == 0 && (year % 100 != 0 || year % 400 == 0)
@@ -318,7 +311,6 @@ fn read_two_digits(text: &[u8]) -> Option<u64>
 
 /// Returns a text without the `Z` at its end, if it has one.
 fn drop_zone(text: &[u8]) -> &[u8]
-    // Only one `Z` at the end is left out (`without_zone`).
     ensures { result.now ≡ without_zone text.now }
 {
     match text {

@@ -57,8 +57,6 @@ const OFFSET: WantedOption = WantedOption { code: 14, size: 8 };
 
 /// Returns the unit of times from the options after the first eight bytes of a description; 6 if no option has it.
 pub(crate) fn resolution(big: bool, inner: &[u8]) -> u8
-    // The result is the value of the first option 9 of one byte, from the eighth byte on; 6 if the options end before
-    // one (`resolution_of`).
     ensures { result ≡ resolution_of big inner.now }
 {
     match find_option(big, inner, RESOLUTION) {
@@ -72,8 +70,6 @@ pub(crate) fn resolution(big: bool, inner: &[u8]) -> u8
 
 /// Returns the offset of times from the options after the first eight bytes of a description; 0 if no option has it.
 pub(crate) fn offset(big: bool, inner: &[u8]) -> TimeOffset
-    // The result is the value of the first option 14 of eight bytes, from the eighth byte on; 0 if the options end
-    // before one (`offset_of`).
     ensures { result ≡ offset_of big inner.now }
 {
     match find_option(big, inner, OFFSET) {
@@ -84,8 +80,6 @@ pub(crate) fn offset(big: bool, inner: &[u8]) -> TimeOffset
 
 /// Returns the offset in the eight bytes at a place.
 fn offset_at(big: bool, inner: &[u8], place: usize) -> TimeOffset
-    // The first four bytes are the upper half of a big-endian number, and the lower half of any other; too few bytes
-    // are an offset of 0 (`offset_from`).
     ensures { result ≡ offset_from big inner.now place }
 {
     let Some(front) = long(big, inner, place) else {
@@ -103,7 +97,6 @@ fn offset_at(big: bool, inner: &[u8], place: usize) -> TimeOffset
 
 /// Returns the offset of a signed number of 64 bits in two halves.
 fn offset_between(high: u32, low: u32) -> TimeOffset
-    // With the upper bit set, the number is negative, and the offset is its distance from 2^64.
     ensures { result ≡ offset_with high low }
 {
     let number = high as u64 * 4_294_967_296 + low as u64;
@@ -116,7 +109,6 @@ fn offset_between(high: u32, low: u32) -> TimeOffset
 
 /// Returns the time of a frame with the offset of its interface, in microseconds.
 pub(crate) fn shift(offset: TimeOffset, micros: u64) -> u64
-    // The seconds of the `offset` are added or subtracted; the result is limited to 0 and 2^64 - 1 (`add_offset`).
     ensures { result ≡ add_offset offset micros }
 {
     match offset {
@@ -127,7 +119,6 @@ pub(crate) fn shift(offset: TimeOffset, micros: u64) -> u64
 
 /// Returns the place of the value of the first wanted option, from the eighth byte on.
 fn find_option(big: bool, inner: &[u8], wanted: WantedOption) -> Option<usize>
-    // The options are read one by one until the wanted one is found or they end (`option_of`).
     ensures { result ≡ option_of big wanted.code wanted.size inner.now }
 {
     // Each option has at least four bytes, so there are no more options than bytes.
@@ -139,7 +130,6 @@ fn find_option(big: bool, inner: &[u8], wanted: WantedOption) -> Option<usize>
 
 /// Returns the place of the option that was found.
 fn place_found(walk: Walk) -> Option<usize>
-    // The result is the place found, and `None` if the walk found no option.
     ensures { result ≡ walk_place walk }
 {
     match walk {
@@ -150,8 +140,6 @@ fn place_found(walk: Walk) -> Option<usize>
 
 /// Reads one more option: code, length, and a value padded to a multiple of four bytes.
 fn option(big: bool, inner: &[u8], wanted: WantedOption, walk: Walk) -> Walk
-    // A walk that has ended or has found the option does not change; otherwise the option at its place is read
-    // (`option_step`).
     ensures { result ≡ option_step big wanted.code wanted.size inner.now walk }
 {
     match walk {
@@ -162,8 +150,6 @@ fn option(big: bool, inner: &[u8], wanted: WantedOption, walk: Walk) -> Walk
 
 /// Reads the option at a place.
 fn option_at(big: bool, inner: &[u8], wanted: WantedOption, place: usize) -> Walk
-    // Code 0, or too few bytes, ends the options; the wanted code with the wanted size is found. Any other option is
-    // skipped together with its padding (`option_seen`).
     ensures { result ≡ option_seen big wanted.code wanted.size inner.now place }
 {
     let Some(code) = short(big, inner, place) else {
@@ -184,8 +170,6 @@ fn option_at(big: bool, inner: &[u8], wanted: WantedOption, place: usize) -> Wal
 
 /// Converts a time in units of an interface to whole microseconds, limited to 2^64 - 1.
 pub(crate) fn micros(resolution: u8, high: u32, low: u32) -> u64
-    // The 64-bit time is `high` * 2^32 + `low`. Its unit is a power of ten below resolution 128, otherwise a power of
-    // two (`tick_micros`).
     ensures { result ≡ tick_micros resolution high low }
 {
     let ticks = high as u64 * 4_294_967_296 + low as u64;
@@ -198,7 +182,6 @@ pub(crate) fn micros(resolution: u8, high: u32, low: u32) -> u64
 
 /// Converts from units of a negative power of ten of a second.
 fn decimal(power: u8, ticks: u64) -> u64
-    // Up to power 6 the time is multiplied, at most to 2^64 - 1; above 6 it is divided and cut off.
     ensures { result ≡ decimal_micros power ticks }
 {
     if power <= 6 {
@@ -210,7 +193,6 @@ fn decimal(power: u8, ticks: u64) -> u64
 
 /// Returns a power of ten, up to the 13th.
 pub(crate) fn ten_to_the(power: u8) -> u64
-    // The result is 10 to the `power`; from 13 on it is always 10^13.
     ensures { result ≡ ten_to power }
 {
     match power {
@@ -233,7 +215,6 @@ pub(crate) fn ten_to_the(power: u8) -> u64
 
 /// Converts from units of a negative power of two of a second, at most the 40th.
 fn binary(power: u8, ticks: u64) -> u64
-    // Whole seconds and the rest are converted separately, each limited to 2^64 - 1, and added (`binary_micros`).
     ensures { result ≡ binary_micros power ticks }
 {
     let unit = 1u64 << power.min(40);
@@ -243,7 +224,6 @@ fn binary(power: u8, ticks: u64) -> u64
 
 /// Returns `true` if times in this unit can be read: 10^0 to 10^-19 seconds, and 2^0 to 2^-40.
 pub(crate) fn is_readable(resolution: u8) -> bool
-    // Exactly the resolutions 0 to 19 and 128 to 168 are units.
     ensures { result ≡ is_unit resolution }
 {
     resolution <= 19 || resolution >= 128 && resolution <= 168

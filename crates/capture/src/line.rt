@@ -114,7 +114,6 @@ pub fn read_line(line: &[u8], buffer: &mut Buffer) -> Result<Record, LineFault>
 
 /// Reads an address from the texts of a host and of a port.
 fn read_address(host_text: &[u8], port_text: &[u8]) -> Option<Address>
-    // There is an address if `host_text` is a host and `port_text` a decimal number of at most 65,535 (`address_of`).
     ensures { result ≡ address_of host_text.now port_text.now }
 {
     let host = host(host_text)?;

@@ -63,7 +63,6 @@ impl Measures {
 
 /// Returns the measures of an end without PDUs.
 fn new_measured() -> Measurements
-    // The distributions have no values, and no PDU is kept.
     ensures { result ≡ no_measurements }
 {
     Measurements {
@@ -88,7 +87,6 @@ pub(crate) fn note_measures(
     header: &Header,
     remarks: &Remarks,
 )
-    // Only the measures of the PDU's end change, by when the PDU that it confirms was recorded (`measures_after`).
     ensures { measures.new ≡ measures_after measures.old from_low time header.now remarks.now }
 {
     if from_low {
@@ -102,7 +100,6 @@ pub(crate) fn note_measures(
 
 /// Returns when a PDU was recorded first, if it is kept.
 fn moment(measured: &Measurements, sn: u32, ts: u32) -> Option<u64>
-    // The slot of the sequence number must have this timestamp and a time (`moment_of`).
     ensures { result ≡ moment_of measured.now sn ts }
 {
     let slot = sn as usize % MOMENTS;
@@ -121,8 +118,6 @@ fn measure(
     header: &Header,
     remarks: &Remarks,
 )
-    // An opening first forgets the PDUs before it. A new PDU is measured with its round trip since `sent`, a copy on
-    // another channel only with its skew, and any other copy not at all (`measurements_after`).
     ensures { measured.new ≡ measurements_after measured.old sent time header.now remarks.now }
 {
     if remarks.opens {
@@ -137,7 +132,6 @@ fn measure(
 
 /// Forgets the PDUs of the session before.
 fn begin(measured: &mut Measurements)
-    // No PDU is kept with a time, and none is the last or confirmed; the distributions stay (`forget_moments`).
     ensures { measured.new ≡ forget_moments measured.old }
 {
     measured.times = [0; MOMENTS];
@@ -147,8 +141,6 @@ fn begin(measured: &mut Measurements)
 
 /// Returns `true` for a copy that is the first one on its channel.
 fn copies_elsewhere(together: NumberOrder, channel: Option<NumberOrder>) -> bool
-    // The PDU repeats one of all channels, and not one of its own channel; a further channel has none
-    // (`is_copy_elsewhere`).
     ensures { result ≡ is_copy_elsewhere together channel }
 {
     match (together, channel) {
@@ -160,7 +152,6 @@ fn copies_elsewhere(together: NumberOrder, channel: Option<NumberOrder>) -> bool
 
 /// Measures the skew of a copy.
 fn measure_copy(measured: &mut Measurements, time: u64, header: &Header)
-    // The time since the first copy is a skew, if that copy is kept (`measure_skew`).
     ensures { measured.new ≡ measure_skew measured.old time header.now }
 {
     let first = moment(measured, header.sn, header.ts);
@@ -175,8 +166,6 @@ fn measure_first(
     header: &Header,
     remarks: &Remarks,
 )
-    // The round trip, the silence, the wait and the units take the PDU in, and it is kept with its time
-    // (`measure_new_pdu`).
     ensures { measured.new ≡ measure_new_pdu measured.old sent time header.now remarks.now }
 {
     if answers(measured.confirmed, header, remarks) {
@@ -194,8 +183,6 @@ fn measure_first(
 
 /// Returns `true` if a PDU is the first that confirms its timestamp.
 fn answers(confirmed: u32, header: &Header, remarks: &Remarks) -> bool
-    // The PDU is of a type whose confirmation counts, has an age, is not late, and confirms another timestamp than
-    // the one before (`is_first_answer`).
     ensures { result ≡ is_first_answer confirmed header.now remarks.now }
 {
     is_answer_kind(header.kind)
@@ -206,7 +193,6 @@ fn answers(confirmed: u32, header: &Header, remarks: &Remarks) -> bool
 
 /// Returns `true` if the confirmation of a type of PDU is measured.
 fn is_answer_kind(kind: Kind) -> bool
-    // Requests for a retransmission, and what is sent for them, are left out: they come after a repair (`is_answer`).
     ensures { result ≡ is_answer kind }
 {
     match kind {
@@ -217,7 +203,6 @@ fn is_answer_kind(kind: Kind) -> bool
 
 /// Adds the time since a moment to a distribution, if there is one.
 fn add_span(distribution: &mut Distribution, from: Option<u64>, to: u64)
-    // Without `from` nothing is added; otherwise the milliseconds from it to `to` are (`with_span`).
     ensures { distribution.new ≡ with_span distribution.old from to }
 {
     if let Some(from) = from {
@@ -227,7 +212,6 @@ fn add_span(distribution: &mut Distribution, from: Option<u64>, to: u64)
 
 /// Adds a value to a distribution, if there is one.
 fn add(distribution: &mut Distribution, value: Option<u32>)
-    // Without a `value` nothing changes (`with_some`).
     ensures { distribution.new ≡ with_some distribution.old value }
 {
     if let Some(value) = value {
@@ -237,7 +221,6 @@ fn add(distribution: &mut Distribution, value: Option<u32>)
 
 /// Returns the whole milliseconds between two times in microseconds.
 fn milliseconds(from: u64, to: u64) -> u32
-    // The result is 0 if `to` is not later, and limited to 2^32 - 1 (`millis_between`).
     ensures { result ≡ millis_between from to }
 {
     let millis = to.saturating_sub(from) / 1_000;
@@ -246,8 +229,6 @@ fn milliseconds(from: u64, to: u64) -> u32
 
 /// Counts a PDU in the units of its second.
 fn count_unit(measured: &mut Measurements, time: u64, kind: Kind)
-    // In another second than that of the last PDU the units begin at 0. Only Data counts, and the most of a second
-    // is kept (`add_unit`).
     ensures { measured.new ≡ add_unit measured.old time kind }
 {
     measured.units = units(measured, time, kind);
@@ -256,7 +237,6 @@ fn count_unit(measured: &mut Measurements, time: u64, kind: Kind)
 
 /// Returns the units in the second of a PDU, with this one.
 fn units(measured: &Measurements, time: u64, kind: Kind) -> u16
-    // The units before count only if the last PDU was in the same second (`units_in_second`).
     ensures { result ≡ units_in_second measured.now time kind }
 {
     let before = if time / 1_000_000 == measured.last / 1_000_000 {
@@ -272,8 +252,6 @@ fn units(measured: &Measurements, time: u64, kind: Kind) -> u16
 
 /// Keeps a new PDU with its time.
 fn keep_moment(measured: &mut Measurements, header: &Header, time: u64)
-    // The slot of the sequence number has the timestamp and the `time`, which is also that of the last PDU
-    // (`store_moment`).
     ensures { measured.new ≡ store_moment measured.old header.now time }
 {
     let slot = header.sn as usize % MOMENTS;

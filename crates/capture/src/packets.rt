@@ -182,7 +182,6 @@ fn size_kept(limit: u32, original: u32, room: usize) -> usize
 
 /// Returns the interface with this number.
 fn described_at(interfaces: &[Option<Interface>; INTERFACES], number: u32) -> Option<Interface>
-    // The result is the interface at this place; `None` for a number of `INTERFACES` or more (`interface_at`).
     ensures { result ≡ interface_at interfaces.now number }
 {
     let place = number as usize;

@@ -7,7 +7,6 @@ use byteorder::{BigEndian, ByteOrder, LittleEndian};
 
 /// Returns the byte at a place.
 pub(crate) fn octet(octets: &[u8], place: usize) -> Option<u8>
-    // The result is the byte at `place`, if the place is below the length.
     ensures { result ≡ octet_at place octets.now }
 {
     if place < octets.len() {
@@ -18,7 +17,6 @@ pub(crate) fn octet(octets: &[u8], place: usize) -> Option<u8>
 
 /// Returns the 16-bit number at a place, most significant byte first.
 pub(crate) fn big(octets: &[u8], place: usize) -> Option<u16>
-    // The result is the big-endian number of the two bytes from `place` on (`big_at`).
     ensures { result ≡ big_at place octets.now }
 {
     if octets.len() >= 2 && place <= octets.len() - 2 {
@@ -29,7 +27,6 @@ pub(crate) fn big(octets: &[u8], place: usize) -> Option<u16>
 
 /// Returns the four bytes from a place on.
 pub(crate) fn four(octets: &[u8], place: usize) -> Option<[u8; 4]>
-    // The result is the four bytes from `place` on, in their order.
     ensures { result ≡ four_at place octets.now }
 {
     if octets.len() >= 4 && place <= octets.len() - 4 {
@@ -45,7 +42,6 @@ pub(crate) fn four(octets: &[u8], place: usize) -> Option<[u8; 4]>
 
 /// Returns the sixteen bytes from a place on.
 pub(crate) fn sixteen(octets: &[u8], place: usize) -> Option<[u8; 16]>
-    // The result is the sixteen bytes from `place` on, in their order.
     ensures { result ≡ sixteen_at place octets.now }
 {
     if octets.len() < 16 || place > octets.len() - 16 {
@@ -58,7 +54,6 @@ pub(crate) fn sixteen(octets: &[u8], place: usize) -> Option<[u8; 16]>
 
 /// Returns the 16-bit number at a place, in either byte order.
 pub(crate) fn short(big: bool, octets: &[u8], place: usize) -> Option<u16>
-    // The result is the number of the two bytes from `place` on: big-endian if `big`, otherwise little-endian.
     ensures { result ≡ short_at big place octets.now }
 {
     if octets.len() < 2 || place > octets.len() - 2 {
@@ -73,7 +68,6 @@ pub(crate) fn short(big: bool, octets: &[u8], place: usize) -> Option<u16>
 
 /// Returns the 32-bit number at a place, in either byte order.
 pub(crate) fn long(big: bool, octets: &[u8], place: usize) -> Option<u32>
-    // The result is the number of the four bytes from `place` on: big-endian if `big`, otherwise little-endian.
     ensures { result ≡ long_at big place octets.now }
 {
     if octets.len() < 4 || place > octets.len() - 4 {

@@ -53,8 +53,6 @@ pub fn read_ports(text: &[u8]) -> Option<Ports>
 
 /// Reads the range at one of the four places, if the text has one there.
 fn read_slot(is_there: bool, text: &[u8]) -> Option<Option<PortRange>>
-    // An absent place is read as an empty one; a text that is present must be a range, otherwise the result is `None`
-    // (`slot_of`).
     ensures { result ≡ slot_of is_there text.now }
 {
     if is_there {
@@ -66,8 +64,6 @@ fn read_slot(is_there: bool, text: &[u8]) -> Option<Option<PortRange>>
 
 /// Reads a port, or two ports separated by a hyphen.
 fn read_range(text: &[u8]) -> Option<PortRange>
-    // A text without a hyphen is the range of one port. Otherwise its limits are the numbers before and after the
-    // first hyphen (`range_of`).
     ensures { result ≡ range_of text.now }
 {
     if are_parted_by(text, HYPHEN, 0) {
@@ -81,7 +77,6 @@ fn read_range(text: &[u8]) -> Option<PortRange>
 fn between(first: Option<u64>, last: Option<u64>) -> Option<PortRange>
     requires first { IfSome first (λ n. n ≤ 65535) }
     requires last { IfSome last (λ n. n ≤ 65535) }
-    // There is a range only if both numbers were read and the second is not below the first (`range_between`).
     ensures { result ≡ range_between first last }
 {
     let first = first?;
@@ -109,7 +104,6 @@ pub fn is_followed(ports: &Option<Ports>, record: &Record) -> bool
 
 /// Returns `true` if a port is in one of the ranges.
 fn has(ports: &Ports, port: u16) -> bool
-    // The result is true exactly if one of the four places `holds_port`.
     ensures { result ≡ has_port ports.now port }
 {
     ports.iter().any(|range| holds(range, port))
@@ -117,7 +111,6 @@ fn has(ports: &Ports, port: u16) -> bool
 
 /// Returns `true` if a port is in this range.
 fn holds(range: &Option<PortRange>, port: u16) -> bool
-    // An empty place holds no port; a range holds the ports from its first to its last.
     ensures { result ≡ holds_port range.now port }
 {
     match range {

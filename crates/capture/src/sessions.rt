@@ -58,7 +58,6 @@ impl PastSessions {
     ///
     /// `AllocError` if there is too little memory.
     pub(crate) fn new(alloc: Global) -> Result<Self, AllocError>
-        // No session is kept.
         ensures { IfOk result (λ past. past ≡ []) }
     {
         let kept = HeapCircularBuffer::with_capacity(alloc, SESSIONS)?;
@@ -67,7 +66,6 @@ impl PastSessions {
 
     /// Keeps a session that has ended.
     fn keep(&mut self, session: Session)
-        // The session is the last one. If 64 were kept, the oldest one gives way to it.
         ensures { self.new ≡ keep_last SESSIONS (self.old ++ session ∷ []) }
     {
         self.kept.push_back(session);
@@ -75,7 +73,6 @@ impl PastSessions {
 
     /// Forgets all sessions.
     fn clear(&mut self)
-        // All sessions are gone.
         ensures { self.new ≡ [] }
     {
         self.kept.clear();
@@ -196,7 +193,6 @@ impl Sessions {
 
     /// Makes them those of a connection without PDUs.
     pub(crate) fn clear(&mut self)
-        // The sessions are as `new` returns them, whatever they were before.
         ensures { self.new ≡ open_sessions }
     {
         self.past.clear();
@@ -207,7 +203,6 @@ impl Sessions {
 
 /// Returns sums over no session.
 fn new_totals() -> SessionTotals
-    // All five sums of sessions are 0.
     ensures { result ≡ no_session_totals }
 {
     SessionTotals {
@@ -221,7 +216,6 @@ fn new_totals() -> SessionTotals
 
 /// Returns a session before its first PDU.
 fn new_session(number: u64, asked: SessionRequest, up: Option<u64>) -> Session
-    // The session has this `number`, ConnReq and time of its ConnResp; neither end has sent anything.
     ensures { result ≡ open_session number asked up }
 {
     Session {
@@ -235,7 +229,6 @@ fn new_session(number: u64, asked: SessionRequest, up: Option<u64>) -> Session
 
 /// Returns what an end did before its first PDU.
 fn new_side() -> Side
-    // The end has not left, and all its counts are 0.
     ensures { result ≡ open_side }
 {
     Side {
@@ -256,8 +249,6 @@ pub(crate) fn note_session(
     kind: Kind,
     remarks: &Remarks,
 )
-    // An opening starts a session, or a ConnResp brings up the one that awaits it (`begin_sessions`). Then the PDU is
-    // counted for its end in the current session (`session_after`).
     ensures { sessions.new ≡ sessions_after sessions.old from_low time kind remarks.now }
 {
     begin_by(sessions, remarks.opens, from_low, time, kind);
@@ -266,8 +257,6 @@ pub(crate) fn note_session(
 
 /// Starts a session if a PDU opens one, or is the first of its connection.
 fn begin_by(sessions: &mut Sessions, opens: bool, from_low: bool, time: u64, kind: Kind)
-    // If the PDU `opens`, the sessions are those after its opening. Any other PDU starts a session only if there was
-    // none (`begin_sessions`).
     ensures { sessions.new ≡ begin_sessions opens sessions.old from_low time kind }
 {
     if opens {
@@ -279,8 +268,6 @@ fn begin_by(sessions: &mut Sessions, opens: bool, from_low: bool, time: u64, kin
 
 /// Takes in a ConnReq or a ConnResp.
 fn open_by(sessions: &mut Sessions, from_low: bool, time: u64, kind: Kind)
-    // A ConnReq starts a session at this `time`. A ConnResp brings up the current one if that awaits it; otherwise it
-    // starts one (`sessions_after_opening`).
     ensures { sessions.new ≡ sessions_after_opening sessions.old from_low time kind }
 {
     if matches!(kind, Kind::ConnReq) {
@@ -298,7 +285,6 @@ fn open_by(sessions: &mut Sessions, from_low: bool, time: u64, kind: Kind)
 
 /// Returns `true` if a session awaits the ConnResp of an end.
 fn awaits(session: &Session, from_low: bool) -> bool
-    // The session is not up, and the other end asked for it (`is_awaited_in`).
     ensures { result ≡ is_awaited_in session.now from_low }
 {
     session.up.is_none() && asks_other(session.asked, from_low)
@@ -306,7 +292,6 @@ fn awaits(session: &Session, from_low: bool) -> bool
 
 /// Returns `true` if the other end than this one sent the ConnReq.
 fn asks_other(asked: SessionRequest, from_low: bool) -> bool
-    // Without a recorded ConnReq the result is false; otherwise both ends are compared.
     ensures { result ≡ is_asked_by_other asked from_low }
 {
     match asked {
@@ -317,7 +302,6 @@ fn asks_other(asked: SessionRequest, from_low: bool) -> bool
 
 /// Starts the next session.
 fn begin(sessions: &mut Sessions, asked: SessionRequest, up: Option<u64>)
-    // The session before is kept and added to the sums; the new one has the next number (`start_session`).
     ensures { sessions.new ≡ start_session sessions.old asked up }
 {
     end(sessions);
@@ -327,8 +311,6 @@ fn begin(sessions: &mut Sessions, asked: SessionRequest, up: Option<u64>)
 
 /// Keeps the current session among those that have ended, if there is one.
 fn end(sessions: &mut Sessions)
-    // The session is the last of those that are kept, and is added to the sums; the current session does not change
-    // (`end_current`).
     ensures { sessions.new ≡ end_current sessions.old }
 {
     let last = sessions.current;
@@ -340,7 +322,6 @@ fn end(sessions: &mut Sessions)
 
 /// Adds a PDU of an end to a session.
 fn note_in(session: &mut Session, from_low: bool, time: u64, remarks: &Remarks)
-    // Only the side of the PDU's end changes (`session_after`).
     ensures { session.new ≡ session_after from_low session.old time remarks.now }
 {
     if from_low {
@@ -354,8 +335,6 @@ fn note_in(session: &mut Session, from_low: bool, time: u64, remarks: &Remarks)
 
 /// Adds a PDU to what its end did.
 fn note_side(side: &mut Side, time: u64, follows: bool, remarks: &Remarks)
-    // The first DiscReq, the longest wait, the missing numbers, the units sent again and the repeats take the PDU in
-    // (`side_after`).
     ensures { side.new ≡ side_after side.old time follows remarks.now }
 {
     let is_new = is_first_copy(remarks.together);
@@ -373,7 +352,6 @@ fn note_side(side: &mut Side, time: u64, follows: bool, remarks: &Remarks)
 
 /// Returns 1 if something holds.
 fn count_if(holds: bool) -> u32
-    // The result is 1 for true and 0 for false.
     ensures { result ≡ one_if holds }
 {
     if holds { 1 } else { 0 }
@@ -381,7 +359,6 @@ fn count_if(holds: bool) -> u32
 
 /// Returns the first DiscReq of an end in a session, after one of its PDUs.
 fn part(left: Disconnection, time: u64, follows: bool, remarks: &Remarks) -> Disconnection
-    // The first DiscReq stays; without one, the result is that of the PDU, if it is new (`first_disconnection`).
     ensures { result ≡ first_disconnection left time follows remarks.now }
 {
     match left {
@@ -397,7 +374,6 @@ fn part(left: Disconnection, time: u64, follows: bool, remarks: &Remarks) -> Dis
 
 /// Returns the DiscReq of a PDU, if it is new.
 fn part_if(is_new: bool, time: u64, follows: bool, leaving: Option<Leaving>) -> Disconnection
-    // A copy has none; a new PDU has one if it has a reason (`disconnection_in`).
     ensures { result ≡ disconnection_if is_new time follows leaving }
 {
     if is_new {
@@ -408,7 +384,6 @@ fn part_if(is_new: bool, time: u64, follows: bool, leaving: Option<Leaving>) -> 
 
 /// Returns the DiscReq of a PDU.
 fn part_in(time: u64, follows: bool, leaving: Option<Leaving>) -> Disconnection
-    // Without a reason the PDU is not a DiscReq.
     ensures { result ≡ disconnection_in time follows leaving }
 {
     match leaving {
@@ -423,7 +398,6 @@ fn part_in(time: u64, follows: bool, leaving: Option<Leaving>) -> Disconnection
 
 /// Counts missing numbers on the channel of a PDU.
 fn miss_on(counts: &mut [u32; CHANNELS], route: usize, channel: Option<NumberOrder>)
-    // Only the count of this channel changes; that of a further channel is not kept (`missing_on`).
     ensures { counts.new ≡ missing_on counts.old route channel }
 {
     if let Some(judged) = channel {
@@ -435,7 +409,6 @@ fn miss_on(counts: &mut [u32; CHANNELS], route: usize, channel: Option<NumberOrd
 
 /// Returns how many numbers are missing after a number.
 fn miss(missing: u32, judged: NumberOrder) -> u32
-    // A gap adds the numbers that it skips, a late number takes one away, any other changes nothing.
     ensures { result ≡ missing_after missing judged }
 {
     match judged {
@@ -452,7 +425,6 @@ fn miss(missing: u32, judged: NumberOrder) -> u32
 
 /// Returns `true` if a PDU came on its channel before.
 fn doubles(channel: Option<NumberOrder>) -> bool
-    // Only a repeat on the channel counts, not a copy on another one.
     ensures { result ≡ is_doubled channel }
 {
     matches!(channel, Some(NumberOrder::Repeat(_)))
@@ -479,7 +451,6 @@ pub fn alone(side: &Side) -> u64
 
 /// Adds the datagrams that one channel lost, apart from the numbers that all channels lost.
 fn add_alone(lost: u32, sum: u64, missing: u32) -> u64
-    // The difference of `missing` and `lost`, at least 0, is added to the sum.
     ensures { result ≡ with_alone lost sum missing }
 {
     sum.saturating_add(missing.saturating_sub(lost) as u64)
@@ -509,7 +480,6 @@ pub fn is_unanswered(session: &Session) -> bool
 
 /// Returns `true` if the end that did not ask for a session has not left it.
 fn is_silent(by_low: bool, session: &Session) -> bool
-    // The end that did not ask has sent no DiscReq in the `session` (`is_other_silent`).
     ensures { result ≡ is_other_silent by_low session.now }
 {
     if by_low {
@@ -521,7 +491,6 @@ fn is_silent(by_low: bool, session: &Session) -> bool
 
 /// Returns `true` if an end left by a timeout.
 fn times_out(left: Disconnection) -> bool
-    // The result is true exactly if the end has left with reason 3.
     ensures { result ≡ is_timeout left }
 {
     match left {
@@ -532,7 +501,6 @@ fn times_out(left: Disconnection) -> bool
 
 /// Adds a session to the sums.
 fn add_session(totals: SessionTotals, session: &Session) -> SessionTotals
-    // Each sum grows by what the `session` adds to it (`count_session`).
     ensures { result ≡ count_session totals session.now }
 {
     let up = session.up.is_some();

@@ -109,7 +109,6 @@ pub fn judge(window: &Window, number: u32, fingerprint: u64) -> NumberOrder
 
 /// Returns the line on which a number was seen first, if it is kept.
 pub(crate) fn line_of(window: &Window, number: u32) -> Option<u64>
-    // The line is that of the entry of exactly this `number` (`line_seen`).
     ensures { result ≡ line_seen window.now number }
 {
     let seen = find(window, number)?;
@@ -118,7 +117,6 @@ pub(crate) fn line_of(window: &Window, number: u32) -> Option<u64>
 
 /// Returns the entry of a number, if it is kept.
 fn find(window: &Window, number: u32) -> Option<SeenNumber>
-    // The entry is in the slot of the number's remainder, and is of this number; a slot whose line is 0 is empty.
     ensures { result ≡ seen_of window.now number }
 {
     let slot = number as usize % KEPT;
@@ -135,7 +133,6 @@ fn find(window: &Window, number: u32) -> Option<SeenNumber>
 
 /// Compares a number that came again with its first arrival.
 fn judge_again(seen: SeenNumber, fingerprint: u64) -> NumberOrder
-    // The same fingerprint is a repeat of that line; another one differs from that line.
     ensures { result ≡ order_again seen fingerprint }
 {
     if seen.fingerprint == fingerprint {
@@ -147,7 +144,6 @@ fn judge_again(seen: SeenNumber, fingerprint: u64) -> NumberOrder
 
 /// Judges a number that is not kept.
 fn judge_new(window: &Window, number: u32) -> NumberOrder
-    // Without a newest number it is the first; otherwise its distance from the newest counts.
     ensures { result ≡ order_from window.now window.now.newest number }
 {
     match window.newest {
@@ -158,8 +154,6 @@ fn judge_new(window: &Window, number: u32) -> NumberOrder
 
 /// Judges a number that is not kept by its distance ahead of the newest on the ring of 2^32.
 fn judge_ahead(window: &Window, steps: u32) -> NumberOrder
-    // At most 1 is next, at most `PASSED_MAX` + 1 a gap; close before the newest it is late, if any number is
-    // missing. At 2^31 and beyond it is stale; otherwise the window starts again.
     ensures { result ≡ order_ahead window.now steps }
 {
     if steps <= 1 {
@@ -213,7 +207,6 @@ pub fn note(window: &mut Window, number: u32, line: u64, fingerprint: u64) -> Nu
 
 /// Starts the window again with the next number; its counts stay.
 pub(crate) fn reopen(window: &mut Window)
-    // No number is kept any more, and there is no newest; all counts are as before.
     ensures { window.new ≡ restart_window window.old }
 {
     window.newest = None;
@@ -223,7 +216,6 @@ pub(crate) fn reopen(window: &mut Window)
 
 /// Makes a number the newest, `steps` ahead of the one before.
 fn move_on(window: &mut Window, steps: u32, seen: SeenNumber)
-    // The number is the newest and is kept; `behind` grows by `steps` up to `LATE_MAX`, and `heard` by 1 (`move_window`).
     ensures { window.new ≡ move_window window.old steps seen }
 {
     window.newest = Some(seen.number);
@@ -234,7 +226,6 @@ fn move_on(window: &mut Window, steps: u32, seen: SeenNumber)
 
 /// Keeps a number in the slot of its remainder.
 fn keep(window: &mut Window, seen: SeenNumber)
-    // Only the entry in the slot of the number changes.
     ensures { window.new ≡ keep_entry window.old seen }
 {
     let slot = seen.number as usize % KEPT;

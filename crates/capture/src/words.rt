@@ -46,7 +46,6 @@ fn place(octets: &[u8], mark: u8) -> Option<usize>
 
 /// Returns `true` if a mark occurs exactly `times` times.
 pub(crate) fn are_parted_by(octets: &[u8], mark: u8, times: usize) -> bool
-    // The result is true exactly if the number of bytes equal to `mark` is `times`.
     ensures { result ≡ nat_eq (count_by (λ o. o == mark) octets.now) times }
 {
     count_marks(octets, mark) == times
@@ -54,7 +53,6 @@ pub(crate) fn are_parted_by(octets: &[u8], mark: u8, times: usize) -> bool
 
 /// Counts a mark.
 pub(crate) fn count_marks(octets: &[u8], mark: u8) -> usize
-    // The result is how many bytes are equal to `mark`.
     ensures { result ≡ marks mark octets.now }
 {
     octets.iter().filter(|octet| **octet == mark).count()
@@ -62,8 +60,6 @@ pub(crate) fn count_marks(octets: &[u8], mark: u8) -> usize
 
 /// Reads a time: seconds, a point, and six to nine digits. Returns whole microseconds; the rest is cut off.
 pub(crate) fn time(text: &[u8]) -> Option<u64>
-    // There is a time only with exactly one point, at most `SECONDS_MAX` seconds, and six to nine digits after the
-    // point (`time_of`).
     ensures { result ≡ time_of text.now }
 {
     if !are_parted_by(text, POINT, 1) {
@@ -91,7 +87,6 @@ fn micros(fraction: &[u8]) -> Option<u64>
 
 /// Reads a host: an IPv6 address if the text has a colon, otherwise an IPv4 address.
 pub(crate) fn host(text: &[u8]) -> Option<Host>
-    // A text without a colon is read as four numbers, any other as `sixteen_of` reads it.
     ensures { result ≡ host_of text.now }
 {
     if are_parted_by(text, COLON, 0) {
@@ -104,7 +99,6 @@ pub(crate) fn host(text: &[u8]) -> Option<Host>
 
 /// Reads an IPv6 address in a text form of RFC 4291 (2.2).
 fn sixteen(text: &[u8]) -> Option<[u8; 16]>
-    // The bytes are those of the address that std's definition `read_ipv6` reads from the whole text.
     ensures { result ≡ sixteen_of text.now }
 {
     match Ipv6Addr::parse_ascii(text) {
@@ -115,8 +109,6 @@ fn sixteen(text: &[u8]) -> Option<[u8; 16]>
 
 /// Reads an IPv4 address: four numbers of at most 255 separated by points.
 fn four(text: &[u8]) -> Option<[u8; 4]>
-    // There is an address only with exactly three points and a number of at most 255 at each of the four places
-    // (`four_of`).
     ensures { result ≡ four_of text.now }
 {
     if !are_parted_by(text, POINT, 3) {
@@ -134,7 +126,6 @@ fn four(text: &[u8]) -> Option<[u8; 4]>
 
 /// Reads one number of an IPv4 address.
 fn octet(text: &[u8]) -> Option<u8>
-    // The result is the decimal number, if it is at most 255.
     ensures { result ≡ number_of 255 text.now }
 {
     let number = number(text, 255)?;
@@ -165,7 +156,6 @@ pub(crate) fn number(word: &[u8], most: u64) -> Option<u64>
 
 /// Returns `true` for one or more decimal digits.
 fn is_decimal(word: &[u8]) -> bool
-    // An empty text is not a numeral; any other is one if all its bytes are digits.
     ensures { result ≡ is_numeral word.now }
 {
     if word.is_empty() {
@@ -176,7 +166,6 @@ fn is_decimal(word: &[u8]) -> bool
 
 /// Returns `true` if every byte is a decimal digit.
 fn are_digits(word: &[u8]) -> bool
-    // The result is true exactly if all bytes are ASCII digits.
     ensures { result ≡ list_all is_ascii_digit word.now }
 {
     word.iter().all(|octet| octet.is_ascii_digit())

@@ -35,7 +35,6 @@ pub struct Counts {
 impl Counts {
     /// Returns the counts before the first frame.
     pub(crate) fn new() -> Self
-        // All counts are 0.
         ensures { result ≡ no_counts }
     {
         Counts {
@@ -48,7 +47,6 @@ impl Counts {
 
     /// Counts a frame.
     pub(crate) fn add(&mut self, content: &Content)
-        // The frame is counted, and once more by what it has; of something else only the frame is (`count_frame`).
         ensures { self.new ≡ count_frame content.now self.old }
     {
         self.frames = self.frames.saturating_add(1);

@@ -49,7 +49,6 @@ impl Delays {
     ///
     /// `AllocError` if there is too little memory.
     pub(crate) fn new(alloc: Global) -> Result<Self, AllocError>
-        // There is no difference, and all buckets are empty.
         ensures { IfOk result (λ delays. (delays.first ≡ None) × (delays.buckets.items ≡ replicate BUCKETS 0)) }
     {
         Ok(Delays {
@@ -118,7 +117,6 @@ impl Delays {
 
     /// Returns how far the difference of a rank is from the least one.
     fn behind_least(&self, first: u64, rank: u64) -> u64
-        // The distance is that of the start of its bucket.
         ensures { result ≡ behind_least_of first self.now.least rank self.now.buckets.items }
     {
         let place = place_of_rank(self.buckets.as_slice(), rank);
@@ -127,7 +125,6 @@ impl Delays {
 
     /// Returns how far the difference of a rank is from the greatest one.
     fn before_greatest(&self, first: u64, rank: u64) -> u64
-        // The distance is that of the end of its bucket.
         ensures { result ≡ before_greatest_of first self.now.greatest rank self.now.buckets.items }
     {
         let place = place_of_rank(self.buckets.as_slice(), rank);
@@ -138,7 +135,6 @@ impl Delays {
 
 /// Returns the first difference, or this one.
 fn first_of(first: Option<u64>, difference: u64) -> u64
-    // The result is `first` if there is one, else `difference`.
     ensures { result ≡ first_from first difference }
 {
     match first {
@@ -149,7 +145,6 @@ fn first_of(first: Option<u64>, difference: u64) -> u64
 
 /// Adds one to a bucket.
 fn count(buckets: &mut [u64], place: usize)
-    // Only the count at this `place` grows, by 1; a place outside changes nothing.
     ensures { buckets.new ≡ with_one place buckets.old }
 {
     if place < buckets.len() {
@@ -159,8 +154,6 @@ fn count(buckets: &mut [u64], place: usize)
 
 /// Returns the bucket of a difference.
 fn bucket(first: u64, difference: u64) -> usize
-    // The bucket is as many from the middle as whole steps lie between both differences; those below the first one
-    // are rounded down. The outermost ones also have all further differences (`bucket_of`).
     ensures { result ≡ bucket_of first difference }
 {
     if first <= difference {
@@ -174,8 +167,6 @@ fn bucket(first: u64, difference: u64) -> usize
 
 /// Returns the least difference in a bucket.
 fn start_of(first: u64, place: usize) -> u64
-    // The result is as many steps from the first difference as the bucket is from the middle, limited to 64 bits
-    // (`start_at`).
     ensures { result ≡ start_at first place }
 {
     let place = place as u64;
@@ -208,7 +199,6 @@ fn place_of_rank(buckets: &[u64], rank: u64) -> usize
 
 /// Returns a difference with the other sign.
 fn negate(difference: u64) -> u64
-    // The result is as far from the difference of equal times on the other side, limited to 2^64 - 1.
     ensures { result ≡ negation_of difference }
 {
     (u64::MAX - difference).saturating_add(1)

@@ -25,7 +25,6 @@ pub(crate) fn write_json<W: Write>(
     here: Counts,
     there: Counts,
 ) -> io::Result<()>
-    // On success the object and a line feed are appended (`object_json`).
     ensures { OnOk result (Appends (W.contents writer.old) (W.contents writer.new)
         (object_json pairing.now.left_out pairing.now.ways.items here there)) }
 {
@@ -38,7 +37,6 @@ pub(crate) fn write_json<W: Write>(
 /// Writes what was read of both recordings.
 #[tactic(auto, unfolding(crate::specs::Json::read_json))]
 fn write_read<W: Write>(writer: &mut W, here: Counts, there: Counts) -> io::Result<()>
-    // On success the members of both sites are appended.
     ensures { OnOk result (Appends (W.contents writer.old) (W.contents writer.new) (read_json here there)) }
 {
     write_text(writer, "{\"here\":")?;
@@ -50,7 +48,6 @@ fn write_read<W: Write>(writer: &mut W, here: Counts, there: Counts) -> io::Resu
 /// Writes how many datagrams were left out, and opens the list of ways.
 #[tactic(auto, unfolding(crate::specs::Json::left_out_json))]
 fn write_left_out<W: Write>(writer: &mut W, left_out: u64) -> io::Result<()>
-    // On success their number is appended, and the list is opened.
     ensures { OnOk result (Appends (W.contents writer.old) (W.contents writer.new) (left_out_json left_out)) }
 {
     write!(writer, ",\"left_out\":{left_out},\"ways\":[")
@@ -59,7 +56,6 @@ fn write_left_out<W: Write>(writer: &mut W, left_out: u64) -> io::Result<()>
 /// Writes what was read of a recording.
 #[tactic(auto, unfolding(crate::specs::Json::counts_json))]
 fn write_counts<W: Write>(writer: &mut W, counts: Counts) -> io::Result<()>
-    // On success the object of all four counts is appended.
     ensures { OnOk result (Appends (W.contents writer.old) (W.contents writer.new) (counts_json counts)) }
 {
     let datagrams = counts.datagrams;
@@ -74,8 +70,6 @@ fn write_counts<W: Write>(writer: &mut W, counts: Counts) -> io::Result<()>
 
 /// Writes the objects of all ways, separated by commas.
 fn write_ways<W: Write>(writer: &mut W, ways: &[Way]) -> io::Result<()>
-    // On success the object of each way is appended, with the site of its sender among these `ways`; all but the
-    // first come after a comma.
     ensures { OnOk result (Appends (W.contents writer.old) (W.contents writer.new) (ways_json ways.now)) }
 {
     match ways {
@@ -89,7 +83,6 @@ fn write_ways<W: Write>(writer: &mut W, ways: &[Way]) -> io::Result<()>
 
 /// Writes the objects of further ways, each after a comma.
 fn write_more<W: Write>(writer: &mut W, ways: &[Way], rest: &[Way]) -> io::Result<()>
-    // On success a comma and the object of each way of `rest` are appended.
     ensures { OnOk result (Appends (W.contents writer.old) (W.contents writer.new) (more_json ways.now rest.now)) }
 {
     for way in rest {
@@ -101,7 +94,6 @@ fn write_more<W: Write>(writer: &mut W, ways: &[Way], rest: &[Way]) -> io::Resul
 /// Writes the object of a way after a comma.
 #[tactic(auto, unfolding(crate::specs::Json::next_way_json))]
 fn write_listed<W: Write>(writer: &mut W, ways: &[Way], way: &Way) -> io::Result<()>
-    // On success a comma and the object of this `way` are appended.
     ensures { OnOk result (Appends (W.contents writer.old) (W.contents writer.new) (next_way_json ways.now way.now)) }
 {
     write_text(writer, ",")?;
@@ -111,8 +103,6 @@ fn write_listed<W: Write>(writer: &mut W, ways: &[Way], way: &Way) -> io::Result
 /// Writes the object of a way.
 #[tactic(auto, unfolding(crate::specs::Json::way_json))]
 fn write_way<W: Write>(writer: &mut W, ways: &[Way], way: &Way) -> io::Result<()>
-    // On success both addresses, the site of the sender among these `ways`, the counts and the times are appended as
-    // members.
     ensures { OnOk result (Appends (W.contents writer.old) (W.contents writer.new)
         (way_json (origin_of ways.now way.now) way.now)) }
 {
@@ -126,7 +116,6 @@ fn write_way<W: Write>(writer: &mut W, ways: &[Way], way: &Way) -> io::Result<()
 /// Writes the addresses of a way, and opens its object.
 #[tactic(auto, unfolding(crate::specs::Json::ends_json))]
 fn write_ends<W: Write>(writer: &mut W, way: &Way) -> io::Result<()>
-    // On success the members of source and destination are appended.
     ensures { OnOk result (Appends (W.contents writer.old) (W.contents writer.new) (ends_json way.now)) }
 {
     write_end(writer, "{\"source\":\"", way.source)?;
@@ -136,7 +125,6 @@ fn write_ends<W: Write>(writer: &mut W, way: &Way) -> io::Result<()>
 /// Writes an address, with a text before it.
 #[tactic(auto, unfolding(crate::specs::Json::end_json))]
 fn write_end<W: Write>(writer: &mut W, front: &str, address: Address) -> io::Result<()>
-    // On success the text and the address are appended.
     ensures { OnOk result (Appends (W.contents writer.old) (W.contents writer.new) (end_json front.now address)) }
 {
     write_text(writer, front)?;
@@ -145,7 +133,6 @@ fn write_end<W: Write>(writer: &mut W, front: &str, address: Address) -> io::Res
 
 /// Returns the member of the site of a sender, behind the addresses.
 fn name_of_origin(origin: Option<Site>) -> &'static str
-    // Each site has its word; an unknown one is null (`origin_json`).
     ensures { result.now ≡ origin_json origin }
 {
     match origin {
@@ -157,7 +144,6 @@ fn name_of_origin(origin: Option<Site>) -> &'static str
 
 /// Writes the counts of a way.
 fn write_sums<W: Write>(writer: &mut W, sums: Sums) -> io::Result<()>
-    // On success the pairs and the rest, then those outside are appended as members.
     ensures { OnOk result (Appends (W.contents writer.old) (W.contents writer.new) (pairs_json sums ++ outside_json sums)) }
 {
     write_pairs(writer, sums)?;
@@ -167,7 +153,6 @@ fn write_sums<W: Write>(writer: &mut W, sums: Sums) -> io::Result<()>
 /// Writes how many datagrams of a way which recording has.
 #[tactic(auto, unfolding(crate::specs::Json::pairs_json))]
 fn write_pairs<W: Write>(writer: &mut W, sums: Sums) -> io::Result<()>
-    // On success the pairs, those of one recording alone, and the reordered pairs are appended as members.
     ensures { OnOk result (Appends (W.contents writer.old) (W.contents writer.new) (pairs_json sums)) }
 {
     let both = sums.both;
@@ -183,7 +168,6 @@ fn write_pairs<W: Write>(writer: &mut W, sums: Sums) -> io::Result<()>
 /// Writes how many datagrams of a way are outside of the other recording.
 #[tactic(auto, unfolding(crate::specs::Json::outside_json))]
 fn write_outside<W: Write>(writer: &mut W, sums: Sums) -> io::Result<()>
-    // On success those of both sites are appended as members.
     ensures { OnOk result (Appends (W.contents writer.old) (W.contents writer.new) (outside_json sums)) }
 {
     let here = sums.here.outside;
@@ -193,7 +177,6 @@ fn write_outside<W: Write>(writer: &mut W, sums: Sums) -> io::Result<()>
 
 /// Writes how long the datagrams of a way took, and closes its object.
 fn write_spread<W: Write>(writer: &mut W, spread: Option<Spread>) -> io::Result<()>
-    // On success all four times are appended as members; without a pair they are null.
     ensures { OnOk result (Appends (W.contents writer.old) (W.contents writer.new) (spread_json spread)) }
 {
     match spread {
@@ -208,7 +191,6 @@ fn write_spread<W: Write>(writer: &mut W, spread: Option<Spread>) -> io::Result<
 /// Writes how long the datagrams of a way took in microseconds, and closes its object.
 #[tactic(auto, unfolding(crate::specs::Json::durations_json))]
 fn write_times<W: Write>(writer: &mut W, spread: Spread) -> io::Result<()>
-    // On success the least difference is appended, and how much longer half, 99 of 100 and the slowest took.
     ensures { OnOk result (Appends (W.contents writer.old) (W.contents writer.new) (durations_json spread)) }
 {
     write_text(writer, ",\"least\":")?;
@@ -219,7 +201,6 @@ fn write_times<W: Write>(writer: &mut W, spread: Spread) -> io::Result<()>
 /// Writes how much longer some datagrams took, and closes the object.
 #[tactic(auto, unfolding(crate::specs::Json::later_json))]
 fn write_later<W: Write>(writer: &mut W, spread: Spread) -> io::Result<()>
-    // On success the members of half, 99 of 100 and the slowest are appended.
     ensures { OnOk result (Appends (W.contents writer.old) (W.contents writer.new) (later_json spread)) }
 {
     let median = spread.median;
@@ -233,7 +214,6 @@ fn write_later<W: Write>(writer: &mut W, spread: Spread) -> io::Result<()>
 
 /// Writes a difference of times in microseconds.
 fn write_signed<W: Write>(writer: &mut W, difference: u64) -> io::Result<()>
-    // On success the distance from `EVEN` is appended, behind a minus sign if it is below.
     ensures { OnOk result (Appends (W.contents writer.old) (W.contents writer.new) (signed_json difference)) }
 {
     if difference < EVEN {

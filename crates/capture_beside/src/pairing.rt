@@ -40,7 +40,6 @@ pub struct Pairing {
 impl Pairing {
     /// Returns a pairing without datagrams.
     pub(crate) fn new(alloc: Global) -> Self
-        // There is no way, the clocks count as equal, and nothing is left out.
         ensures { (result.ways.items ≡ []) × (result.shift ≡ EVEN_DIFFERENCE) × (result.left_out ≡ 0) }
     {
         Pairing {
@@ -120,7 +119,6 @@ impl Pairing {
 
 /// Returns `true` if a way has no pair.
 fn has_no_pair(way: &Way) -> bool
-    // The count of pairs is 0.
     ensures { result ≡ nat_eq way.now.sums.both 0 }
 {
     way.sums.both == 0
@@ -132,7 +130,6 @@ fn place_for(
     alloc: Global,
     arrival: &Arrival,
 ) -> Result<Option<usize>, AllocError>
-    // The place is one of the ways.
     ensures bound { IfOk result (λ found. IfSome found (λ place. place < length ways.new.items)) }
 {
     let place = place_of(ways.as_slice(), arrival.source, arrival.destination);
@@ -160,7 +157,6 @@ fn place_of(ways: &[Way], source: Address, destination: Address) -> Option<usize
 
 /// Returns `true` if a way goes from one address to another.
 fn is_between(way: &Way, source: Address, destination: Address) -> bool
-    // Both addresses are compared.
     ensures { result ≡ is_way_between source destination way.now }
 {
     is_same(way.source, source) && is_same(way.destination, destination)
@@ -168,8 +164,6 @@ fn is_between(way: &Way, source: Address, destination: Address) -> bool
 
 /// Returns the site of the sender of a way; `None` if that is unknown.
 pub(crate) fn origin(ways: &[Way], way: &Way) -> Option<Site>
-    // It is here if the median of the differences is greater than on the way back, there if it is less. It is unknown
-    // if one of both has no pair, or both medians are equal (`origin_of`).
     ensures { result ≡ origin_of ways.now way.now }
 {
     let back = place_of(ways, way.destination, way.source)?;
@@ -180,7 +174,6 @@ pub(crate) fn origin(ways: &[Way], way: &Way) -> Option<Site>
 
 /// Returns the site of the sender by the medians of the differences forth and back.
 fn first_site(forth: u64, back: u64) -> Option<Site>
-    // The greater difference is that of the way from here (`who_is_first`).
     ensures { result ≡ who_is_first forth back }
 {
     if back < forth {
@@ -194,7 +187,6 @@ fn first_site(forth: u64, back: u64) -> Option<Site>
 
 /// Returns the median of the differences of a way, or `None` without a pair.
 fn median(way: &Way) -> Option<u64>
-    // The median is that of all pairs of the way.
     ensures { result ≡ median_in way.now }
 {
     way.delays.median(way.sums.both)

@@ -35,7 +35,6 @@ impl Queue {
     ///
     /// `AllocError` if there is too little memory.
     pub(crate) fn new(alloc: Global) -> Result<Self, AllocError>
-        // No datagram waits, and partners are sought from the start.
         ensures { IfOk result (λ queue. (queue.waiting.items ≡ []) × (queue.next ≡ 0)) }
     {
         Ok(Queue {

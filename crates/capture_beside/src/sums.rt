@@ -38,7 +38,6 @@ pub struct Sums {
 impl Tally {
     /// Returns a tally without datagrams.
     fn new() -> Self
-        // A new tally has counted nothing.
         ensures { result ≡ no_tally }
     {
         Tally {
@@ -67,7 +66,6 @@ impl Tally {
 
     /// Counts a datagram that has no partner.
     fn leave(&mut self, is_outside: bool)
-        // Only the count of those outside grows by 1 if it is one of them, else only that of the missing ones.
         ensures { self.new ≡ count_without_partner is_outside self.old }
     {
         if is_outside {
@@ -79,7 +77,6 @@ impl Tally {
 
     /// Counts the number of a datagram that has a partner.
     fn reach(&mut self, number: u64)
-        // The furthest number is at least the one after this `number`.
         ensures { self.new ≡ count_partner number self.old }
     {
         self.furthest = self.furthest.max(number.saturating_add(1));
@@ -89,7 +86,6 @@ impl Tally {
 impl Sums {
     /// Returns sums without datagrams.
     pub(crate) fn new() -> Self
-        // All counts are 0, and there is no last pair.
         ensures { result ≡ no_sums }
     {
         Sums {
@@ -158,7 +154,6 @@ impl Sums {
 
 /// Returns the difference of the clocks: that of the last pair of a way, or else of all ways.
 fn shift_of(own: Option<u64>, shift: u64) -> u64
-    // The result is `own` if there is one, else `shift`.
     ensures { result ≡ shift_from own shift }
 {
     match own {

@@ -24,7 +24,6 @@ pub(crate) fn write_lines<W: Write>(
     here: Counts,
     there: Counts,
 ) -> io::Result<()>
-    // On success the lines of all ways in order and those of both recordings are appended (`lines_text`).
     ensures { OnOk result (Appends (W.contents writer.old) (W.contents writer.new)
         (lines_text pairing.now.ways.items here there)) }
 {
@@ -35,7 +34,6 @@ pub(crate) fn write_lines<W: Write>(
 
 /// Writes a line for each way.
 fn write_ways<W: Write>(writer: &mut W, ways: &[Way]) -> io::Result<()>
-    // On success the line of each way is appended, with the site of its sender among these `ways`.
     ensures { OnOk result (Appends (W.contents writer.old) (W.contents writer.new) (ways_text ways.now)) }
 {
     for way in ways {
@@ -47,8 +45,6 @@ fn write_ways<W: Write>(writer: &mut W, ways: &[Way]) -> io::Result<()>
 /// Writes the line of a way.
 #[tactic(auto, unfolding(crate::specs::Text::way_text))]
 fn write_way<W: Write>(writer: &mut W, ways: &[Way], way: &Way) -> io::Result<()>
-    // On success both addresses, the site of the sender among these `ways`, the counts and the times are appended
-    // (`way_text`).
     ensures { OnOk result (Appends (W.contents writer.old) (W.contents writer.new)
         (way_text (origin_of ways.now way.now) way.now)) }
 {
@@ -62,7 +58,6 @@ fn write_way<W: Write>(writer: &mut W, ways: &[Way], way: &Way) -> io::Result<()
 /// Writes the addresses of a way.
 #[tactic(auto, unfolding(crate::specs::Text::ends_text))]
 fn write_ends<W: Write>(writer: &mut W, way: &Way) -> io::Result<()>
-    // On success the source, an arrow and the destination are appended.
     ensures { OnOk result (Appends (W.contents writer.old) (W.contents writer.new) (ends_text way.now)) }
 {
     write_address(writer, way.source)?;
@@ -72,7 +67,6 @@ fn write_ends<W: Write>(writer: &mut W, way: &Way) -> io::Result<()>
 
 /// Writes the counts of a way.
 fn write_sums<W: Write>(writer: &mut W, sums: Sums) -> io::Result<()>
-    // On success the pairs and the rest, then those outside are appended.
     ensures { OnOk result (Appends (W.contents writer.old) (W.contents writer.new) (pairs_text sums ++ outside_text sums)) }
 {
     write_pairs(writer, sums)?;
@@ -81,7 +75,6 @@ fn write_sums<W: Write>(writer: &mut W, sums: Sums) -> io::Result<()>
 
 /// Returns the words for the site of a sender.
 fn name_of_origin(origin: Option<Site>) -> &'static str
-    // Each site has its words, and so has an unknown one (`origin_text`).
     ensures { result.now ≡ origin_text origin }
 {
     match origin {
@@ -94,7 +87,6 @@ fn name_of_origin(origin: Option<Site>) -> &'static str
 /// Writes how many datagrams of a way which recording has.
 #[tactic(auto, unfolding(crate::specs::Text::pairs_text))]
 fn write_pairs<W: Write>(writer: &mut W, sums: Sums) -> io::Result<()>
-    // On success the pairs, those of one recording alone, and the reordered pairs are appended.
     ensures { OnOk result (Appends (W.contents writer.old) (W.contents writer.new) (pairs_text sums)) }
 {
     let both = sums.both;
@@ -110,7 +102,6 @@ fn write_pairs<W: Write>(writer: &mut W, sums: Sums) -> io::Result<()>
 /// Writes how many datagrams of a way are outside of the other recording.
 #[tactic(auto, unfolding(crate::specs::Text::outside_text))]
 fn write_outside<W: Write>(writer: &mut W, sums: Sums) -> io::Result<()>
-    // On success those of both sites are appended.
     ensures { OnOk result (Appends (W.contents writer.old) (W.contents writer.new) (outside_text sums)) }
 {
     let here = sums.here.outside;
@@ -120,7 +111,6 @@ fn write_outside<W: Write>(writer: &mut W, sums: Sums) -> io::Result<()>
 
 /// Writes how long the datagrams of a way took, if there is a pair, and ends the line.
 fn write_spread<W: Write>(writer: &mut W, spread: Option<Spread>) -> io::Result<()>
-    // On success all four times and a line feed are appended; without a pair only the line feed is.
     ensures { OnOk result (Appends (W.contents writer.old) (W.contents writer.new) (spread_text spread)) }
 {
     match spread {
@@ -135,7 +125,6 @@ fn write_spread<W: Write>(writer: &mut W, spread: Option<Spread>) -> io::Result<
 /// Writes how long the datagrams of a way took.
 #[tactic(auto, unfolding(crate::specs::Text::durations_text))]
 fn write_times<W: Write>(writer: &mut W, spread: Spread) -> io::Result<()>
-    // On success the difference of the fastest one is appended, then how much longer others took.
     ensures { OnOk result (Appends (W.contents writer.old) (W.contents writer.new) (durations_text spread)) }
 {
     write_least(writer, spread.least)?;
@@ -145,7 +134,6 @@ fn write_times<W: Write>(writer: &mut W, spread: Spread) -> io::Result<()>
 /// Writes how much longer some datagrams took.
 #[tactic(auto, unfolding(crate::specs::Text::longer_text))]
 fn write_longer<W: Write>(writer: &mut W, spread: Spread) -> io::Result<()>
-    // On success the seconds of half, of 99 of 100 and of the slowest are appended.
     ensures { OnOk result (Appends (W.contents writer.old) (W.contents writer.new) (longer_text spread)) }
 {
     write_later(writer, " median +", spread.median)?;
@@ -155,7 +143,6 @@ fn write_longer<W: Write>(writer: &mut W, spread: Spread) -> io::Result<()>
 
 /// Writes the difference of the fastest one.
 fn write_least<W: Write>(writer: &mut W, difference: u64) -> io::Result<()>
-    // On success the word and the difference are appended.
     ensures { OnOk result (Appends (W.contents writer.old) (W.contents writer.new)
         (codes " least " ++ signed_text difference)) }
 {
@@ -166,7 +153,6 @@ fn write_least<W: Write>(writer: &mut W, difference: u64) -> io::Result<()>
 /// Writes how much longer some took, behind a word.
 #[tactic(auto, unfolding(crate::specs::Text::later_text))]
 fn write_later<W: Write>(writer: &mut W, word: &str, micros: u64) -> io::Result<()>
-    // On success the word and the seconds are appended.
     ensures { OnOk result (Appends (W.contents writer.old) (W.contents writer.new) (later_text word.now micros)) }
 {
     write_text(writer, word)?;
@@ -175,7 +161,6 @@ fn write_later<W: Write>(writer: &mut W, word: &str, micros: u64) -> io::Result<
 
 /// Writes a difference of times as seconds with its sign.
 fn write_signed<W: Write>(writer: &mut W, difference: u64) -> io::Result<()>
-    // On success the sign and the distance from `EVEN` are appended.
     ensures { OnOk result (Appends (W.contents writer.old) (W.contents writer.new) (signed_text difference)) }
 {
     if difference < EVEN {
@@ -189,7 +174,6 @@ fn write_signed<W: Write>(writer: &mut W, difference: u64) -> io::Result<()>
 /// Writes what was read of a recording.
 #[tactic(auto, unfolding(crate::specs::Text::counts_text))]
 fn write_counts<W: Write>(writer: &mut W, name: &str, counts: Counts) -> io::Result<()>
-    // On success the line of this `name` with all four counts is appended.
     ensures { OnOk result (Appends (W.contents writer.old) (W.contents writer.new) (counts_text name.now counts)) }
 {
     let datagrams = counts.datagrams;

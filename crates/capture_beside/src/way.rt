@@ -161,7 +161,6 @@ fn in_order(
     arrived: WaitingDatagram,
     partner: WaitingDatagram,
 ) -> (WaitingDatagram, WaitingDatagram)
-    // The first is the one that was recorded here.
     ensures { result ≡ pair_at site arrived partner }
 {
     match site {
@@ -172,7 +171,6 @@ fn in_order(
 
 /// Counts all datagrams that wait as ones without a partner.
 fn give_up_all(sums: Sums, site: Site, queue: &Queue, shift: u64, other: Option<Extent>) -> Sums
-    // Each one is counted in order (`give_up_list`).
     ensures { result ≡ give_up_list site queue.now.waiting.items shift other sums }
 {
     queue

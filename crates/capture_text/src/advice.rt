@@ -24,7 +24,6 @@ pub(crate) fn write_advice<W: Write>(
     asked: bool,
     connections: &[Entry],
 ) -> io::Result<()>
-    // On success the lines of all connections are appended if `asked` is true; otherwise nothing is (`advice_lines`).
     ensures { OnOk result (Appends (W.contents writer.old) (W.contents writer.new)
         (advice_lines asked connections.now)) }
 {
@@ -36,8 +35,6 @@ pub(crate) fn write_advice<W: Write>(
 
 /// Writes the lines of all connections. Without a connection, it writes that no PDU was recorded.
 fn write_any<W: Write>(writer: &mut W, connections: &[Entry]) -> io::Result<()>
-    // On success the lines of all `connections` are appended; without any, one line says how to proceed
-    // (`recording_advice_text`).
     ensures { OnOk result (Appends (W.contents writer.old) (W.contents writer.new)
         (recording_advice_text connections.now)) }
 {
@@ -49,7 +46,6 @@ fn write_any<W: Write>(writer: &mut W, connections: &[Entry]) -> io::Result<()>
 
 /// Writes that there is nothing to choose from.
 fn write_nothing<W: Write>(writer: &mut W) -> io::Result<()>
-    // On success one line is appended, with how to proceed.
     ensures { OnOk result (Appends (W.contents writer.old) (W.contents writer.new) nothing_text) }
 {
     write_text(
@@ -60,7 +56,6 @@ fn write_nothing<W: Write>(writer: &mut W) -> io::Result<()>
 
 /// Writes the lines of all connections.
 fn write_all<W: Write>(writer: &mut W, connections: &[Entry]) -> io::Result<()>
-    // On success the distributions and settings of each of the `connections` are appended, in order.
     ensures { OnOk result (Appends (W.contents writer.old) (W.contents writer.new)
         (advices_text connections.now)) }
 {
@@ -73,7 +68,6 @@ fn write_all<W: Write>(writer: &mut W, connections: &[Entry]) -> io::Result<()>
 /// Writes the lines of a connection.
 #[tactic(auto, unfolding(crate::specs::Advice::connection_text))]
 fn write_connection<W: Write>(writer: &mut W, connection: &Connection) -> io::Result<()>
-    // On success the distributions of both ends are appended, and then what is chosen for the network.
     ensures { OnOk result (Appends (W.contents writer.old) (W.contents writer.new)
         (connection_text connection.now)) }
 {
@@ -88,8 +82,6 @@ fn write_connection<W: Write>(writer: &mut W, connection: &Connection) -> io::Re
 /// Writes what was seen of a network, and the settings that fit it.
 #[tactic(auto, unfolding(crate::specs::Advice::advice_text))]
 fn write_network<W: Write>(writer: &mut W, ends: (u32, u32), network: &Network) -> io::Result<()>
-    // On success the lines of PDUs and losses, of both times with their reasons, and of the settings are appended
-    // (`advice_text`).
     ensures { OnOk result (Appends (W.contents writer.old) (W.contents writer.new)
         (advice_text ends.0 ends.1 network.now)) }
 {
@@ -105,7 +97,6 @@ fn write_network<W: Write>(writer: &mut W, ends: (u32, u32), network: &Network) 
 /// Writes the begin of a line about a connection.
 #[tactic(auto, unfolding(crate::specs::Advice::advice_front))]
 fn write_named<W: Write>(writer: &mut W, ends: (u32, u32)) -> io::Result<()>
-    // On success both identifiers are appended after the word of these lines.
     ensures { OnOk result (Appends (W.contents writer.old) (W.contents writer.new)
         (advice_front ends.0 ends.1)) }
 {
@@ -117,7 +108,6 @@ fn write_named<W: Write>(writer: &mut W, ends: (u32, u32)) -> io::Result<()>
 /// Writes how many PDUs there were, and the greatest loss.
 #[tactic(auto, unfolding(crate::specs::Advice::from_text))]
 fn write_from<W: Write>(writer: &mut W, ends: (u32, u32), network: &Network) -> io::Result<()>
-    // On success the line is appended, with a remark on too few PDUs.
     ensures { OnOk result (Appends (W.contents writer.old) (W.contents writer.new)
         (from_text ends.0 ends.1 network.now)) }
 {
@@ -133,7 +123,6 @@ fn write_from<W: Write>(writer: &mut W, ends: (u32, u32), network: &Network) -> 
 
 /// Returns a remark on too few PDUs.
 fn few(pdus: u64) -> &'static str
-    // The remark is empty from `ENOUGH` PDUs on.
     ensures { result.now ≡ few_word pdus }
 {
     if pdus < ENOUGH {
@@ -151,7 +140,6 @@ fn write_difference<W: Write>(
     network: &Network,
     delays: Delays,
 ) -> io::Result<()>
-    // On success the line of D is appended, with its reason.
     ensures { OnOk result (Appends (W.contents writer.old) (W.contents writer.new)
         (difference_text ends.0 ends.1 network.now delays)) }
 {
@@ -163,7 +151,6 @@ fn write_difference<W: Write>(
 
 /// Returns where the difference comes from.
 fn reason_of_difference(skew: Option<u64>) -> &'static str
-    // With a `skew` it is the greatest one, otherwise it is assumed (`difference_reason`).
     ensures { result.now ≡ difference_reason skew }
 {
     match skew {
@@ -180,7 +167,6 @@ fn write_delay<W: Write>(
     network: &Network,
     delays: Delays,
 ) -> io::Result<()>
-    // On success the line of d is appended, with its reason.
     ensures { OnOk result (Appends (W.contents writer.old) (W.contents writer.new)
         (delay_text ends.0 ends.1 network.now delays)) }
 {
@@ -192,7 +178,6 @@ fn write_delay<W: Write>(
 
 /// Returns where the shortest time one way comes from.
 fn reason_of_delay(shortest: Option<u64>) -> &'static str
-    // With round trips of both ends it is half of the shortest ones, otherwise it is assumed (`delay_reason`).
     ensures { result.now ≡ delay_reason shortest }
 {
     match shortest {
@@ -209,7 +194,6 @@ fn write_units<W: Write>(
     network: &Network,
     delays: Delays,
 ) -> io::Result<()>
-    // On success the line is appended, and if the window is too narrow for them, that.
     ensures { OnOk result (Appends (W.contents writer.old) (W.contents writer.new)
         (units_text ends.0 ends.1 network.now delays)) }
 {
@@ -222,7 +206,6 @@ fn write_units<W: Write>(
 /// Writes the units of a second, and how many of them come within two times one way.
 #[tactic(auto, unfolding(crate::specs::Advice::load_text))]
 fn write_load<W: Write>(writer: &mut W, units: u16, within: u64, remark: &str) -> io::Result<()>
-    // On success both numbers, the `remark` and a line feed are appended.
     ensures { OnOk result (Appends (W.contents writer.old) (W.contents writer.new)
         (load_text units within remark.now)) }
 {
@@ -234,7 +217,6 @@ fn write_load<W: Write>(writer: &mut W, units: u16, within: u64, remark: &str) -
 
 /// Returns how many units of the busiest second come within two times one way.
 fn within(units: u16, delay: u64) -> u64
-    // The units are those of 2 d of 1,000 ms, rounded up (`within_delay`).
     ensures { result ≡ within_delay units delay }
 {
     let twice = delay.saturating_mul(2);
@@ -244,7 +226,6 @@ fn within(units: u16, delay: u64) -> u64
 
 /// Returns a remark on units that a window does not hold.
 fn remark_on_units(within: u64) -> &'static str
-    // Up to a window of 7 the remark is empty (`units_word`).
     ensures { result.now ≡ units_word within }
 {
     if within > 7 {
@@ -261,8 +242,6 @@ fn write_chosen<W: Write>(
     delays: Delays,
     chosen: Option<ChosenSettings>,
 ) -> io::Result<()>
-    // On success the lines of the settings that were `chosen` are appended; without any, one line says so
-    // (`settings_lines`).
     ensures { OnOk result (Appends (W.contents writer.old) (W.contents writer.new)
         (settings_lines ends.0 ends.1 delays chosen)) }
 {
@@ -275,7 +254,6 @@ fn write_chosen<W: Write>(
 /// Writes that no settings fit.
 #[tactic(auto, unfolding(crate::specs::Advice::none_text))]
 fn write_none<W: Write>(writer: &mut W, ends: (u32, u32)) -> io::Result<()>
-    // On success one line with the limits is appended.
     ensures { OnOk result (Appends (W.contents writer.old) (W.contents writer.new) (none_text ends.0 ends.1)) }
 {
     write_named(writer, ends)?;
@@ -293,7 +271,6 @@ fn write_settings<W: Write>(
     delays: Delays,
     settings: ChosenSettings,
 ) -> io::Result<()>
-    // On success the lines of the window, T_seq, T_h and T_max are appended, in this order (`settings_text`).
     ensures { OnOk result (Appends (W.contents writer.old) (W.contents writer.new)
         (settings_text ends.0 ends.1 delays settings)) }
 {
@@ -311,7 +288,6 @@ fn write_window<W: Write>(
     ends: (u32, u32),
     settings: ChosenSettings,
 ) -> io::Result<()>
-    // On success the line with the three numbers is appended.
     ensures { OnOk result (Appends (W.contents writer.old) (W.contents writer.new)
         (window_text ends.0 ends.1 settings)) }
 {
@@ -324,7 +300,6 @@ fn write_window<W: Write>(
 /// Writes the values of the window, mwa and q.
 #[tactic(auto, unfolding(crate::specs::Advice::three_text))]
 fn write_three<W: Write>(writer: &mut W, settings: ChosenSettings) -> io::Result<()>
-    // On success the names and values of the three are appended.
     ensures { OnOk result (Appends (W.contents writer.old) (W.contents writer.new) (three_text settings)) }
 {
     let window = settings.window;
@@ -336,7 +311,6 @@ fn write_three<W: Write>(writer: &mut W, settings: ChosenSettings) -> io::Result
 /// Writes the rule that the window, mwa and q obey, and ends the line.
 #[tactic(auto, unfolding(crate::specs::Advice::rule_text))]
 fn write_rule<W: Write>(writer: &mut W, settings: ChosenSettings) -> io::Result<()>
-    // On success the rule is appended with the values of these `settings`.
     ensures { OnOk result (Appends (W.contents writer.old) (W.contents writer.new) (rule_text settings)) }
 {
     let window = settings.window;
@@ -353,7 +327,6 @@ fn write_t_seq<W: Write>(
     delays: Delays,
     settings: ChosenSettings,
 ) -> io::Result<()>
-    // On success the line of T_seq is appended, with the difference that it is above.
     ensures { OnOk result (Appends (W.contents writer.old) (W.contents writer.new)
         (t_seq_text ends.0 ends.1 delays settings)) }
 {
@@ -369,7 +342,6 @@ fn write_t_seq<W: Write>(
 /// Writes T_h.
 #[tactic(auto, unfolding(crate::specs::Advice::t_h_text))]
 fn write_t_h<W: Write>(writer: &mut W, ends: (u32, u32), settings: ChosenSettings) -> io::Result<()>
-    // On success the line of T_h is appended.
     ensures { OnOk result (Appends (W.contents writer.old) (W.contents writer.new)
         (t_h_text ends.0 ends.1 settings)) }
 {
@@ -385,7 +357,6 @@ fn write_t_max<W: Write>(
     ends: (u32, u32),
     settings: ChosenSettings,
 ) -> io::Result<()>
-    // On success the line of T_max is appended.
     ensures { OnOk result (Appends (W.contents writer.old) (W.contents writer.new)
         (t_max_text ends.0 ends.1 settings)) }
 {

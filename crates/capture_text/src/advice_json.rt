@@ -18,7 +18,6 @@ pub(crate) fn write_end<W: Write>(
     asked: bool,
     connections: &[Entry],
 ) -> io::Result<()>
-    // On success the end of the object is appended, after the list of what is chosen if `asked` is true (`end_json`).
     ensures { OnOk result (Appends (W.contents writer.old) (W.contents writer.new)
         (end_json asked connections.now)) }
 {
@@ -31,7 +30,6 @@ pub(crate) fn write_end<W: Write>(
 /// Writes the list of what is chosen for each connection, and ends the object of all sums.
 #[tactic(auto, unfolding(crate::specs::AdviceJson::advices_json))]
 fn write_advices<W: Write>(writer: &mut W, connections: &[Entry]) -> io::Result<()>
-    // On success the list of what is chosen for all `connections` is appended as a member, in order.
     ensures { OnOk result (Appends (W.contents writer.old) (W.contents writer.new)
         (advices_json connections.now)) }
 {
@@ -43,7 +41,6 @@ fn write_advices<W: Write>(writer: &mut W, connections: &[Entry]) -> io::Result<
 
 /// Writes what is chosen for each connection, with a comma between two.
 fn write_list<W: Write>(writer: &mut W, connections: &[Entry]) -> io::Result<()>
-    // On success what is chosen for all `connections` is appended in order, separated by commas.
     ensures { OnOk result (Appends (W.contents writer.old) (W.contents writer.new) (list_json connections.now)) }
 {
     match connections {
@@ -58,7 +55,6 @@ fn write_list<W: Write>(writer: &mut W, connections: &[Entry]) -> io::Result<()>
 
 /// Writes what is chosen for each connection, each after a comma.
 fn write_rest<W: Write>(writer: &mut W, connections: &[Entry]) -> io::Result<()>
-    // On success a comma and what is chosen are appended for each of the `connections`.
     ensures { OnOk result (Appends (W.contents writer.old) (W.contents writer.new) (rest_json connections.now)) }
 {
     for entry in connections {
@@ -70,7 +66,6 @@ fn write_rest<W: Write>(writer: &mut W, connections: &[Entry]) -> io::Result<()>
 /// Writes what is chosen for a connection, after a comma.
 #[tactic(auto, unfolding(crate::specs::AdviceJson::next_advice_json))]
 fn write_listed<W: Write>(writer: &mut W, connection: &Connection) -> io::Result<()>
-    // On success a comma and what is chosen for this `connection` are appended.
     ensures { OnOk result (Appends (W.contents writer.old) (W.contents writer.new) (next_advice_json connection.now)) }
 {
     write_text(writer, ",")?;
@@ -80,7 +75,6 @@ fn write_listed<W: Write>(writer: &mut W, connection: &Connection) -> io::Result
 /// Writes the object of a connection.
 #[tactic(auto, unfolding(crate::specs::AdviceJson::advice_json))]
 fn write_connection<W: Write>(writer: &mut W, connection: &Connection) -> io::Result<()>
-    // On success the object is appended: identifiers, distributions, what was seen of the network, settings.
     ensures { OnOk result (Appends (W.contents writer.old) (W.contents writer.new) (advice_json connection.now)) }
 {
     let network = observe(connection);
@@ -96,7 +90,6 @@ fn write_connection<W: Write>(writer: &mut W, connection: &Connection) -> io::Re
 /// Writes the identifiers of a connection, and begins its distributions.
 #[tactic(auto, unfolding(crate::specs::AdviceJson::name_json))]
 fn write_name<W: Write>(writer: &mut W, low: u32, high: u32) -> io::Result<()>
-    // On success the identifiers `low` and `high` are appended, and the begin of the list of distributions.
     ensures { OnOk result (Appends (W.contents writer.old) (W.contents writer.new) (name_json low high)) }
 {
     write!(writer, "{{\"low\":{low},\"high\":{high},\"times\":[")
@@ -105,7 +98,6 @@ fn write_name<W: Write>(writer: &mut W, low: u32, high: u32) -> io::Result<()>
 /// Writes the distributions of both ends.
 #[tactic(auto, unfolding(crate::specs::AdviceJson::sides_json))]
 fn write_sides<W: Write>(writer: &mut W, measures: &Measures) -> io::Result<()>
-    // On success the objects of the lower end and of the other end are appended, and the end of their list.
     ensures { OnOk result (Appends (W.contents writer.old) (W.contents writer.new) (sides_json measures.now)) }
 {
     write_measured_json(writer, &measures.low)?;
@@ -118,7 +110,6 @@ fn write_sides<W: Write>(writer: &mut W, measures: &Measures) -> io::Result<()>
 /// Writes what was seen of a network.
 #[tactic(auto, unfolding(crate::specs::AdviceJson::network_json))]
 fn write_network<W: Write>(writer: &mut W, network: &Network) -> io::Result<()>
-    // On success PDUs, losses and units are appended, and which of both times were seen.
     ensures { OnOk result (Appends (W.contents writer.old) (W.contents writer.new) (network_json network.now)) }
 {
     write_units(writer, network)?;
@@ -129,7 +120,6 @@ fn write_network<W: Write>(writer: &mut W, network: &Network) -> io::Result<()>
 /// Writes which times were seen.
 #[tactic(auto, unfolding(crate::specs::AdviceJson::seen_times_json))]
 fn write_seen<W: Write>(writer: &mut W, round_trips: &str, skews: &str) -> io::Result<()>
-    // On success both words are appended as members, that of `round_trips` first.
     ensures { OnOk result (Appends (W.contents writer.old) (W.contents writer.new)
         (seen_times_json round_trips.now skews.now)) }
 {
@@ -142,7 +132,6 @@ fn write_seen<W: Write>(writer: &mut W, round_trips: &str, skews: &str) -> io::R
 /// Writes the PDUs, the losses and the units.
 #[tactic(auto, unfolding(crate::specs::AdviceJson::units_json))]
 fn write_units<W: Write>(writer: &mut W, network: &Network) -> io::Result<()>
-    // On success the three counts of the `network` are appended as members.
     ensures { OnOk result (Appends (W.contents writer.old) (W.contents writer.new) (units_json network.now)) }
 {
     let pdus = network.pdus;
@@ -153,7 +142,6 @@ fn write_units<W: Write>(writer: &mut W, network: &Network) -> io::Result<()>
 
 /// Returns the word of JSON for whether a time was seen.
 fn truth(time: Option<u64>) -> &'static str
-    // A `time` is "true", none is "false".
     ensures { result.now ≡ truth_word time }
 {
     match time {
@@ -165,7 +153,6 @@ fn truth(time: Option<u64>) -> &'static str
 /// Writes the times by which settings are chosen.
 #[tactic(auto, unfolding(crate::specs::AdviceJson::delays_json))]
 fn write_delays<W: Write>(writer: &mut W, delays: Delays) -> io::Result<()>
-    // On success both times are appended as members, the difference first.
     ensures { OnOk result (Appends (W.contents writer.old) (W.contents writer.new) (delays_json delays)) }
 {
     let difference = delays.difference;
@@ -175,7 +162,6 @@ fn write_delays<W: Write>(writer: &mut W, delays: Delays) -> io::Result<()>
 
 /// Writes the settings, or null, and ends the object of the connection.
 fn write_chosen<W: Write>(writer: &mut W, chosen: Option<ChosenSettings>) -> io::Result<()>
-    // On success the member `settings` is appended with what was `chosen` (`chosen_settings_json`).
     ensures { OnOk result (Appends (W.contents writer.old) (W.contents writer.new) (chosen_settings_json chosen)) }
 {
     match chosen {
@@ -187,7 +173,6 @@ fn write_chosen<W: Write>(writer: &mut W, chosen: Option<ChosenSettings>) -> io:
 /// Writes the object of settings.
 #[tactic(auto, unfolding(crate::specs::AdviceJson::settings_json))]
 fn write_settings<W: Write>(writer: &mut W, settings: ChosenSettings) -> io::Result<()>
-    // On success the six settings are appended, and both objects end.
     ensures { OnOk result (Appends (W.contents writer.old) (W.contents writer.new) (settings_json settings)) }
 {
     let t_seq = settings.t_seq;
@@ -203,7 +188,6 @@ fn write_settings<W: Write>(writer: &mut W, settings: ChosenSettings) -> io::Res
 /// Writes the window, mwa and q.
 #[tactic(auto, unfolding(crate::specs::AdviceJson::window_json))]
 fn write_window<W: Write>(writer: &mut W, settings: ChosenSettings) -> io::Result<()>
-    // On success the object of the `settings` begins with these three.
     ensures { OnOk result (Appends (W.contents writer.old) (W.contents writer.new) (window_json settings)) }
 {
     let window = settings.window;

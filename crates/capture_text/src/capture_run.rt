@@ -153,7 +153,6 @@ fn follow_input<R: Read + Drop, O: Write, E: Write>(
 /// Returns how many lines were not a datagram, connections were forgotten, and datagrams have another safety code if
 /// none has the right one.
 fn faults_of(course: &CaptureReading) -> u64
-    // The three counts are added, limited to 2^64 - 1 (`faults_in`).
     ensures { result ≡ faults_in course.now.unreadable course.now.following.forgotten course.now.following.miscoded }
 {
     let faults = course.unreadable.saturating_add(course.following.forgotten);
@@ -162,7 +161,6 @@ fn faults_of(course: &CaptureReading) -> u64
 
 /// Returns how many datagrams have another safety code, if none has the right one.
 fn miscoded_count(course: &CaptureReading) -> u64
-    // The result is 0 as soon as a datagram has the right code (`all_miscoded`).
     ensures { result ≡ all_miscoded course.now.following.miscoded }
 {
     match course.following.miscoded {
@@ -173,8 +171,6 @@ fn miscoded_count(course: &CaptureReading) -> u64
 
 /// Reports that all datagrams have another safety code.
 fn report_miscoded<E: Write>(course: &CaptureReading, err: &mut E) -> Result<(), Stop>
-    // On success one line with their number is appended to `err` if datagrams have another code, and none has the right
-    // one; otherwise nothing is (`miscoded_line`).
     ensures { OnOk result (Appends (E.contents err.old) (E.contents err.new)
         (miscoded_line (all_miscoded course.now.following.miscoded))) }
 {
@@ -188,7 +184,6 @@ fn report_miscoded<E: Write>(course: &CaptureReading, err: &mut E) -> Result<(),
 /// Writes the line about datagrams that all have another safety code.
 #[tactic(auto, unfolding(crate::specs::FaultText::miscoded_text))]
 fn write_miscoded<E: Write>(miscoded: u64, err: &mut E) -> Result<(), Stop>
-    // On success the line with the number of datagrams is appended to `err`.
     ensures { OnOk result (Appends (E.contents err.old) (E.contents err.new) (miscoded_text miscoded)) }
 {
     match writeln!(
@@ -222,7 +217,6 @@ pub fn foreign(front: [u8; 4]) -> Option<ForeignForm>
 
 /// Returns `true` if a file begins with these bytes.
 fn is_front(front: [u8; 4], wanted: [u8; 4]) -> bool
-    // All four bytes are compared.
     ensures { result ≡ has_front front wanted }
 {
     front[0] == wanted[0] && front[1] == wanted[1] && front[2] == wanted[2] && front[3] == wanted[3]
@@ -244,8 +238,6 @@ pub fn name_of_foreign(form: ForeignForm) -> &'static str
 /// Reports connections that were forgotten.
 #[tactic(auto, unfolding(crate::specs::FaultText::forgotten_text))]
 fn report_forgotten<E: Write>(course: &CaptureReading, err: &mut E) -> Result<(), Stop>
-    // On success one line with their number is appended to `err` if connections were forgotten; otherwise nothing is
-    // (`forgotten_line`).
     ensures { OnOk result (Appends (E.contents err.old) (E.contents err.new)
         (forgotten_line course.now.following.forgotten)) }
 {
@@ -271,8 +263,6 @@ fn follow_lines<R: Read + Drop, W: Write, E: Write, A: Allocator + Copy>(
     writer: &mut W,
     err: &mut E,
 ) -> Result<(), Stop>
-    // If no fault stops it, the state after the call is that after all lines of the reader. Their text is appended to
-    // `writer`, and their faults to `err`, in order.
     ensures { OnOk result (IfSome (reader_remaining R.remaining reader.old) (λ octets.
         (state_of course.new ≡ with_lines asked.now (state_of course.old) (lines_of octets))
         × Appends (W.contents writer.old) (W.contents writer.new)
@@ -298,7 +288,6 @@ fn show<R: Read, W: Write, A: Allocator>(
     reader: &BufReader<R, A>,
     writer: &mut W,
 ) -> Result<(), Stop>
-    // Flushing appends nothing to the output.
     ensures { OnOk result (Appends (W.contents writer.old) (W.contents writer.new) []) }
 {
     if reader.buffer().is_empty() {
@@ -442,7 +431,6 @@ fn follow_frames<R: Read + Drop, W: Write, E: Write, A: Allocator + Copy>(
 
 /// Makes room for this number of bytes. It never takes room away, since each byte of new room is written.
 fn make_room<A: Allocator>(block: &mut Vec<u8, A>, wanted: usize) -> Result<(), Stop>
-    // On success the block has at least as many bytes as are `wanted`.
     ensures { OnOk result (wanted ≤ vec_len block.new) }
 {
     if wanted <= block.len() {
@@ -553,8 +541,6 @@ fn stop_of(error: io::Error) -> Stop {
 
 /// Removes the line feed of a line, and a carriage return before it.
 fn without_feed(line: &[u8]) -> &[u8]
-    // A final line feed is removed, then a final carriage return; a line without a line feed does not change
-    // (`without_end`).
     ensures { result.now ≡ without_end line.now }
 {
     match line {
@@ -566,7 +552,6 @@ fn without_feed(line: &[u8]) -> &[u8]
 
 /// Writes the fault of a line.
 fn report_line<E: Write>(err: &mut E, number: u64, fault: LineFault) -> Result<(), Stop>
-    // On success the line for the `fault`, with the `number` of its line, is appended to `err`.
     ensures { OnOk result (Appends (E.contents err.old) (E.contents err.new) (fault_text number fault)) }
 {
     match write_fault(err, number, fault) {
@@ -604,7 +589,6 @@ fn go_on(error: io::Error) -> Result<(), Stop> {
 
 /// Flushes an output.
 fn flush<W: Write>(writer: &mut W) -> Result<(), Stop>
-    // A successful flush appends nothing.
     ensures { OnOk result (Appends (W.contents writer.old) (W.contents writer.new) []) }
 {
     match writer.flush() {
@@ -680,7 +664,6 @@ fn take_framed<W: Write, E: Write>(
 
 /// Writes the fault of a frame.
 fn report_frame<E: Write>(err: &mut E, number: u64, fault: FrameFault) -> Result<(), Stop>
-    // On success the line for the `fault`, with the `number` of its frame, is appended to `err`.
     ensures { OnOk result (Appends (E.contents err.old) (E.contents err.new) (frame_text number fault)) }
 {
     match write_frame_fault(err, number, fault) {

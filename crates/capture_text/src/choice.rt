@@ -74,7 +74,6 @@ pub fn is_wanted(only: Option<Remarkable>, t_max: u32, remark: &Remark) -> bool
 
 /// Returns `true` if a datagram has this remark.
 fn is_meant_by(word: Remarkable, t_max: u32, remark: &Remark) -> bool
-    // A PDU has the remarks of `has_word`; any other datagram has only the remark for faults.
     ensures { result ≡ is_meant word t_max remark.now }
 {
     match *remark {
@@ -85,8 +84,6 @@ fn is_meant_by(word: Remarkable, t_max: u32, remark: &Remark) -> bool
 
 /// Returns `true` if a PDU has this remark.
 fn is_remarked(word: Remarkable, t_max: u32, remarks: &Remarks) -> bool
-    // An opening, a retransmission, an age of at least `t_max`, a wait of at least half of it and a reason have their
-    // own fields; any other word is compared with how the numbers followed.
     ensures { result ≡ has_word word t_max remarks.now }
 {
     match word {
@@ -107,7 +104,6 @@ fn is_remarked(word: Remarkable, t_max: u32, remarks: &Remarks) -> bool
 
 /// Returns `true` if an age is at least T_max.
 pub(crate) fn is_over(t_max: u32, age: Option<u32>) -> bool
-    // Without an `age` the result is false.
     ensures { result ≡ is_overdue t_max age }
 {
     match age {
@@ -118,7 +114,6 @@ pub(crate) fn is_over(t_max: u32, age: Option<u32>) -> bool
 
 /// Returns `true` if an end has waited for at least half of T_max.
 fn is_near(t_max: u32, waits: Option<u32>) -> bool
-    // Without a wait the result is false.
     ensures { result ≡ is_waiting t_max waits }
 {
     match waits {
@@ -129,7 +124,6 @@ fn is_near(t_max: u32, waits: Option<u32>) -> bool
 
 /// Returns `true` if a wait is at least half of T_max; both in milliseconds.
 pub(crate) fn is_half_of(t_max: u32, waits: u32) -> bool
-    // Twice the wait is compared with `t_max`, so an odd T_max is not rounded.
     ensures { result ≡ is_half t_max waits }
 {
     t_max as u64 <= waits as u64 * 2
@@ -137,7 +131,6 @@ pub(crate) fn is_half_of(t_max: u32, waits: u32) -> bool
 
 /// Returns `true` if one of a PDU's numbers followed as the word says.
 fn is_number(word: Remarkable, remarks: &Remarks) -> bool
-    // The numbers of the channel, of all channels and the sequence numbers are compared; one match is enough.
     ensures { result ≡ is_number_named word remarks.now }
 {
     is_maybe(word, remarks.channel)
@@ -147,7 +140,6 @@ fn is_number(word: Remarkable, remarks: &Remarks) -> bool
 
 /// Returns `true` if a number was judged and followed as the word says.
 fn is_maybe(word: Remarkable, judged: Option<NumberOrder>) -> bool
-    // Without a judgement the result is false.
     ensures { result ≡ is_maybe_named word judged }
 {
     match judged {
@@ -158,7 +150,6 @@ fn is_maybe(word: Remarkable, judged: Option<NumberOrder>) -> bool
 
 /// Returns `true` if a number followed as the word says.
 fn is_so(word: Remarkable, judged: NumberOrder) -> bool
-    // The `word` is that of the judgement; the first and the next number have no word.
     ensures { result ≡ is_named word judged }
 {
     match judged {

@@ -370,7 +370,6 @@ impl CaptureReading {
 
 /// Returns `true` if sums are due at a time.
 fn has_passed(due: Option<u64>, time: u64) -> bool
-    // Sums are due from their time on; before the first datagram they are not (`is_due`).
     ensures { result ≡ is_due due time }
 {
     match due {
@@ -381,8 +380,6 @@ fn has_passed(due: Option<u64>, time: u64) -> bool
 
 /// Returns when sums are due next, after a datagram at a time.
 fn next_due(every: Option<u32>, due: Option<u64>, first: Option<u64>, time: u64) -> Option<u64>
-    // Without a period, and before the first datagram, no sums are due. The time stays if it has not passed; otherwise
-    // it is the next one after whole periods since the first datagram (`due_next`).
     ensures { result ≡ due_next every due first time }
 {
     let seconds = every?;
@@ -395,7 +392,6 @@ fn next_due(every: Option<u32>, due: Option<u64>, first: Option<u64>, time: u64)
 
 /// Returns the next time after whole periods of `seconds` since the first datagram.
 fn after_periods(seconds: u32, first: u64, time: u64) -> u64
-    // The result is after the `time`, limited to 2^64 - 1 (`next_period`).
     ensures { result ≡ next_period seconds first time }
 {
     let period = seconds.max(1) as u64 * 1_000_000;
@@ -405,7 +401,6 @@ fn after_periods(seconds: u32, first: u64, time: u64) -> u64
 
 /// Returns the time of the first datagram, or this time.
 pub(crate) fn start(first: Option<u64>, time: u64) -> u64
-    // The result is `first`, or `time` if there is none yet.
     ensures { result ≡ first_of first time }
 {
     match first {
@@ -439,7 +434,6 @@ fn decode_line(
 
 /// Counts a line whose datagram is passed over.
 fn pass_line(passed: &mut SkipCounts, heard: &Result<(Record, DecodedDatagram), SkipCause>)
-    // Only a datagram that is passed over is counted, by its kind (`count_line_skip`).
     ensures { passed.new ≡ count_line_skip passed.old heard.now }
 {
     match heard {
@@ -455,7 +449,6 @@ fn decode_followed(
     record: &Record,
     octets: &[u8],
 ) -> Result<(Record, DecodedDatagram), SkipCause>
-    // The result is the decoded datagram if it is followed, or the reason why it is passed over (`followed_datagram`).
     ensures { result ≡ followed_datagram asked.now first «record».now octets.now }
 {
     match skip(asked, first, record) {
@@ -511,7 +504,6 @@ pub(crate) fn write_wanted<W: Write>(
     remark: &Remark,
     datagram: &[u8],
 ) -> io::Result<()>
-    // On success the text of the datagram is appended if its remark is chosen (`is_asked`); otherwise nothing is.
     ensures { OnOk result (Appends (W.contents writer.old) (W.contents writer.new)
         (chosen_text asked.now first number «record».now remark.now datagram.now)) }
 {
@@ -531,7 +523,6 @@ fn write_told<W: Write>(
     remark: &Remark,
     datagram: &[u8],
 ) -> io::Result<()>
-    // On success its line and telegrams, or its events, are appended; with `Json` nothing is (`form_text`).
     ensures { OnOk result (Appends (W.contents writer.old) (W.contents writer.new)
         (form_text asked.now.form asked.now first number «record».now remark.now datagram.now)) }
 {
@@ -547,7 +538,6 @@ fn write_told<W: Write>(
 
 /// Returns how times, ages and waits are printed.
 fn scale(asked: &FollowOptions, first: u64) -> Scale
-    // Times are printed in the form that is `asked` for, by the time of the `first` datagram.
     ensures { result ≡ scale_from asked.now first }
 {
     Scale {
@@ -561,7 +551,6 @@ fn scale(asked: &FollowOptions, first: u64) -> Scale
 
 /// Writes the telegrams of a datagram, if they are asked for.
 fn write_asked<W: Write>(writer: &mut W, asked: &FollowOptions, datagram: &[u8]) -> io::Result<()>
-    // On success the lines of the telegrams are appended exactly if `asked` has `messages`.
     ensures { OnOk result (Appends (W.contents writer.old) (W.contents writer.new)
         (asked_telegrams asked.now datagram.now)) }
 {
@@ -587,7 +576,6 @@ pub fn write_fault<W: Write>(writer: &mut W, number: u64, fault: LineFault) -> i
 
 /// Returns the words of a fault.
 fn name_of_fault(fault: LineFault) -> &'static str
-    // Each `fault` has its words (`fault_word`).
     ensures { result.now ≡ fault_word fault }
 {
     match fault {

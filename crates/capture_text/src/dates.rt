@@ -41,7 +41,6 @@ const EPOCH: u64 = 719_468;
 /// Returns the date of a day, counted from the start of 1970.
 pub(crate) fn date_of_day(days: u64) -> Date
     requires { days < 2 ^ 40 }
-    // The day is counted from the 1 March of the year 0, by cycles of 400 years (`date_of`).
     ensures { result ≡ date_of days }
 {
     let day = days + EPOCH;
@@ -77,7 +76,6 @@ fn split(days: u64) -> YearDay
 fn date_in_year(at: YearDay) -> Date
     requires day { at.day ≤ 365 }
     requires year { at.year < 2 ^ 50 }
-    // Months that begin with March have 153 days in five; January and February are of the next year (`date_on`).
     ensures { result ≡ date_on at }
 {
     let month = (5 * at.day + 2) / 153;
@@ -101,7 +99,6 @@ fn years_to(month: u64) -> u64
 /// Returns the number of a month that is counted from March.
 fn number_of_month(month: u64) -> u64
     requires { month ≤ 11 }
-    // March is 3, and January, the month 10 from March, is 1.
     ensures { result ≡ month_from_march month }
 {
     if month < 10 { month + 3 } else { month - 9 }

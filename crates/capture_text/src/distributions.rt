@@ -17,7 +17,6 @@ pub(crate) fn write_measured<W: Write>(
     ends: (u32, u32),
     measured: &Measurements,
 ) -> io::Result<()>
-    // On success the lines of round trips, skews, silences and waits are appended, in this order.
     ensures { OnOk result (Appends (W.contents writer.old) (W.contents writer.new)
         (measurements_text ends.0 ends.1 measured.now)) }
 {
@@ -36,8 +35,6 @@ fn write_distribution<W: Write>(
     name: &str,
     distribution: &Distribution,
 ) -> io::Result<()>
-    // On success both ends, the `name`, the number of values, the greatest one, and the count of each class up to
-    // that of the greatest are appended as one line (`distribution_text`).
     ensures { OnOk result (Appends (W.contents writer.old) (W.contents writer.new)
         (distribution_text ends.0 ends.1 name.now distribution.now)) }
 {
@@ -54,7 +51,6 @@ fn write_distribution<W: Write>(
 /// Writes how many values there are, and the greatest one.
 #[tactic(auto, unfolding(crate::specs::Distributions::number_text))]
 fn write_number<W: Write>(writer: &mut W, distribution: &Distribution) -> io::Result<()>
-    // On success the sum of all counts, the greatest value and the classes' names are appended.
     ensures { OnOk result (Appends (W.contents writer.old) (W.contents writer.new)
         (number_text distribution.now)) }
 {
@@ -68,7 +64,6 @@ fn write_number<W: Write>(writer: &mut W, distribution: &Distribution) -> io::Re
 
 /// Returns how many values a distribution has.
 fn number(distribution: &Distribution) -> u64
-    // All counts are added, limited to 2^64 - 1 (`count_sum`).
     ensures { result ≡ count_sum distribution.now }
 {
     distribution
@@ -79,7 +74,6 @@ fn number(distribution: &Distribution) -> u64
 
 /// Adds a count to a sum.
 fn add_count(sum: u64, count: u32) -> u64
-    // The sum is limited to 2^64 - 1.
     ensures { result ≡ sum_with sum count }
 {
     sum.saturating_add(count as u64)
@@ -87,7 +81,6 @@ fn add_count(sum: u64, count: u32) -> u64
 
 /// Writes counts, each after a mark.
 fn write_counts<W: Write>(writer: &mut W, mark: &str, counts: &[u32]) -> io::Result<()>
-    // On success the `mark` and each of the `counts` are appended, in order.
     ensures { OnOk result (Appends (W.contents writer.old) (W.contents writer.new)
         (counts_text mark.now counts.now)) }
 {
@@ -100,7 +93,6 @@ fn write_counts<W: Write>(writer: &mut W, mark: &str, counts: &[u32]) -> io::Res
 /// Writes a count after a mark.
 #[tactic(auto, unfolding(crate::specs::Distributions::after_mark))]
 fn write_count<W: Write>(writer: &mut W, mark: &str, count: u32) -> io::Result<()>
-    // On success the `mark` and the digits of `count` are appended.
     ensures { OnOk result (Appends (W.contents writer.old) (W.contents writer.new)
         (after_mark mark.now count)) }
 {
@@ -113,7 +105,6 @@ pub(crate) fn write_measured_json<W: Write>(
     writer: &mut W,
     measured: &Measurements,
 ) -> io::Result<()>
-    // On success the object with round trips, skews, silences and waits is appended.
     ensures { OnOk result (Appends (W.contents writer.old) (W.contents writer.new)
         (measurements_json measured.now)) }
 {
@@ -132,7 +123,6 @@ fn write_distribution_json<W: Write>(
     name: &str,
     distribution: &Distribution,
 ) -> io::Result<()>
-    // On success the `name`, the greatest value, and a list with the count of each class are appended.
     ensures { OnOk result (Appends (W.contents writer.old) (W.contents writer.new)
         (distribution_json name.now distribution.now)) }
 {
@@ -146,7 +136,6 @@ fn write_distribution_json<W: Write>(
 /// Writes the greatest value, and begins the list of counts.
 #[tactic(auto, unfolding(crate::specs::Distributions::bracket_json))]
 fn write_greatest_json<W: Write>(writer: &mut W, greatest: u32, first: u32) -> io::Result<()>
-    // On success both members are begun with these numbers.
     ensures { OnOk result (Appends (W.contents writer.old) (W.contents writer.new)
         (bracket_json greatest first)) }
 {

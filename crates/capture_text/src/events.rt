@@ -95,8 +95,6 @@ pub fn write_events<W: Write>(
 
 /// Returns where a PDU was recorded.
 fn place(clock: Clock, line: u64, record: &Record, header: &Header, remarks: &Remarks) -> Spot
-    // The time is that of the `record`, the ends are those of the `header`, and the channel is that of the remarks
-    // (`spot_of`).
     ensures { result ≡ spot_of clock line «record».now header.now remarks.now }
 {
     Spot {
@@ -118,7 +116,6 @@ fn write_pdu<W: Write>(
     kind: Kind,
     remarks: &Remarks,
 ) -> io::Result<()>
-    // On success the lines about the order of PDUs are appended, then the others (`pdu_lines`).
     ensures { OnOk result (Appends (W.contents writer.old) (W.contents writer.new)
         (pdu_lines spot t_max kind remarks.now)) }
 {
@@ -134,8 +131,6 @@ fn write_order<W: Write>(
     kind: Kind,
     remarks: &Remarks,
 ) -> io::Result<()>
-    // On success the lines of the opening, of the number on its channel and on all channels are appended, as far as
-    // there are such events (`order_lines`).
     ensures { OnOk result (Appends (W.contents writer.old) (W.contents writer.new)
         (order_lines spot kind remarks.now)) }
 {
@@ -152,8 +147,6 @@ fn write_others<W: Write>(
     t_max: u32,
     remarks: &Remarks,
 ) -> io::Result<()>
-    // On success the lines of a unit that is sent again, of a long wait and of a leaving are appended, as far as there
-    // are such events (`other_lines`).
     ensures { OnOk result (Appends (W.contents writer.old) (W.contents writer.new)
         (other_lines spot t_max remarks.now)) }
 {
@@ -164,7 +157,6 @@ fn write_others<W: Write>(
 
 /// Returns the event of an opening.
 fn open(opens: bool, kind: Kind) -> Option<Event>
-    // A ConnReq asks for a session, and a ConnResp brings it up; without an opening there is no event.
     ensures { result ≡ opening_event opens kind }
 {
     if !opens {
@@ -179,7 +171,6 @@ fn open(opens: bool, kind: Kind) -> Option<Event>
 
 /// Returns the event of a number on its channel, if it was judged there.
 fn miss_on_channel(channel: Option<NumberOrder>) -> Option<Event>
-    // Without a judgement there is no event.
     ensures { result ≡ channel_event channel }
 {
     match channel {
@@ -190,7 +181,6 @@ fn miss_on_channel(channel: Option<NumberOrder>) -> Option<Event>
 
 /// Returns the event of a number on every channel or on its own one.
 fn miss(everywhere: bool, judged: NumberOrder) -> Option<Event>
-    // A gap is the event of its missing numbers, a late number is one of its own, and any other number is no event.
     ensures { result ≡ number_event everywhere judged }
 {
     match judged {
@@ -210,7 +200,6 @@ fn miss(everywhere: bool, judged: NumberOrder) -> Option<Event>
 
 /// Returns the event of a unit that is sent again.
 fn resend(remarks: &Remarks) -> Option<Event>
-    // There is an event exactly if the PDU is new and carries such a unit.
     ensures { result ≡ resent_event remarks.now }
 {
     if is_first_copy(remarks.together) && remarks.resent {
@@ -222,7 +211,6 @@ fn resend(remarks: &Remarks) -> Option<Event>
 
 /// Returns the event of a wait.
 fn wait(t_max: u32, waits: Option<u32>) -> Option<Event>
-    // There is an event exactly if the wait is at least half of `t_max`.
     ensures { result ≡ wait_event t_max waits }
 {
     match waits {
@@ -239,7 +227,6 @@ fn wait(t_max: u32, waits: Option<u32>) -> Option<Event>
 
 /// Returns the event of a DiscReq.
 fn leave(remarks: &Remarks) -> Option<Event>
-    // There is an event exactly if the PDU is new and has a reason.
     ensures { result ≡ new_disconnect_event remarks.now }
 {
     if is_first_copy(remarks.together) {
@@ -251,7 +238,6 @@ fn leave(remarks: &Remarks) -> Option<Event>
 
 /// Returns the event of a reason.
 fn leave_by(leaving: Option<Leaving>) -> Option<Event>
-    // Without a reason there is no event.
     ensures { result ≡ disconnect_event leaving }
 {
     match leaving {
@@ -262,7 +248,6 @@ fn leave_by(leaving: Option<Leaving>) -> Option<Event>
 
 /// Writes the line of an event, if there is one.
 fn write_maybe<W: Write>(writer: &mut W, spot: Spot, event: Option<Event>) -> io::Result<()>
-    // On success the line of the `event` is appended; without one, nothing is.
     ensures { OnOk result (Appends (W.contents writer.old) (W.contents writer.new) (maybe_line spot event)) }
 {
     match event {
@@ -274,8 +259,6 @@ fn write_maybe<W: Write>(writer: &mut W, spot: Spot, event: Option<Event>) -> io
 /// Writes the line of an event.
 #[tactic(auto, unfolding(crate::specs::EventText::event_line))]
 fn write_event<W: Write>(writer: &mut W, spot: Spot, event: Event) -> io::Result<()>
-    // On success the name, the time and the line are appended, then the ends and the channel, then what the `event`
-    // has besides (`event_line`).
     ensures { OnOk result (Appends (W.contents writer.old) (W.contents writer.new) (event_line spot event)) }
 {
     write_head(
@@ -292,7 +275,6 @@ fn write_event<W: Write>(writer: &mut W, spot: Spot, event: Event) -> io::Result
 
 /// Returns the name of an event.
 fn name_of_event(event: Event) -> &'static str
-    // Each `event` has its name (`event_name`).
     ensures { result.now ≡ event_name event }
 {
     match event {
@@ -315,7 +297,6 @@ fn write_head<W: Write>(
     time: u64,
     line: u64,
 ) -> io::Result<()>
-    // On success the `name` is appended, then the `time` by the `clock`, then the number of the `line`.
     ensures { OnOk result (Appends (W.contents writer.old) (W.contents writer.new)
         (head_json name.now clock time line)) }
 {
@@ -327,7 +308,6 @@ fn write_head<W: Write>(
 /// Writes the name of an event.
 #[tactic(auto, unfolding(crate::specs::EventText::event_name_json))]
 fn write_name<W: Write>(writer: &mut W, name: &str) -> io::Result<()>
-    // On success the start of an object with this `name` is appended, up to its time.
     ensures { OnOk result (Appends (W.contents writer.old) (W.contents writer.new) (event_name_json name.now)) }
 {
     write!(writer, "{{\"event\":\"{name}\",\"time\":")
@@ -336,7 +316,6 @@ fn write_name<W: Write>(writer: &mut W, name: &str) -> io::Result<()>
 /// Writes a time: seconds as a number, a date in quotes.
 #[tactic(auto, unfolding(crate::specs::EventText::when_json))]
 fn write_when<W: Write>(writer: &mut W, clock: Clock, time: u64) -> io::Result<()>
-    // On success the `time` is appended in the form of the `clock`, in quotes if it is a date.
     ensures { OnOk result (Appends (W.contents writer.old) (W.contents writer.new) (when_json clock time)) }
 {
     let quote = quote(clock.form);
@@ -347,7 +326,6 @@ fn write_when<W: Write>(writer: &mut W, clock: Clock, time: u64) -> io::Result<(
 
 /// Returns the quote around a time.
 fn quote(form: TimeForm) -> &'static str
-    // Only a date has quotes.
     ensures { result.now ≡ quote_of form }
 {
     match form {
@@ -359,7 +337,6 @@ fn quote(form: TimeForm) -> &'static str
 /// Writes the number of a line.
 #[tactic(auto, unfolding(crate::specs::EventText::line_json))]
 fn write_line<W: Write>(writer: &mut W, line: u64) -> io::Result<()>
-    // On success the number of the `line` is appended.
     ensures { OnOk result (Appends (W.contents writer.old) (W.contents writer.new) (line_json line)) }
 {
     write!(writer, ",\"line\":{line}")
@@ -373,7 +350,6 @@ fn write_way<W: Write>(
     receiver: Identifier,
     route: usize,
 ) -> io::Result<()>
-    // On success `sender`, `receiver` and the number of the channel are appended; a further channel is null.
     ensures { OnOk result (Appends (W.contents writer.old) (W.contents writer.new) (way_json sender receiver route)) }
 {
     let channel = name_of_channel(route);
@@ -385,7 +361,6 @@ fn write_way<W: Write>(
 
 /// Returns the number of a channel from 1.
 fn name_of_channel(route: usize) -> &'static str
-    // Places 0 to 3 are channels 1 to 4, and any other has no number.
     ensures { result.now ≡ channel_number route }
 {
     match route {
@@ -399,7 +374,6 @@ fn name_of_channel(route: usize) -> &'static str
 
 /// Writes what an event has besides its place.
 fn write_rest<W: Write>(writer: &mut W, event: Event) -> io::Result<()>
-    // On success the members of the `event` are appended; an opening and a unit that is sent again have none.
     ensures { OnOk result (Appends (W.contents writer.old) (W.contents writer.new) (event_json event)) }
 {
     match event {
@@ -417,7 +391,6 @@ fn write_rest<W: Write>(writer: &mut W, event: Event) -> io::Result<()>
 /// Writes how many numbers are missing, and where.
 #[tactic(auto, unfolding(crate::specs::EventText::losses_json))]
 fn write_lost<W: Write>(writer: &mut W, missing: u32, everywhere: bool) -> io::Result<()>
-    // On success it is appended if they are missing on every channel, and how many are `missing`.
     ensures { OnOk result (Appends (W.contents writer.old) (W.contents writer.new) (losses_json missing everywhere)) }
 {
     let on_all = name_truth(everywhere);
@@ -430,7 +403,6 @@ fn write_lost<W: Write>(writer: &mut W, missing: u32, everywhere: bool) -> io::R
 /// Writes where a number was missing.
 #[tactic(auto, unfolding(crate::specs::EventText::late_json))]
 fn write_late<W: Write>(writer: &mut W, everywhere: bool) -> io::Result<()>
-    // On success it is appended if the number was missing on every channel.
     ensures { OnOk result (Appends (W.contents writer.old) (W.contents writer.new) (late_json everywhere)) }
 {
     let on_all = name_truth(everywhere);
@@ -440,7 +412,6 @@ fn write_late<W: Write>(writer: &mut W, everywhere: bool) -> io::Result<()>
 /// Writes a wait.
 #[tactic(auto, unfolding(crate::specs::EventText::waits_json))]
 fn write_waits<W: Write>(writer: &mut W, waits: u32) -> io::Result<()>
-    // On success the milliseconds are appended.
     ensures { OnOk result (Appends (W.contents writer.old) (W.contents writer.new) (waits_json waits)) }
 {
     write!(writer, ",\"waits\":{waits}")
@@ -449,7 +420,6 @@ fn write_waits<W: Write>(writer: &mut W, waits: u32) -> io::Result<()>
 /// Writes reason and detail.
 #[tactic(auto, unfolding(crate::specs::EventText::disconnect_json))]
 fn write_left<W: Write>(writer: &mut W, leaving: Leaving) -> io::Result<()>
-    // On success both numbers of `leaving` are appended.
     ensures { OnOk result (Appends (W.contents writer.old) (W.contents writer.new) (disconnect_json leaving)) }
 {
     let reason = leaving.reason;
@@ -466,7 +436,6 @@ fn write_no_safe<W: Write>(
     record: &Record,
     fault: SafeFault,
 ) -> io::Result<()>
-    // On success time, line and addresses are appended, then the `fault` of the safety PDU.
     ensures { OnOk result (Appends (W.contents writer.old) (W.contents writer.new)
         (no_safe_line clock line «record».now fault)) }
 {
@@ -483,7 +452,6 @@ fn write_no_red<W: Write>(
     record: &Record,
     fault: RedFault,
 ) -> io::Result<()>
-    // On success time, line and addresses are appended, then the `fault` of the redundancy PDU.
     ensures { OnOk result (Appends (W.contents writer.old) (W.contents writer.new)
         (no_red_line clock line «record».now fault)) }
 {
@@ -499,7 +467,6 @@ fn write_damaged<W: Write>(
     line: u64,
     record: &Record,
 ) -> io::Result<()>
-    // On success the name of the event, its time and line, and both addresses are appended.
     ensures { OnOk result (Appends (W.contents writer.old) (W.contents writer.new)
         (damage_json clock line «record».now)) }
 {
@@ -511,7 +478,6 @@ fn write_damaged<W: Write>(
 /// Writes an address in quotes, after what names it.
 #[tactic(auto, unfolding(crate::specs::EventText::address_json))]
 fn write_quoted<W: Write>(writer: &mut W, front: &str, address: Address) -> io::Result<()>
-    // On success `front`, the `address` and a quote are appended.
     ensures { OnOk result (Appends (W.contents writer.old) (W.contents writer.new) (address_json front.now address)) }
 {
     write_text(writer, front)?;
@@ -522,7 +488,6 @@ fn write_quoted<W: Write>(writer: &mut W, front: &str, address: Address) -> io::
 /// Writes the fault of a layer, and ends the object.
 #[tactic(auto, unfolding(crate::specs::EventText::fault_json))]
 fn write_fault<W: Write>(writer: &mut W, layer: &str, number: u8, name: &str) -> io::Result<()>
-    // On success the `layer`, the `number` and the `name` are appended.
     ensures { OnOk result (Appends (W.contents writer.old) (W.contents writer.new)
         (fault_json layer.now number name.now)) }
 {

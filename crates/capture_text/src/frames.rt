@@ -253,7 +253,6 @@ fn choose(
 
 /// Returns why a datagram is passed over; `None` if it is followed.
 pub(crate) fn skip(asked: &FollowOptions, first: Option<u64>, record: &Record) -> Option<SkipReason>
-    // A datagram without a chosen port is passed over, then one whose time is not asked for (`skip_reason`).
     ensures { result ≡ skip_reason asked.now first «record».now }
 {
     if !is_followed(&asked.ports, record) {
@@ -268,7 +267,6 @@ pub(crate) fn skip(asked: &FollowOptions, first: Option<u64>, record: &Record) -
 
 /// Returns the time of the first datagram after something that is passed over.
 pub(crate) fn first_with(first: Option<u64>, why: SkipReason) -> Option<u64>
-    // A datagram whose time is not asked for can be the first one; anything else is not (`first_skipped`).
     ensures { result ≡ first_skipped first why }
 {
     match why {
@@ -280,7 +278,6 @@ pub(crate) fn first_with(first: Option<u64>, why: SkipReason) -> Option<u64>
 /// Returns the record of a datagram that was found.
 fn record_of(time: u64, found: &FoundDatagram) -> Record
     requires { found.now.start ≤ found.now.end }
-    // The record has the `time` of the frame, both addresses, and the size of the payload.
     ensures { result ≡ record_of_frame time found.now }
 {
     Record {
@@ -324,7 +321,6 @@ pub fn write_frame_fault<W: Write>(writer: &mut W, number: u64, fault: FrameFaul
 
 /// Returns the word of a frame's fault.
 fn word_of(fault: FrameFault) -> &'static str
-    // Each `fault` of a frame has its word (`frame_word`).
     ensures { result.now ≡ frame_word fault }
 {
     match fault {

@@ -53,7 +53,6 @@ pub fn write_json<W: Write>(
 /// Writes the sums of all connections, ends their object and opens the list of connections.
 #[tactic(auto, unfolding(crate::specs::Json::all_json))]
 fn write_all<W: Write>(writer: &mut W, totals: Totals, counts: CaptureCounts) -> io::Result<()>
-    // On success the datagrams, the `totals`, the `counts` and what was passed over are appended (`all_json`).
     ensures { OnOk result (Appends (W.contents writer.old) (W.contents writer.new) (all_json totals counts)) }
 {
     write_count(writer, counts.datagrams)?;
@@ -66,7 +65,6 @@ fn write_all<W: Write>(writer: &mut W, totals: Totals, counts: CaptureCounts) ->
 
 /// Writes a number.
 fn write_count<W: Write>(writer: &mut W, count: u64) -> io::Result<()>
-    // On success the digits of `count` are appended.
     ensures { OnOk result (Appends (W.contents writer.old) (W.contents writer.new) (decimal count)) }
 {
     write!(writer, "{count}")
@@ -75,7 +73,6 @@ fn write_count<W: Write>(writer: &mut W, count: u64) -> io::Result<()>
 /// Writes the first time and T_max, and opens the object of all sums.
 #[tactic(auto, unfolding(crate::specs::Json::scale_json))]
 fn write_scale<W: Write>(writer: &mut W, scale: Scale) -> io::Result<()>
-    // On success the members of `scale` and the start of the sums are appended.
     ensures { OnOk result (Appends (W.contents writer.old) (W.contents writer.new) (scale_json scale)) }
 {
     let t_max = scale.t_max;
@@ -86,7 +83,6 @@ fn write_scale<W: Write>(writer: &mut W, scale: Scale) -> io::Result<()>
 
 /// Writes a time in microseconds; 0 is an unknown time.
 fn write_time<W: Write>(writer: &mut W, time: u64) -> io::Result<()>
-    // On success the `time` is appended, or null if it is 0.
     ensures { OnOk result (Appends (W.contents writer.old) (W.contents writer.new) (time_json time)) }
 {
     if time == 0 {
@@ -98,7 +94,6 @@ fn write_time<W: Write>(writer: &mut W, time: u64) -> io::Result<()>
 /// Writes the sums of redundancy numbers.
 #[tactic(auto, unfolding(crate::specs::Json::numbers_json))]
 fn write_numbers<W: Write>(writer: &mut W, totals: Totals) -> io::Result<()>
-    // On success PDUs, missing numbers and repeats are appended, then the rest of `totals`.
     ensures { OnOk result (Appends (W.contents writer.old) (W.contents writer.new) (numbers_json totals)) }
 {
     let heard = totals.heard;
@@ -114,7 +109,6 @@ fn write_numbers<W: Write>(writer: &mut W, totals: Totals) -> io::Result<()>
 /// Writes the rarer sums of redundancy numbers.
 #[tactic(auto, unfolding(crate::specs::Json::others_json))]
 fn write_others<W: Write>(writer: &mut W, totals: Totals) -> io::Result<()>
-    // On success late, differing and stale ones of `totals` are appended.
     ensures { OnOk result (Appends (W.contents writer.old) (W.contents writer.new) (others_json totals)) }
 {
     let late = totals.late;
@@ -129,7 +123,6 @@ fn write_others<W: Write>(writer: &mut W, totals: Totals) -> io::Result<()>
 /// Writes the counts over the whole capture.
 #[tactic(auto, unfolding(crate::specs::Json::counts_json))]
 fn write_counts<W: Write>(writer: &mut W, counts: CaptureCounts) -> io::Result<()>
-    // On success the damaged, forgotten and unreadable ones of `counts`, and all lines or frames are appended.
     ensures { OnOk result (Appends (W.contents writer.old) (W.contents writer.new) (counts_json counts)) }
 {
     let damaged = counts.damaged;
@@ -144,7 +137,6 @@ fn write_counts<W: Write>(writer: &mut W, counts: CaptureCounts) -> io::Result<(
 
 /// Writes connections with a comma between two.
 fn write_connections<W: Write>(writer: &mut W, connections: &[Entry]) -> io::Result<()>
-    // On success the objects of all `connections` are appended in order, separated by commas.
     ensures { OnOk result (Appends (W.contents writer.old) (W.contents writer.new)
         (connections_json connections.now)) }
 {
@@ -160,7 +152,6 @@ fn write_connections<W: Write>(writer: &mut W, connections: &[Entry]) -> io::Res
 
 /// Writes connections, each after a comma.
 fn write_more<W: Write>(writer: &mut W, connections: &[Entry]) -> io::Result<()>
-    // On success a comma and the object of each of the `connections` are appended.
     ensures { OnOk result (Appends (W.contents writer.old) (W.contents writer.new) (more_json connections.now)) }
 {
     for entry in connections {
@@ -172,7 +163,6 @@ fn write_more<W: Write>(writer: &mut W, connections: &[Entry]) -> io::Result<()>
 /// Writes a connection after a comma.
 #[tactic(auto, unfolding(crate::specs::Json::next_connection_json))]
 fn write_listed<W: Write>(writer: &mut W, connection: &Connection) -> io::Result<()>
-    // On success a comma and the object of this `connection` are appended.
     ensures { OnOk result (Appends (W.contents writer.old) (W.contents writer.new) (next_connection_json connection.now)) }
 {
     write_text(writer, ",")?;
@@ -182,8 +172,6 @@ fn write_listed<W: Write>(writer: &mut W, connection: &Connection) -> io::Result
 /// Writes the object of a connection.
 #[tactic(auto, unfolding(crate::specs::Json::connection_json))]
 fn write_connection<W: Write>(writer: &mut W, connection: &Connection) -> io::Result<()>
-    // On success what holds for the whole connection is appended, its sessions, and its two directions
-    // (`connection_json`).
     ensures { OnOk result (Appends (W.contents writer.old) (W.contents writer.new)
         (connection_json connection.now)) }
 {
@@ -197,7 +185,6 @@ fn write_connection<W: Write>(writer: &mut W, connection: &Connection) -> io::Re
 /// Writes what holds for a whole connection.
 #[tactic(auto, unfolding(crate::specs::Json::whole_json))]
 fn write_whole<W: Write>(writer: &mut W, connection: &Connection) -> io::Result<()>
-    // On success its name, time of coming up, losses, age and wait are appended.
     ensures { OnOk result (Appends (W.contents writer.old) (W.contents writer.new) (whole_json connection.now)) }
 {
     write_name(writer, connection)?;
@@ -210,7 +197,6 @@ fn write_whole<W: Write>(writer: &mut W, connection: &Connection) -> io::Result<
 /// Writes the two directions of a connection, and ends its object.
 #[tactic(auto, unfolding(crate::specs::Json::directions_json))]
 fn write_directions<W: Write>(writer: &mut W, connection: &Connection) -> io::Result<()>
-    // On success the list of both is appended, the one of the lower end first.
     ensures { OnOk result (Appends (W.contents writer.old) (W.contents writer.new)
         (directions_json connection.now)) }
 {
@@ -227,7 +213,6 @@ fn write_directions<W: Write>(writer: &mut W, connection: &Connection) -> io::Re
 /// Writes the identifiers of a connection.
 #[tactic(auto, unfolding(crate::specs::Json::name_json))]
 fn write_name<W: Write>(writer: &mut W, connection: &Connection) -> io::Result<()>
-    // On success both identifiers are appended, and the name of the member for coming up.
     ensures { OnOk result (Appends (W.contents writer.old) (W.contents writer.new) (name_json connection.now)) }
 {
     let low = connection.low;
@@ -237,7 +222,6 @@ fn write_name<W: Write>(writer: &mut W, connection: &Connection) -> io::Result<(
 
 /// Writes when a connection came up.
 fn write_coming<W: Write>(writer: &mut W, connection: &Connection) -> io::Result<()>
-    // On success the time at which this `connection` came up is appended, or null (`up_of`).
     ensures { OnOk result (Appends (W.contents writer.old) (W.contents writer.new)
         (up_time_json connection.now)) }
 {
@@ -246,7 +230,6 @@ fn write_coming<W: Write>(writer: &mut W, connection: &Connection) -> io::Result
 
 /// Writes a time of coming up.
 fn write_up<W: Write>(writer: &mut W, up: Option<u64>) -> io::Result<()>
-    // On success the time `up` is appended; null without one.
     ensures { OnOk result (Appends (W.contents writer.old) (W.contents writer.new) (up_json up)) }
 {
     match up {
@@ -258,8 +241,6 @@ fn write_up<W: Write>(writer: &mut W, up: Option<u64>) -> io::Result<()>
 /// Writes the losses of a connection.
 #[tactic(auto, unfolding(crate::specs::Json::connection_losses_json))]
 fn write_lost<W: Write>(writer: &mut W, connection: &Connection) -> io::Result<()>
-    // On success the time of the last PDU, the PDUs lost on every channel, and the datagrams lost on one channel
-    // only are appended.
     ensures { OnOk result (Appends (W.contents writer.old) (W.contents writer.new) (connection_losses_json connection.now)) }
 {
     let totals = add_up_sessions(&connection.sessions);
@@ -269,7 +250,6 @@ fn write_lost<W: Write>(writer: &mut W, connection: &Connection) -> io::Result<(
 /// Writes the time of the last PDU, and both losses.
 #[tactic(auto, unfolding(crate::specs::Json::losses_json))]
 fn write_losses<W: Write>(writer: &mut W, last: u64, everywhere: u64, alone: u64) -> io::Result<()>
-    // On success the three members are appended with these numbers.
     ensures { OnOk result (Appends (W.contents writer.old) (W.contents writer.new)
         (losses_json last everywhere alone)) }
 {
@@ -281,7 +261,6 @@ fn write_losses<W: Write>(writer: &mut W, last: u64, everywhere: u64, alone: u64
 
 /// Writes the greatest age and the longest wait of a connection.
 fn write_greatest<W: Write>(writer: &mut W, connection: &Connection) -> io::Result<()>
-    // On success the larger age and the larger wait of both directions are appended.
     ensures { OnOk result (Appends (W.contents writer.old) (W.contents writer.new)
         (greatest_json connection.now)) }
 {
@@ -291,7 +270,6 @@ fn write_greatest<W: Write>(writer: &mut W, connection: &Connection) -> io::Resu
 /// Writes an age and a wait in milliseconds.
 #[tactic(auto, unfolding(crate::specs::Json::both_json))]
 fn write_both<W: Write>(writer: &mut W, age: u32, waits: u32) -> io::Result<()>
-    // On success the members `age` and `waits` of the connection are appended with these numbers.
     ensures { OnOk result (Appends (W.contents writer.old) (W.contents writer.new) (both_json age waits)) }
 {
     write!(writer, ",\"age\":{age},\"waits\":{waits}")
@@ -305,8 +283,6 @@ fn write_direction<W: Write>(
     connection: &Connection,
     direction: &Direction,
 ) -> io::Result<()>
-    // On success the object of this `direction` is appended: ends, openings, numbers, types, silence, age and wait,
-    // disconnect, channels (`direction_json`).
     ensures { OnOk result (Appends (W.contents writer.old) (W.contents writer.new)
         (direction_json ends.0 ends.1 connection.now direction.now)) }
 {
@@ -323,7 +299,6 @@ fn write_direction<W: Write>(
 /// Writes the sender and the receiver.
 #[tactic(auto, unfolding(crate::specs::Json::ends_json))]
 fn write_ends<W: Write>(writer: &mut W, sender: Identifier, receiver: Identifier) -> io::Result<()>
-    // On success the identifiers of `sender` and `receiver` are appended.
     ensures { OnOk result (Appends (W.contents writer.old) (W.contents writer.new) (ends_json sender receiver)) }
 {
     write!(writer, "{{\"from\":{sender},\"to\":{receiver}")
@@ -336,7 +311,6 @@ fn write_openings<W: Write>(
     opening: Option<SessionOpening>,
     tally: &Tally,
 ) -> io::Result<()>
-    // On success the type of the last opening, the number of openings, and the time of the last one are appended.
     ensures { OnOk result (Appends (W.contents writer.old) (W.contents writer.new)
         (openings_json opening tally.now)) }
 {
@@ -349,7 +323,6 @@ fn write_openings<W: Write>(
 /// Writes the type of the last opening.
 #[tactic(auto, unfolding(crate::specs::Json::opening_type_json))]
 fn write_opened<W: Write>(writer: &mut W, opening: Option<SessionOpening>) -> io::Result<()>
-    // On success the member with the type of `opening` is appended.
     ensures { OnOk result (Appends (W.contents writer.old) (W.contents writer.new) (opening_type_json opening)) }
 {
     write_text(writer, ",\"opening\":")?;
@@ -360,7 +333,6 @@ fn write_opened<W: Write>(writer: &mut W, opening: Option<SessionOpening>) -> io
 /// Writes how often an end opened.
 #[tactic(auto, unfolding(crate::specs::Json::times_json))]
 fn write_times<W: Write>(writer: &mut W, times: u64) -> io::Result<()>
-    // On success the number of `times` is appended.
     ensures { OnOk result (Appends (W.contents writer.old) (W.contents writer.new) (times_json times)) }
 {
     write!(writer, ",\"openings\":{times}")
@@ -369,7 +341,6 @@ fn write_times<W: Write>(writer: &mut W, times: u64) -> io::Result<()>
 /// Writes the time of the last opening.
 #[tactic(auto, unfolding(crate::specs::Json::opening_time_json))]
 fn write_opened_at<W: Write>(writer: &mut W, time: u64) -> io::Result<()>
-    // On success the `time` of the opening is appended, or null if it is 0.
     ensures { OnOk result (Appends (W.contents writer.old) (W.contents writer.new) (opening_time_json time)) }
 {
     write_text(writer, ",\"opened\":")?;
@@ -379,7 +350,6 @@ fn write_opened_at<W: Write>(writer: &mut W, time: u64) -> io::Result<()>
 
 /// Writes the type of an opening, or null.
 fn write_opening<W: Write>(writer: &mut W, opening: Option<SessionOpening>) -> io::Result<()>
-    // On success the name of the type is appended in quotes; null without an `opening`.
     ensures { OnOk result (Appends (W.contents writer.old) (W.contents writer.new) (opening_json opening)) }
 {
     match opening {
@@ -393,7 +363,6 @@ fn write_opening<W: Write>(writer: &mut W, opening: Option<SessionOpening>) -> i
 
 /// Writes the sums of a window.
 fn write_window<W: Write>(writer: &mut W, window: &Window) -> io::Result<()>
-    // On success the counts of this `window` are appended as sums.
     ensures { OnOk result (Appends (W.contents writer.old) (W.contents writer.new) (window_json window.now)) }
 {
     write_numbers(writer, totals(window))
@@ -401,7 +370,6 @@ fn write_window<W: Write>(writer: &mut W, window: &Window) -> io::Result<()>
 
 /// Returns the counts of a window as sums.
 fn totals(window: &Window) -> Totals
-    // Each sum has the count of the `window` with the same name.
     ensures { result ≡ totals_in window.now }
 {
     Totals {
@@ -417,7 +385,6 @@ fn totals(window: &Window) -> Totals
 /// Writes the counts of types.
 #[tactic(auto, unfolding(crate::specs::Json::kinds_json))]
 fn write_kinds<W: Write>(writer: &mut W, tally: &Tally) -> io::Result<()>
-    // On success heartbeats, retransmission requests, units sent again and disconnects are appended.
     ensures { OnOk result (Appends (W.contents writer.old) (W.contents writer.new) (kinds_json tally.now)) }
 {
     let heartbeats = tally.heartbeats;
@@ -432,7 +399,6 @@ fn write_kinds<W: Write>(writer: &mut W, tally: &Tally) -> io::Result<()>
 
 /// Writes the longest silence, the greatest age and the longest wait.
 fn write_near<W: Write>(writer: &mut W, until: u64, tally: &Tally) -> io::Result<()>
-    // On success the silence up to `until`, and the greatest age and longest wait of this `tally`, are appended.
     ensures { OnOk result (Appends (W.contents writer.old) (W.contents writer.new) (near_json until tally.now)) }
 {
     write_ages(writer, silence(tally, until), tally.oldest, tally.longest)
@@ -441,7 +407,6 @@ fn write_near<W: Write>(writer: &mut W, until: u64, tally: &Tally) -> io::Result
 /// Writes a silence in microseconds, an age and a wait in milliseconds.
 #[tactic(auto, unfolding(crate::specs::Json::ages_json))]
 fn write_ages<W: Write>(writer: &mut W, silence: u64, age: u32, waits: u32) -> io::Result<()>
-    // On success the members `silence`, `age` and `waits` are appended with these numbers.
     ensures { OnOk result (Appends (W.contents writer.old) (W.contents writer.new) (ages_json silence age waits)) }
 {
     write!(
@@ -453,7 +418,6 @@ fn write_ages<W: Write>(writer: &mut W, silence: u64, age: u32, waits: u32) -> i
 /// Writes the time of the last PDU, and the disconnect.
 #[tactic(auto, unfolding(crate::specs::Json::last_and_disconnect_json))]
 fn write_parting<W: Write>(writer: &mut W, tally: &Tally) -> io::Result<()>
-    // On success the time of the last PDU, or null, and the disconnect, or null, are appended.
     ensures { OnOk result (Appends (W.contents writer.old) (W.contents writer.new) (last_and_disconnect_json tally.now)) }
 {
     write_text(writer, ",\"last\":")?;
@@ -465,7 +429,6 @@ fn write_parting<W: Write>(writer: &mut W, tally: &Tally) -> io::Result<()>
 
 /// Writes a disconnect, or null.
 fn write_leaving<W: Write>(writer: &mut W, left: u64, leaving: Option<Leaving>) -> io::Result<()>
-    // On success the disconnect with its time `left` is appended; null without a reason.
     ensures { OnOk result (Appends (W.contents writer.old) (W.contents writer.new) (leaving_json left leaving)) }
 {
     match leaving {
@@ -477,7 +440,6 @@ fn write_leaving<W: Write>(writer: &mut W, left: u64, leaving: Option<Leaving>) 
 /// Writes the object of a disconnect.
 #[tactic(auto, unfolding(crate::specs::Json::reasons_json))]
 fn write_reasons<W: Write>(writer: &mut W, left: u64, leaving: Leaving) -> io::Result<()>
-    // On success its time, and the numbers of reason and detail, are appended.
     ensures { OnOk result (Appends (W.contents writer.old) (W.contents writer.new) (reasons_json left leaving)) }
 {
     let Leaving { detail, reason } = leaving;
@@ -494,7 +456,6 @@ fn write_channels<W: Write>(
     routes: &[Option<Route>; CHANNELS],
     direction: &Direction,
 ) -> io::Result<()>
-    // On success the list of the channels in use is appended, in order of their numbers, and the object is closed.
     ensures { OnOk result (Appends (W.contents writer.old) (W.contents writer.new)
         (channels_json routes.now direction.now)) }
 {
@@ -516,7 +477,6 @@ fn write_place<W: Write>(
     place: usize,
 ) -> io::Result<()>
     requires { place < CHANNELS }
-    // On success the channel at this `place` is appended, if it is in use.
     ensures { OnOk result (Appends (W.contents writer.old) (W.contents writer.new)
         (place_json routes.now direction.now place)) }
 {
@@ -538,7 +498,6 @@ fn write_maybe_channel<W: Write>(
     damaged: u64,
 ) -> io::Result<()>
     requires { place < CHANNELS }
-    // On success the object of the channel is appended if there is a `route`.
     ensures { OnOk result (Appends (W.contents writer.old) (W.contents writer.new)
         (channel_json place route window.now damaged)) }
 {
@@ -558,7 +517,6 @@ fn write_listed_channel<W: Write>(
     damaged: u64,
 ) -> io::Result<()>
     requires { place < CHANNELS }
-    // On success a comma, except at place 0, and the object of this channel are appended.
     ensures { OnOk result (Appends (W.contents writer.old) (W.contents writer.new)
         (next_channel_json place route window.now damaged)) }
 {
@@ -568,7 +526,6 @@ fn write_listed_channel<W: Write>(
 
 /// Returns the comma before a channel.
 fn comma_before(place: usize) -> &'static str
-    // The result is empty for place 0 and a comma for any other.
     ensures { result.now ≡ comma place }
 {
     if place == 0 { "" } else { "," }
@@ -584,7 +541,6 @@ fn write_channel<W: Write>(
     damaged: u64,
 ) -> io::Result<()>
     requires { place < CHANNELS }
-    // On success its number and addresses, its datagrams, its numbers, and the `damaged` ones are appended.
     ensures { OnOk result (Appends (W.contents writer.old) (W.contents writer.new)
         (known_channel_json place route window.now damaged)) }
 {
@@ -598,7 +554,6 @@ fn write_channel<W: Write>(
 #[tactic(auto, unfolding(crate::specs::Json::route_json))]
 fn write_route<W: Write>(writer: &mut W, place: usize, route: Route) -> io::Result<()>
     requires { place < CHANNELS }
-    // On success the number, the lower end's address and the other end's address are appended.
     ensures { OnOk result (Appends (W.contents writer.old) (W.contents writer.new) (route_json place route)) }
 {
     write_place_number(writer, place)?;
@@ -611,7 +566,6 @@ fn write_route<W: Write>(writer: &mut W, place: usize, route: Route) -> io::Resu
 #[tactic(auto, unfolding(crate::specs::Json::place_number_json))]
 fn write_place_number<W: Write>(writer: &mut W, place: usize) -> io::Result<()>
     requires { place < CHANNELS }
-    // On success the `place` plus 1 is appended.
     ensures { OnOk result (Appends (W.contents writer.old) (W.contents writer.new) (place_number_json place)) }
 {
     let number = place + 1;
@@ -621,7 +575,6 @@ fn write_place_number<W: Write>(writer: &mut W, place: usize) -> io::Result<()>
 /// Writes the address of the end with the lower identifier.
 #[tactic(auto, unfolding(crate::specs::Json::low_json))]
 fn write_low<W: Write>(writer: &mut W, address: Address) -> io::Result<()>
-    // On success this `address` is appended as the member of the lower end.
     ensures { OnOk result (Appends (W.contents writer.old) (W.contents writer.new) (low_json address)) }
 {
     write_text(writer, ",\"low\":\"")?;
@@ -632,7 +585,6 @@ fn write_low<W: Write>(writer: &mut W, address: Address) -> io::Result<()>
 /// Writes the address of the end with the higher identifier.
 #[tactic(auto, unfolding(crate::specs::Json::high_json))]
 fn write_high<W: Write>(writer: &mut W, address: Address) -> io::Result<()>
-    // On success this `address` is appended as the member of the higher end.
     ensures { OnOk result (Appends (W.contents writer.old) (W.contents writer.new) (high_json address)) }
 {
     write_text(writer, ",\"high\":\"")?;
@@ -643,7 +595,6 @@ fn write_high<W: Write>(writer: &mut W, address: Address) -> io::Result<()>
 /// Writes how many datagrams came on a channel.
 #[tactic(auto, unfolding(crate::specs::Json::datagrams_json))]
 fn write_came<W: Write>(writer: &mut W, datagrams: u64) -> io::Result<()>
-    // On success the number of `datagrams` is appended.
     ensures { OnOk result (Appends (W.contents writer.old) (W.contents writer.new) (datagrams_json datagrams)) }
 {
     write!(writer, ",\"datagrams\":{datagrams}")
@@ -652,7 +603,6 @@ fn write_came<W: Write>(writer: &mut W, datagrams: u64) -> io::Result<()>
 /// Writes the damaged datagrams of a channel, and ends its object.
 #[tactic(auto, unfolding(crate::specs::Json::damaged_count_json))]
 fn write_damaged<W: Write>(writer: &mut W, damaged: u64) -> io::Result<()>
-    // On success the number of `damaged` ones is appended, and the object is closed.
     ensures { OnOk result (Appends (W.contents writer.old) (W.contents writer.new) (damaged_count_json damaged)) }
 {
     write!(writer, ",\"damaged\":{damaged}}}")

@@ -33,7 +33,6 @@ pub struct Clock {
 
 /// Writes a time.
 pub(crate) fn write_since<W: Write>(writer: &mut W, clock: Clock, time: u64) -> io::Result<()>
-    // On success the `time` is appended in the form of the `clock` (`since_text`).
     ensures { OnOk result (Appends (W.contents writer.old) (W.contents writer.new) (since_text clock time)) }
 {
     match clock.form {
@@ -46,7 +45,6 @@ pub(crate) fn write_since<W: Write>(writer: &mut W, clock: Clock, time: u64) -> 
 /// Writes a time as seconds since the first one.
 #[tactic(auto, unfolding(crate::specs::Pieces::difference_text))]
 fn write_difference<W: Write>(writer: &mut W, first: u64, time: u64) -> io::Result<()>
-    // On success the difference of `time` and `first` is appended, after a minus sign if `time` is earlier.
     ensures { OnOk result (Appends (W.contents writer.old) (W.contents writer.new) (difference_text first time)) }
 {
     if time < first {
@@ -71,7 +69,6 @@ pub fn write_duration<W: Write>(writer: &mut W, micros: u64) -> io::Result<()>
 /// Writes a time as date and time of day in UTC.
 #[tactic(auto, unfolding(crate::specs::Pieces::utc_text))]
 pub(crate) fn write_utc<W: Write>(writer: &mut W, micros: u64) -> io::Result<()>
-    // On success the date of the day and the time of day are appended (`utc_text`).
     ensures { OnOk result (Appends (W.contents writer.old) (W.contents writer.new) (utc_text micros)) }
 {
     write_moment(
@@ -85,7 +82,6 @@ pub(crate) fn write_utc<W: Write>(writer: &mut W, micros: u64) -> io::Result<()>
 #[tactic(auto, unfolding(crate::specs::Pieces::moment_text))]
 fn write_moment<W: Write>(writer: &mut W, date: Date, micros: u64) -> io::Result<()>
     requires { micros < 86400000000 }
-    // On success the year and the rest of the `date` and the time are appended (`moment_text`).
     ensures { OnOk result (Appends (W.contents writer.old) (W.contents writer.new) (moment_text date micros)) }
 {
     let year = date.year;
@@ -97,7 +93,6 @@ fn write_moment<W: Write>(writer: &mut W, date: Date, micros: u64) -> io::Result
 /// Returns month, day and time of day with their marks, after a year.
 fn spell_moment(date: Date, micros: u64) -> [u8; 23]
     requires { micros < 86400000000 }
-    // The result has two digits for each number but six for the microseconds, and ends with a `Z` (`moment_digits`).
     ensures { result ≡ moment_digits date micros }
 {
     let seconds = micros / 1_000_000;
@@ -131,7 +126,6 @@ fn spell_moment(date: Date, micros: u64) -> [u8; 23]
 
 /// Returns the last six decimal digits of a number.
 fn spell(number: u64) -> [u8; 6]
-    // The result is the six digits in ASCII, with leading zeros.
     ensures { result ≡ six_digits number }
 {
     [
@@ -158,7 +152,6 @@ pub fn write_address<W: Write>(writer: &mut W, address: Address) -> io::Result<(
 /// Writes an IPv4 address.
 #[tactic(auto, unfolding(crate::specs::Pieces::v4_text))]
 fn write_v4<W: Write>(writer: &mut W, host: [u8; 4], port: u16) -> io::Result<()>
-    // On success the four numbers of `host`, separated by points, a colon and the `port` are appended.
     ensures { OnOk result (Appends (W.contents writer.old) (W.contents writer.new) (v4_text host port)) }
 {
     let a = host[0];
@@ -171,7 +164,6 @@ fn write_v4<W: Write>(writer: &mut W, host: [u8; 4], port: u16) -> io::Result<()
 /// Writes an IPv6 address in brackets (RFC 5952).
 #[tactic(auto, unfolding(crate::specs::Pieces::v6_text))]
 fn write_v6<W: Write>(writer: &mut W, host: [u8; 16], port: u16) -> io::Result<()>
-    // On success the text of the eight groups of `host` in brackets, a colon and the `port` are appended.
     ensures { OnOk result (Appends (W.contents writer.old) (W.contents writer.new) (v6_text host port)) }
 {
     let address = Ipv6Addr::from_octets(host);
@@ -185,7 +177,6 @@ pub(crate) fn write_ends<W: Write>(
     sender: Identifier,
     receiver: Identifier,
 ) -> io::Result<()>
-    // On success both identifiers are appended, with an arrow from `sender` to `receiver`.
     ensures { OnOk result (Appends (W.contents writer.old) (W.contents writer.new) (ends_text sender receiver)) }
 {
     write!(writer, "{sender}->{receiver}")
@@ -193,7 +184,6 @@ pub(crate) fn write_ends<W: Write>(
 
 /// Returns the words of a channel, counted from 1; further channels have no number.
 pub(crate) fn channel_name(route: usize) -> &'static str
-    // Places 0 to 3 have the words of channels 1 to 4, any other the word "other".
     ensures { result.now ≡ channel_text route }
 {
     match route {
@@ -207,7 +197,6 @@ pub(crate) fn channel_name(route: usize) -> &'static str
 
 /// Returns a remark if an age or a wait reached T_max; all in milliseconds.
 pub(crate) fn remark_on_limit(t_max: u32, most: u32) -> &'static str
-    // The word "reached" is returned if `most` is at least `t_max`, otherwise an empty text.
     ensures { result.now ≡ t_max_remark t_max most }
 {
     if t_max <= most { " reached" } else { "" }

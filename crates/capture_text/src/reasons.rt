@@ -11,7 +11,6 @@ use std::io::Write;
 /// Writes reason and detail of a DiscReq, each with its words if it has any.
 #[tactic(auto, unfolding(crate::specs::Reasons::leaving_words))]
 pub(crate) fn write_reasons<W: Write>(writer: &mut W, leaving: Leaving) -> io::Result<()>
-    // On success the numbers of reason and detail are appended, each with its words after it (`leaving_words`).
     ensures { OnOk result (Appends (W.contents writer.old) (W.contents writer.new) (leaving_words leaving)) }
 {
     let Leaving { detail, reason } = leaving;
@@ -23,7 +22,6 @@ pub(crate) fn write_reasons<W: Write>(writer: &mut W, leaving: Leaving) -> io::R
 
 /// Returns the words of a reason.
 fn name_of_reason(reason: Option<Reason>) -> &'static str
-    // Each `reason` has its words; an unknown one has none.
     ensures { result.now ≡ reason_word reason }
 {
     match reason {
@@ -41,7 +39,6 @@ fn name_of_reason(reason: Option<Reason>) -> &'static str
 
 /// Returns the words of a detail, which depend on its reason.
 fn name_of_detail(reason: Option<Reason>, detail: u16) -> &'static str
-    // The `detail` has the words that it has with this `reason`; none with an unknown reason.
     ensures { result.now ≡ detail_word reason detail }
 {
     match reason {
@@ -52,7 +49,6 @@ fn name_of_detail(reason: Option<Reason>, detail: u16) -> &'static str
 
 /// Returns the words of a known detail.
 fn name_beside(detail: Option<Detail>) -> &'static str
-    // Each `detail` has its words, except for the unspecified one and an unknown one.
     ensures { result.now ≡ word_beside detail }
 {
     match detail {

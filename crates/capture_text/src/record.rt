@@ -43,7 +43,6 @@ pub fn write_record<W: Write>(
 /// Writes the head of a line: time and number.
 #[tactic(auto, unfolding(crate::specs::RecordText::head_text))]
 fn write_head<W: Write>(writer: &mut W, clock: Clock, line: u64, record: &Record) -> io::Result<()>
-    // On success the time by this `clock` and the number of the `line` are appended.
     ensures { OnOk result (Appends (W.contents writer.old) (W.contents writer.new)
         (head_text clock line «record».now)) }
 {
@@ -58,8 +57,6 @@ fn write_remark<W: Write>(
     record: &Record,
     remark: &Remark,
 ) -> io::Result<()>
-    // On success the text of a PDU, of a faulty safety PDU, or of a faulty redundancy PDU is appended, as the
-    // `remark` is.
     ensures { OnOk result (Appends (W.contents writer.old) (W.contents writer.new)
         (remark_text t_max «record».now remark.now)) }
 {
@@ -78,7 +75,6 @@ fn write_no_safe<W: Write>(
     seq: u32,
     fault: SafeFault,
 ) -> io::Result<()>
-    // On success the addresses, the redundancy number `seq`, and the `fault` of the safety PDU are appended.
     ensures { OnOk result (Appends (W.contents writer.old) (W.contents writer.new)
         (no_safe_text «record».now seq fault)) }
 {
@@ -91,7 +87,6 @@ fn write_no_safe<W: Write>(
 /// Writes a redundancy number.
 #[tactic(auto, unfolding(crate::specs::RecordText::number_text))]
 fn write_number<W: Write>(writer: &mut W, seq: u32) -> io::Result<()>
-    // On success the word "red" and the number `seq` are appended.
     ensures { OnOk result (Appends (W.contents writer.old) (W.contents writer.new) (number_text seq)) }
 {
     write!(writer, " red {seq}")
@@ -100,7 +95,6 @@ fn write_number<W: Write>(writer: &mut W, seq: u32) -> io::Result<()>
 /// Writes a datagram that is not a redundancy PDU.
 #[tactic(auto, unfolding(crate::specs::RecordText::no_red_text))]
 fn write_no_red<W: Write>(writer: &mut W, record: &Record, fault: RedFault) -> io::Result<()>
-    // On success the addresses and the `fault` of the redundancy PDU are appended.
     ensures { OnOk result (Appends (W.contents writer.old) (W.contents writer.new) (no_red_text «record».now fault)) }
 {
     write_way(writer, record)?;
@@ -117,7 +111,6 @@ fn write_pdu<W: Write>(
     header: &Header,
     remarks: &Remarks,
 ) -> io::Result<()>
-    // On success both ends, the channel, the fields of `header` and the remarks are appended, in this order.
     ensures { OnOk result (Appends (W.contents writer.old) (W.contents writer.new)
         (pdu_text t_max seq header.now remarks.now)) }
 {
@@ -130,7 +123,6 @@ fn write_pdu<W: Write>(
 /// Writes the redundancy number, type, numbers and timestamps of a PDU.
 #[tactic(auto, unfolding(crate::specs::RecordText::fields_text))]
 fn write_fields<W: Write>(writer: &mut W, seq: u32, header: &Header) -> io::Result<()>
-    // On success the number `seq`, the type, and SN, CS, TS and CTS of the `header` are appended.
     ensures { OnOk result (Appends (W.contents writer.old) (W.contents writer.new) (fields_text seq header.now)) }
 {
     let name = header.kind.name();
@@ -154,7 +146,6 @@ fn write_fields<W: Write>(writer: &mut W, seq: u32, header: &Header) -> io::Resu
 /// Writes the addresses of a datagram that is not a PDU.
 #[tactic(auto, unfolding(crate::specs::RecordText::way_text))]
 fn write_way<W: Write>(writer: &mut W, record: &Record) -> io::Result<()>
-    // On success the source and the destination are appended, with an arrow between them.
     ensures { OnOk result (Appends (W.contents writer.old) (W.contents writer.new) (way_text «record».now)) }
 {
     write_address(writer, record.source)?;
@@ -164,7 +155,6 @@ fn write_way<W: Write>(writer: &mut W, record: &Record) -> io::Result<()>
 
 /// Writes the fault of a safety PDU.
 fn write_safe_fault<W: Write>(writer: &mut W, fault: SafeFault) -> io::Result<()>
-    // On success the layer "safe", the number and the name of the `fault` are appended.
     ensures { OnOk result (Appends (W.contents writer.old) (W.contents writer.new) (safe_fault_text fault)) }
 {
     let number = fault.number();
@@ -174,7 +164,6 @@ fn write_safe_fault<W: Write>(writer: &mut W, fault: SafeFault) -> io::Result<()
 
 /// Writes the fault of a redundancy PDU.
 fn write_red_fault<W: Write>(writer: &mut W, fault: RedFault) -> io::Result<()>
-    // On success the layer "red", the number and the name of the `fault` are appended.
     ensures { OnOk result (Appends (W.contents writer.old) (W.contents writer.new) (red_fault_text fault)) }
 {
     let number = fault.number();
@@ -185,7 +174,6 @@ fn write_red_fault<W: Write>(writer: &mut W, fault: RedFault) -> io::Result<()>
 /// Writes the fault of a layer.
 #[tactic(auto, unfolding(crate::specs::RecordText::fault_text))]
 fn write_fault<W: Write>(writer: &mut W, layer: &str, number: u8, name: &str) -> io::Result<()>
-    // On success the `layer`, the word "fault", the `number` and the `name` are appended.
     ensures { OnOk result (Appends (W.contents writer.old) (W.contents writer.new)
         (fault_text layer.now number name.now)) }
 {

@@ -36,8 +36,6 @@ pub fn write_remarks<W: Write>(writer: &mut W, t_max: u32, remarks: &Remarks) ->
 /// Writes an opening, and how the numbers followed.
 #[tactic(auto, unfolding(crate::specs::RemarkText::order_text))]
 fn write_order<W: Write>(writer: &mut W, remarks: &Remarks) -> io::Result<()>
-    // On success the opening, and the judgements of the channel, of all channels and of the sequence number, are
-    // appended, as far as they are remarkable.
     ensures { OnOk result (Appends (W.contents writer.old) (W.contents writer.new) (order_text remarks.now)) }
 {
     write_opens(writer, remarks.opens)?;
@@ -49,8 +47,6 @@ fn write_order<W: Write>(writer: &mut W, remarks: &Remarks) -> io::Result<()>
 /// Writes a retransmission, damage before the PDU, and the line that it asks for.
 #[tactic(auto, unfolding(crate::specs::RemarkText::again_text))]
 fn write_again<W: Write>(writer: &mut W, remarks: &Remarks) -> io::Result<()>
-    // On success the word of a retransmission, the line of a damaged datagram with the same number, and the line that a
-    // RetrReq asks for are appended, as far as there are any.
     ensures { OnOk result (Appends (W.contents writer.old) (W.contents writer.new) (again_text remarks.now)) }
 {
     write_resent(writer, remarks.resent)?;
@@ -61,7 +57,6 @@ fn write_again<W: Write>(writer: &mut W, remarks: &Remarks) -> io::Result<()>
 /// Writes the age, the wait and the reason.
 #[tactic(auto, unfolding(crate::specs::RemarkText::other_text))]
 fn write_others<W: Write>(writer: &mut W, t_max: u32, remarks: &Remarks) -> io::Result<()>
-    // On success the age, the wait from half of `t_max` on, and the reason are appended, as far as there are any.
     ensures { OnOk result (Appends (W.contents writer.old) (W.contents writer.new) (other_text t_max remarks.now)) }
 {
     write_age(writer, remarks.age)?;
@@ -71,7 +66,6 @@ fn write_others<W: Write>(writer: &mut W, t_max: u32, remarks: &Remarks) -> io::
 
 /// Writes how a number followed, if it was judged.
 fn write_maybe<W: Write>(writer: &mut W, name: &str, judged: Option<NumberOrder>) -> io::Result<()>
-    // On success the text of `judged` is appended; without it, nothing is.
     ensures { OnOk result (Appends (W.contents writer.old) (W.contents writer.new) (maybe_text name.now judged)) }
 {
     match judged {
@@ -82,8 +76,6 @@ fn write_maybe<W: Write>(writer: &mut W, name: &str, judged: Option<NumberOrder>
 
 /// Writes how a number followed; nothing if it was the first or the next.
 fn write_judged<W: Write>(writer: &mut W, name: &str, judged: NumberOrder) -> io::Result<()>
-    // On success the `name` of the numbers and the judgement are appended, with the gap or the earlier line; for the
-    // first and the next, nothing is.
     ensures { OnOk result (Appends (W.contents writer.old) (W.contents writer.new) (number_order_text name.now judged)) }
 {
     match judged {
@@ -99,7 +91,6 @@ fn write_judged<W: Write>(writer: &mut W, name: &str, judged: NumberOrder) -> io
 
 /// Writes the word of an opening.
 fn write_opens<W: Write>(writer: &mut W, opens: bool) -> io::Result<()>
-    // On success the word is appended exactly if the PDU `opens` a session.
     ensures { OnOk result (Appends (W.contents writer.old) (W.contents writer.new) (opening_word opens)) }
 {
     if opens {
@@ -110,7 +101,6 @@ fn write_opens<W: Write>(writer: &mut W, opens: bool) -> io::Result<()>
 
 /// Writes the word of a retransmission.
 fn write_resent<W: Write>(writer: &mut W, resent: bool) -> io::Result<()>
-    // On success the word is appended exactly if the unit is `resent`.
     ensures { OnOk result (Appends (W.contents writer.old) (W.contents writer.new) (resent_text resent)) }
 {
     if resent {
@@ -121,7 +111,6 @@ fn write_resent<W: Write>(writer: &mut W, resent: bool) -> io::Result<()>
 
 /// Writes the line of a damaged datagram with the number of a PDU.
 fn write_damage<W: Write>(writer: &mut W, damaged: Option<u64>) -> io::Result<()>
-    // On success the words and the line are appended if there was such a datagram.
     ensures { OnOk result (Appends (W.contents writer.old) (W.contents writer.new) (damage_text damaged)) }
 {
     match damaged {
@@ -132,7 +121,6 @@ fn write_damage<W: Write>(writer: &mut W, damaged: Option<u64>) -> io::Result<()
 
 /// Writes the line that a RetrReq asks for.
 fn write_asks<W: Write>(writer: &mut W, asks: Option<u64>) -> io::Result<()>
-    // On success the words and the line are appended if it asks for a line.
     ensures { OnOk result (Appends (W.contents writer.old) (W.contents writer.new) (maybe_requested_line_text asks)) }
 {
     match asks {
@@ -144,7 +132,6 @@ fn write_asks<W: Write>(writer: &mut W, asks: Option<u64>) -> io::Result<()>
 /// Writes a line that a RetrReq asks for.
 #[tactic(auto, unfolding(crate::specs::RemarkText::requested_line_text))]
 fn write_asked<W: Write>(writer: &mut W, line: u64) -> io::Result<()>
-    // On success the words and the number of the `line` are appended.
     ensures { OnOk result (Appends (W.contents writer.old) (W.contents writer.new) (requested_line_text line)) }
 {
     write!(writer, " asks for line {line}")
@@ -152,7 +139,6 @@ fn write_asked<W: Write>(writer: &mut W, line: u64) -> io::Result<()>
 
 /// Writes an age in milliseconds.
 fn write_age<W: Write>(writer: &mut W, age: Option<u32>) -> io::Result<()>
-    // On success the `age` is appended if there is one.
     ensures { OnOk result (Appends (W.contents writer.old) (W.contents writer.new) (age_text age)) }
 {
     match age {
@@ -163,7 +149,6 @@ fn write_age<W: Write>(writer: &mut W, age: Option<u32>) -> io::Result<()>
 
 /// Writes how long an end has waited, if that is remarkable.
 fn write_waits<W: Write>(writer: &mut W, t_max: u32, waits: Option<u32>) -> io::Result<()>
-    // On success the wait is appended if there is one of at least half of `t_max`; otherwise nothing is.
     ensures { OnOk result (Appends (W.contents writer.old) (W.contents writer.new) (long_wait_text t_max waits)) }
 {
     match waits {
@@ -175,7 +160,6 @@ fn write_waits<W: Write>(writer: &mut W, t_max: u32, waits: Option<u32>) -> io::
 /// Writes a wait in milliseconds.
 #[tactic(auto, unfolding(crate::specs::RemarkText::wait_text))]
 fn write_wait<W: Write>(writer: &mut W, waits: u32) -> io::Result<()>
-    // On success the word "waits", the milliseconds and their unit are appended.
     ensures { OnOk result (Appends (W.contents writer.old) (W.contents writer.new) (wait_text waits)) }
 {
     write!(writer, " waits {waits} ms")
@@ -183,7 +167,6 @@ fn write_wait<W: Write>(writer: &mut W, waits: u32) -> io::Result<()>
 
 /// Writes the reason of a DiscReq.
 fn write_leaving<W: Write>(writer: &mut W, leaving: Option<Leaving>) -> io::Result<()>
-    // On success reason and detail of `leaving` are appended if there are any.
     ensures { OnOk result (Appends (W.contents writer.old) (W.contents writer.new) (leaving_text leaving)) }
 {
     match leaving {

@@ -21,8 +21,6 @@ pub(crate) fn write_sentence<W: Write>(
     scale: Scale,
     connection: &Connection,
 ) -> io::Result<()>
-    // On success the sentence of `connection` is appended: its name, then its sessions, last PDU, losses, and longest
-    // wait, in this order (`sentence_text`).
     ensures { OnOk result (Appends (W.contents writer.old) (W.contents writer.new)
         (sentence_text scale connection.now)) }
 {
@@ -37,7 +35,6 @@ pub(crate) fn write_sentence<W: Write>(
 /// Writes the sums over all sessions of a connection.
 #[tactic(auto, unfolding(crate::specs::Sentence::course_text))]
 fn write_course<W: Write>(writer: &mut W, connection: &Connection) -> io::Result<()>
-    // On success how many sessions there were and how they began is appended, then how they ended.
     ensures { OnOk result (Appends (W.contents writer.old) (W.contents writer.new)
         (course_text connection.now)) }
 {
@@ -50,7 +47,6 @@ fn write_course<W: Write>(writer: &mut W, connection: &Connection) -> io::Result
 /// Writes how many sessions a connection had, how many came up, and how many nobody answered.
 #[tactic(auto, unfolding(crate::specs::Sentence::session_counts_text))]
 fn write_came<W: Write>(writer: &mut W, number: u64, totals: SessionTotals) -> io::Result<()>
-    // On success the `number` and two of the `totals` are appended.
     ensures { OnOk result (Appends (W.contents writer.old) (W.contents writer.new) (session_counts_text number totals)) }
 {
     let up = totals.up;
@@ -64,7 +60,6 @@ fn write_came<W: Write>(writer: &mut W, number: u64, totals: SessionTotals) -> i
 /// Writes how many sessions an end left, and how many by a timeout.
 #[tactic(auto, unfolding(crate::specs::Sentence::disconnect_counts_text))]
 fn write_gone<W: Write>(writer: &mut W, totals: SessionTotals) -> io::Result<()>
-    // On success the other two of the `totals` are appended.
     ensures { OnOk result (Appends (W.contents writer.old) (W.contents writer.new) (disconnect_counts_text totals)) }
 {
     let left = totals.left;
@@ -74,8 +69,6 @@ fn write_gone<W: Write>(writer: &mut W, totals: SessionTotals) -> io::Result<()>
 
 /// Writes both losses of a connection.
 fn write_losses<W: Write>(writer: &mut W, connection: &Connection) -> io::Result<()>
-    // On success the PDUs lost on every channel (`losses_on_all`) and the datagrams lost on one
-    // channel only are appended.
     ensures { OnOk result (Appends (W.contents writer.old) (W.contents writer.new)
         (losses_text connection.now)) }
 {
@@ -85,7 +78,6 @@ fn write_losses<W: Write>(writer: &mut W, connection: &Connection) -> io::Result
 
 /// Writes the longest wait beside T_max.
 fn write_nearness<W: Write>(writer: &mut W, t_max: u32, connection: &Connection) -> io::Result<()>
-    // On success the longest wait of `connection`, `t_max`, and a remark if it reached that are appended.
     ensures { OnOk result (Appends (W.contents writer.old) (W.contents writer.new)
         (nearness_text t_max connection.now)) }
 {
@@ -95,7 +87,6 @@ fn write_nearness<W: Write>(writer: &mut W, t_max: u32, connection: &Connection)
 /// Writes the name of a connection: its two identifiers.
 #[tactic(auto, unfolding(crate::specs::Sentence::name_text))]
 fn write_name<W: Write>(writer: &mut W, low: u32, high: u32) -> io::Result<()>
-    // On success "connection" and both identifiers are appended.
     ensures { OnOk result (Appends (W.contents writer.old) (W.contents writer.new) (name_text low high)) }
 {
     write!(writer, "connection {low}-{high}")
@@ -104,8 +95,6 @@ fn write_name<W: Write>(writer: &mut W, low: u32, high: u32) -> io::Result<()>
 /// Returns when a connection came up, in microseconds: the time of the ConnResp to its last ConnReq; `None` if that
 /// was not recorded.
 pub(crate) fn up(one: &Direction, other: &Direction) -> Option<u64>
-    // The result is the time of the later opening if one end's last opening is a ConnReq, and the other's a ConnResp
-    // at that time or later (`is_answered`).
     ensures { result ≡ up_of one.now other.now }
 {
     if is_answered(one, other) {
@@ -119,7 +108,6 @@ pub(crate) fn up(one: &Direction, other: &Direction) -> Option<u64>
 
 /// Returns `true` if one end's last opening is a ConnReq, and the other's is a later ConnResp.
 fn is_answered(one: &Direction, other: &Direction) -> bool
-    // The result compares both types and both times of opening (`is_answered`); equal times count.
     ensures { result ≡ is_answered one.now other.now }
 {
     is_request(one.opening) && is_response(other.opening) && one.tally.opened <= other.tally.opened
@@ -127,7 +115,6 @@ fn is_answered(one: &Direction, other: &Direction) -> bool
 
 /// Returns `true` if an end's last opening is a ConnReq.
 fn is_request(opening: Option<SessionOpening>) -> bool
-    // The result is false without an `opening` and for a ConnResp.
     ensures { result ≡ has_asked opening }
 {
     match opening {
@@ -138,7 +125,6 @@ fn is_request(opening: Option<SessionOpening>) -> bool
 
 /// Returns `true` if an end's last opening is a ConnResp.
 fn is_response(opening: Option<SessionOpening>) -> bool
-    // The result is false without an `opening` and for a ConnReq.
     ensures { result ≡ has_answered opening }
 {
     match opening {
@@ -150,7 +136,6 @@ fn is_response(opening: Option<SessionOpening>) -> bool
 /// Writes the time of the last PDU of a connection.
 #[tactic(auto, unfolding(crate::specs::Sentence::last_pdu_text))]
 fn write_last_heard<W: Write>(writer: &mut W, clock: Clock, last: u64) -> io::Result<()>
-    // On success the time of the `last` PDU by this `clock` is appended.
     ensures { OnOk result (Appends (W.contents writer.old) (W.contents writer.new) (last_pdu_text clock last)) }
 {
     write_text(writer, ", last PDU at ")?;
@@ -160,7 +145,6 @@ fn write_last_heard<W: Write>(writer: &mut W, clock: Clock, last: u64) -> io::Re
 
 /// Returns how many numbers were lost on all channels.
 pub(crate) fn on_all(connection: &Connection) -> u64
-    // The result is the sum of missing numbers in the windows over all channels of both directions (`losses_on_all`).
     ensures { result ≡ losses_on_all connection.now }
 {
     let low = connection.from_low.together.missing;
@@ -169,7 +153,6 @@ pub(crate) fn on_all(connection: &Connection) -> u64
 
 /// Returns the greatest age of a confirmed timestamp of either end, in milliseconds.
 pub(crate) fn oldest(connection: &Connection) -> u32
-    // The result is the larger of both directions' greatest ages.
     ensures { result ≡ oldest_in connection.now }
 {
     let low = connection.from_low.tally.oldest;
@@ -178,7 +161,6 @@ pub(crate) fn oldest(connection: &Connection) -> u32
 
 /// Returns the longest wait for a confirmation of either end, in milliseconds.
 pub(crate) fn longest(connection: &Connection) -> u32
-    // The result is the larger of both directions' longest waits.
     ensures { result ≡ longest_in connection.now }
 {
     let low = connection.from_low.tally.longest;
@@ -188,7 +170,6 @@ pub(crate) fn longest(connection: &Connection) -> u32
 /// Writes the longest wait beside T_max, and ends the line.
 #[tactic(auto, unfolding(crate::specs::Sentence::near_text))]
 fn write_near<W: Write>(writer: &mut W, t_max: u32, longest: u32) -> io::Result<()>
-    // On success the wait, T_max, the word "reached" if the wait is at least `t_max`, and a line feed are appended.
     ensures { OnOk result (Appends (W.contents writer.old) (W.contents writer.new) (near_text t_max longest)) }
 {
     let reached = remark_on_limit(t_max, longest);

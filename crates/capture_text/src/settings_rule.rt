@@ -76,8 +76,6 @@ pub struct ChosenSettings {
 
 /// Returns what a recorded connection tells of its network.
 pub(crate) fn observe(connection: &Connection) -> Network
-    // The result has the PDUs, the greatest loss, half of the shortest round trips, the greatest skew and the most
-    // units of the `connection` (`network_of`).
     ensures { result ≡ network_of connection.now }
 {
     let measures = &connection.measures;
@@ -95,7 +93,6 @@ pub(crate) fn observe(connection: &Connection) -> Network
 
 /// Returns how many PDUs of both ends came in order.
 fn pdus(connection: &Connection) -> u64
-    // Both directions are added, limited to 2^64 - 1 (`pdus_in`).
     ensures { result ≡ pdus_in connection.now }
 {
     let low = connection.from_low.together.heard;
@@ -104,7 +101,6 @@ fn pdus(connection: &Connection) -> u64
 
 /// Returns the most units of either end in a second.
 fn units(measures: &Measures) -> u16
-    // The greater of both ends' busiest seconds is returned.
     ensures { result ≡ units_in measures.now }
 {
     measures.low.busiest.max(measures.high.busiest)
@@ -112,7 +108,6 @@ fn units(measures: &Measures) -> u16
 
 /// Returns the greatest share of datagrams that a channel of an end lost, in millionths.
 fn greatest_loss(direction: &Direction) -> u64
-    // The channels of the `direction` are compared (`losses_in`).
     ensures { result ≡ losses_in direction.now }
 {
     direction
@@ -123,7 +118,6 @@ fn greatest_loss(direction: &Direction) -> u64
 
 /// Returns the greater of a loss and that of one more channel.
 fn greater_loss(most: u64, window: &Window) -> u64
-    // The loss of the channel is compared with the greatest so far (`more_lost`).
     ensures { result ≡ more_lost most window.now }
 {
     most.max(loss(window))
@@ -131,7 +125,6 @@ fn greater_loss(most: u64, window: &Window) -> u64
 
 /// Returns the share of its datagrams that a channel lost, in millionths.
 fn loss(window: &Window) -> u64
-    // The missing numbers are divided by all numbers up to the newest; without numbers the share is 0 (`loss_of`).
     ensures { result ≡ loss_of window.now }
 {
     let came = window.heard.saturating_add(window.late);
@@ -141,8 +134,6 @@ fn loss(window: &Window) -> u64
 
 /// Returns half of the shortest round trips of two ends.
 fn shortest(one: &Distribution, other: &Distribution) -> Option<u64>
-    // Both ends must have a round trip; the ends of their least classes are added and halved, rounded up
-    // (`shortest_of`).
     ensures { result ≡ shortest_of one.now other.now }
 {
     match (least(one), least(other)) {
@@ -153,7 +144,6 @@ fn shortest(one: &Distribution, other: &Distribution) -> Option<u64>
 
 /// Returns half of the sum of two times, rounded up.
 fn half(one: u64, other: u64) -> u64
-    // The sum is limited to 2^64 - 1 (`half_of`).
     ensures { result ≡ half_of one other }
 {
     one.saturating_add(other).saturating_add(1) / 2
@@ -161,7 +151,6 @@ fn half(one: u64, other: u64) -> u64
 
 /// Returns the greatest value of the least class that has values.
 fn least(distribution: &Distribution) -> Option<u64>
-    // The class is the first whose count is not 0; the result is its end (`least_in`).
     ensures { result ≡ least_in distribution.now }
 {
     match first_class(&distribution.counts) {
@@ -183,8 +172,6 @@ fn first_class(counts: &[u32; CLASSES]) -> Option<usize>
 /// Returns the greatest value of a class.
 fn end_of_class(class: usize) -> u64
     requires { class < CLASSES }
-    // The greatest value has as many binary digits as the number of its `class` says; the last class is taken to end
-    // there, too (`class_end`).
     ensures { result ≡ class_end class }
 {
     (1u64 << class) - 1
@@ -192,7 +179,6 @@ fn end_of_class(class: usize) -> u64
 
 /// Returns the greatest value of a distribution.
 fn greatest(distribution: &Distribution) -> Option<u64>
-    // Without values there is none (`greatest_in`).
     ensures { result ≡ greatest_in distribution.now }
 {
     match first_class(&distribution.counts) {
@@ -203,7 +189,6 @@ fn greatest(distribution: &Distribution) -> Option<u64>
 
 /// Returns the greater of two times, if there is one.
 fn greater(one: Option<u64>, other: Option<u64>) -> Option<u64>
-    // A time that is missing does not count (`greater_of`).
     ensures { result ≡ greater_of one other }
 {
     match (one, other) {
@@ -215,8 +200,6 @@ fn greater(one: Option<u64>, other: Option<u64>) -> Option<u64>
 
 /// Returns the times by which settings are chosen.
 pub(crate) fn find_delays(network: &Network) -> Delays
-    // The difference is the greatest skew; without one, the shortest time is assumed. The longest time one way is the
-    // shortest time and the difference (`delays_of`).
     ensures { result ≡ delays_of network.now }
 {
     let shortest = shortest_or_assumed(network.shortest);
@@ -232,7 +215,6 @@ pub(crate) fn find_delays(network: &Network) -> Delays
 
 /// Returns the shortest time one way, or the one that is assumed.
 fn shortest_or_assumed(shortest: Option<u64>) -> u64
-    // Without round trips it is `SHORTEST_ASSUMED`.
     ensures { result ≡ shortest_or shortest }
 {
     match shortest {
@@ -269,7 +251,6 @@ pub(crate) fn choose(delays: Delays) -> Option<ChosenSettings>
 /// Returns the T_seq for a difference.
 fn above(difference: u64) -> u64
     requires { difference < 2000 }
-    // T_seq is above the `difference` by a quarter of it, at least 5 ms, and is at least 10 ms (`with_margin`).
     ensures { result ≡ with_margin difference }
 {
     let margin = (difference / 4).max(MARGIN);

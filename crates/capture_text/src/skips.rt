@@ -35,7 +35,6 @@ pub struct SkipCounts {
 impl SkipCounts {
     /// Returns the counts before the first frame.
     pub(crate) fn new() -> Self
-        // All nine counts are 0.
         ensures { result ≡ no_skips }
     {
         SkipCounts {
@@ -53,7 +52,6 @@ impl SkipCounts {
 
     /// Counts a frame.
     pub(crate) fn count_frame(&mut self, seen: &FrameContent)
-        // A frame with a followed datagram changes nothing; any other adds 1 to its own kind (`count_frame_skip`).
         ensures { self.new ≡ count_frame_skip self.old seen.now }
     {
         match *seen {
@@ -65,7 +63,6 @@ impl SkipCounts {
 
     /// Counts a frame or line that is passed over without a fault.
     pub(crate) fn count_skipped(&mut self, why: SkipReason)
-        // Only the count of this kind grows, by 1 (`count_skip_reason`).
         ensures { self.new ≡ count_skip_reason self.old why }
     {
         match why {
@@ -79,7 +76,6 @@ impl SkipCounts {
 
     /// Counts a frame that is not read.
     fn count_fault(&mut self, fault: FrameFault)
-        // Only the count of this `fault` grows, by 1 (`count_frame_fault`).
         ensures { self.new ≡ count_frame_fault self.old fault }
     {
         match fault {
@@ -93,7 +89,6 @@ impl SkipCounts {
 
 /// Writes the line of the frames and lines that were passed over, if there are any.
 pub(crate) fn write_passed<W: Write>(writer: &mut W, passed: &SkipCounts) -> io::Result<()>
-    // On success one line with all counts is appended, unless all of them are 0 (`skips_lines`).
     ensures { OnOk result (Appends (W.contents writer.old) (W.contents writer.new) (skips_lines passed.now)) }
 {
     if is_nothing(passed) {
@@ -104,7 +99,6 @@ pub(crate) fn write_passed<W: Write>(writer: &mut W, passed: &SkipCounts) -> io:
 
 /// Returns `true` if all counts are 0.
 fn is_nothing(passed: &SkipCounts) -> bool
-    // The result is true exactly if nothing was passed over.
     ensures { result ≡ is_all_zero passed.now }
 {
     passed.ports == 0
@@ -121,7 +115,6 @@ fn is_nothing(passed: &SkipCounts) -> bool
 /// Writes the line of all counts.
 #[tactic(auto, unfolding(crate::specs::Skips::skips_text))]
 fn write_kinds<W: Write>(writer: &mut W, passed: &SkipCounts) -> io::Result<()>
-    // On success the counts are appended as one line, those without a fault first (`skips_text`).
     ensures { OnOk result (Appends (W.contents writer.old) (W.contents writer.new) (skips_text passed.now)) }
 {
     write_rest(writer, passed)?;
@@ -131,7 +124,6 @@ fn write_kinds<W: Write>(writer: &mut W, passed: &SkipCounts) -> io::Result<()>
 /// Writes the counts of what has no fault.
 #[tactic(auto, unfolding(crate::specs::Skips::rest_text))]
 fn write_rest<W: Write>(writer: &mut W, passed: &SkipCounts) -> io::Result<()>
-    // On success other ports and times, frames without IP, packets without UDP and tunnels are appended.
     ensures { OnOk result (Appends (W.contents writer.old) (W.contents writer.new) (rest_text passed.now)) }
 {
     let ports = passed.ports;
@@ -148,7 +140,6 @@ fn write_rest<W: Write>(writer: &mut W, passed: &SkipCounts) -> io::Result<()>
 /// Writes the counts of what is not read, and ends the line.
 #[tactic(auto, unfolding(crate::specs::Skips::unread_text))]
 fn write_unread<W: Write>(writer: &mut W, passed: &SkipCounts) -> io::Result<()>
-    // On success fragments, truncated frames, wrong lengths and unknown link headers are appended.
     ensures { OnOk result (Appends (W.contents writer.old) (W.contents writer.new) (unread_text passed.now)) }
 {
     let fragments = passed.fragments;
@@ -164,7 +155,6 @@ fn write_unread<W: Write>(writer: &mut W, passed: &SkipCounts) -> io::Result<()>
 /// Writes the counts as a member of a JSON object.
 #[tactic(auto, unfolding(crate::specs::Skips::skips_json))]
 pub(crate) fn write_passed_json<W: Write>(writer: &mut W, passed: &SkipCounts) -> io::Result<()>
-    // On success the member `passed` with all counts is appended (`skips_json`).
     ensures { OnOk result (Appends (W.contents writer.old) (W.contents writer.new) (skips_json passed.now)) }
 {
     write_text(writer, ",\"passed\":")?;
@@ -175,7 +165,6 @@ pub(crate) fn write_passed_json<W: Write>(writer: &mut W, passed: &SkipCounts) -
 /// Writes the counts of what has no fault as members, and opens their object.
 #[tactic(auto, unfolding(crate::specs::Skips::rest_json))]
 fn write_rest_json<W: Write>(writer: &mut W, passed: &SkipCounts) -> io::Result<()>
-    // On success other ports and times, frames without IP, packets without UDP and tunnels are appended as members.
     ensures { OnOk result (Appends (W.contents writer.old) (W.contents writer.new) (rest_json passed.now)) }
 {
     let ports = passed.ports;
@@ -192,7 +181,6 @@ fn write_rest_json<W: Write>(writer: &mut W, passed: &SkipCounts) -> io::Result<
 /// Writes the counts of what is not read as members, and closes their object.
 #[tactic(auto, unfolding(crate::specs::Skips::unread_json))]
 fn write_unread_json<W: Write>(writer: &mut W, passed: &SkipCounts) -> io::Result<()>
-    // On success fragments, truncated frames, wrong lengths and unknown link headers are appended as members.
     ensures { OnOk result (Appends (W.contents writer.old) (W.contents writer.new) (unread_json passed.now)) }
 {
     let fragments = passed.fragments;

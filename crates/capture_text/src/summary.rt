@@ -76,7 +76,6 @@ pub fn write_summary<W: Write>(
 
 /// Writes when the first datagram came.
 fn write_first<W: Write>(writer: &mut W, first: u64) -> io::Result<()>
-    // On success one line with the date and time in UTC is appended; if the time is unknown, nothing is.
     ensures { OnOk result (Appends (W.contents writer.old) (W.contents writer.new) (first_lines first)) }
 {
     if first == 0 {
@@ -88,7 +87,6 @@ fn write_first<W: Write>(writer: &mut W, first: u64) -> io::Result<()>
 /// Writes the line of the date and time of the first datagram.
 #[tactic(auto, unfolding(crate::specs::SummaryText::date_text))]
 fn write_date<W: Write>(writer: &mut W, first: u64) -> io::Result<()>
-    // On success the words of the line, the date and time in UTC, and a line feed are appended.
     ensures { OnOk result (Appends (W.contents writer.old) (W.contents writer.new) (date_text first)) }
 {
     write_text(writer, "sum first datagram at ")?;
@@ -103,7 +101,6 @@ fn write_connections<W: Write>(
     scale: Scale,
     connections: &[Entry],
 ) -> io::Result<()>
-    // On success the lines of each of the `connections` are appended, in order.
     ensures { OnOk result (Appends (W.contents writer.old) (W.contents writer.new)
         (connections_text scale connections.now connections.now)) }
 {
@@ -120,8 +117,6 @@ fn write_listed<W: Write>(
     connections: &[Entry],
     connection: &Connection,
 ) -> io::Result<()>
-    // On success the lines of this `connection` are appended, with addresses if its identifiers are ambiguous among
-    // the `connections`.
     ensures { OnOk result (Appends (W.contents writer.old) (W.contents writer.new)
         (connection_text scale (telling_route connections.now connection.now) connection.now)) }
 {
@@ -131,7 +126,6 @@ fn write_listed<W: Write>(
 
 /// Returns the addresses of a connection's first channel, if several connections have its identifiers.
 fn telling_route(connections: &[Entry], connection: &Connection) -> Option<Route>
-    // Without another connection of the same identifiers there are none (`telling_route`).
     ensures { result ≡ telling_route connections.now connection.now }
 {
     if is_ambiguous(connections, connection) {
@@ -142,7 +136,6 @@ fn telling_route(connections: &[Entry], connection: &Connection) -> Option<Route
 
 /// Returns `true` if several connections have the identifiers of this one.
 fn is_ambiguous(connections: &[Entry], connection: &Connection) -> bool
-    // The connections with both identifiers are counted.
     ensures { result ≡ is_ambiguous connections.now connection.now }
 {
     let low = connection.low;
@@ -162,8 +155,6 @@ fn write_connection<W: Write>(
     at: Option<Route>,
     connection: &Connection,
 ) -> io::Result<()>
-    // On success the lines of the lower end, of the other end, and of the sessions with the addresses in `at`, and the
-    // sentence are appended.
     ensures { OnOk result (Appends (W.contents writer.old) (W.contents writer.new)
         (connection_text scale at connection.now)) }
 {
@@ -185,7 +176,6 @@ fn write_half<W: Write>(
     connection: &Connection,
     direction: &Direction,
 ) -> io::Result<()>
-    // On success the line of this `direction` is appended, then the lines of its channels (`half_text`).
     ensures { OnOk result (Appends (W.contents writer.old) (W.contents writer.new)
         (half_text scale ends.0 ends.1 connection.now direction.now)) }
 {
@@ -202,7 +192,6 @@ fn write_places<W: Write>(
     routes: &[Option<Route>; CHANNELS],
     direction: &Direction,
 ) -> io::Result<()>
-    // On success a line for each channel in use is appended, in order of their numbers (`places_text`).
     ensures { OnOk result (Appends (W.contents writer.old) (W.contents writer.new)
         (places_text ends.0 ends.1 routes.now direction.now)) }
 {
@@ -222,8 +211,6 @@ fn write_direction<W: Write>(
     ends: (u32, u32),
     direction: &Direction,
 ) -> io::Result<()>
-    // On success the line is appended: ends, openings, numbers, then the tally with times and ages by this `scale`
-    // (`direction_text`).
     ensures { OnOk result (Appends (W.contents writer.old) (W.contents writer.new)
         (direction_text scale until ends.0 ends.1 direction.now)) }
 {
@@ -242,7 +229,6 @@ fn write_opening<W: Write>(
     opening: Option<SessionOpening>,
     times: u64,
 ) -> io::Result<()>
-    // On success the type of the last `opening` and the number of `times` are appended, or that none was seen.
     ensures { OnOk result (Appends (W.contents writer.old) (W.contents writer.new) (opening_text opening times)) }
 {
     match opening {
@@ -257,7 +243,6 @@ fn write_opening<W: Write>(
 /// Writes the counts of a window.
 #[tactic(auto, unfolding(crate::specs::SummaryText::numbers_text))]
 fn write_numbers<W: Write>(writer: &mut W, window: &Window) -> io::Result<()>
-    // On success PDUs and missing numbers are appended, then the rest of the `window`.
     ensures { OnOk result (Appends (W.contents writer.old) (W.contents writer.new) (numbers_text window.now)) }
 {
     let heard = window.heard;
@@ -269,7 +254,6 @@ fn write_numbers<W: Write>(writer: &mut W, window: &Window) -> io::Result<()>
 /// Writes how many numbers were repeated, late, differing or stale.
 #[tactic(auto, unfolding(crate::specs::SummaryText::others_text))]
 fn write_others<W: Write>(writer: &mut W, window: &Window) -> io::Result<()>
-    // On success repeats, late, differing and stale ones of this `window` are appended.
     ensures { OnOk result (Appends (W.contents writer.old) (W.contents writer.new) (others_text window.now)) }
 {
     let repeats = window.repeats;
@@ -285,7 +269,6 @@ fn write_others<W: Write>(writer: &mut W, window: &Window) -> io::Result<()>
 /// Writes the tally of a direction.
 #[tactic(auto, unfolding(crate::specs::SummaryText::tally_text))]
 fn write_tally<W: Write>(writer: &mut W, scale: Scale, until: u64, tally: &Tally) -> io::Result<()>
-    // On success types, silence, age, wait, last PDU and disconnect are appended, in this order (`tally_text`).
     ensures { OnOk result (Appends (W.contents writer.old) (W.contents writer.new) (tally_text scale until tally.now)) }
 {
     write_kinds(writer, tally)?;
@@ -300,7 +283,6 @@ fn write_tally<W: Write>(writer: &mut W, scale: Scale, until: u64, tally: &Tally
 /// Writes the counts of types.
 #[tactic(auto, unfolding(crate::specs::SummaryText::kinds_text))]
 fn write_kinds<W: Write>(writer: &mut W, tally: &Tally) -> io::Result<()>
-    // On success the heartbeats, requests, resent units and disconnects of this `tally` are appended.
     ensures { OnOk result (Appends (W.contents writer.old) (W.contents writer.new) (kinds_text tally.now)) }
 {
     let heartbeats = tally.heartbeats;
@@ -316,7 +298,6 @@ fn write_kinds<W: Write>(writer: &mut W, tally: &Tally) -> io::Result<()>
 /// Writes the longest silence.
 #[tactic(auto, unfolding(crate::specs::SummaryText::silence_text))]
 fn write_silence<W: Write>(writer: &mut W, silence: u64) -> io::Result<()>
-    // On success the `silence` is appended in seconds with six digits.
     ensures { OnOk result (Appends (W.contents writer.old) (W.contents writer.new) (silence_text silence)) }
 {
     write_text(writer, " silence ")?;
@@ -326,7 +307,6 @@ fn write_silence<W: Write>(writer: &mut W, silence: u64) -> io::Result<()>
 /// Writes the greatest age beside T_max.
 #[tactic(auto, unfolding(crate::specs::SummaryText::oldest_text))]
 fn write_oldest<W: Write>(writer: &mut W, t_max: u32, oldest: u32) -> io::Result<()>
-    // On success the age, `t_max`, and the word "reached" if the age is at least that are appended.
     ensures { OnOk result (Appends (W.contents writer.old) (W.contents writer.new) (oldest_text t_max oldest)) }
 {
     let reached = remark_on_limit(t_max, oldest);
@@ -336,7 +316,6 @@ fn write_oldest<W: Write>(writer: &mut W, t_max: u32, oldest: u32) -> io::Result
 /// Writes the longest wait beside T_max.
 #[tactic(auto, unfolding(crate::specs::SummaryText::longest_text))]
 fn write_longest<W: Write>(writer: &mut W, t_max: u32, longest: u32) -> io::Result<()>
-    // On success the wait, `t_max`, and the word "reached" if the wait is at least that are appended.
     ensures { OnOk result (Appends (W.contents writer.old) (W.contents writer.new) (longest_text t_max longest)) }
 {
     let reached = remark_on_limit(t_max, longest);
@@ -345,7 +324,6 @@ fn write_longest<W: Write>(writer: &mut W, t_max: u32, longest: u32) -> io::Resu
 
 /// Writes the time of the last PDU.
 fn write_last<W: Write>(writer: &mut W, clock: Clock, last: u64) -> io::Result<()>
-    // On success the time of the `last` PDU by this `clock` is appended, or that none came since the opening.
     ensures { OnOk result (Appends (W.contents writer.old) (W.contents writer.new) (last_text clock last)) }
 {
     if last == 0 {
@@ -357,7 +335,6 @@ fn write_last<W: Write>(writer: &mut W, clock: Clock, last: u64) -> io::Result<(
 
 /// Writes the disconnect of a direction.
 fn write_ending<W: Write>(writer: &mut W, leaving: Option<Leaving>) -> io::Result<()>
-    // On success the reason of the last DiscReq is appended, or that there was none.
     ensures { OnOk result (Appends (W.contents writer.old) (W.contents writer.new) (disconnect_text leaving)) }
 {
     match leaving {
@@ -379,7 +356,6 @@ fn write_place<W: Write>(
     place: usize,
 ) -> io::Result<()>
     requires { place < CHANNELS }
-    // On success the line of the channel at this `place` is appended, if it is in use.
     ensures { OnOk result (Appends (W.contents writer.old) (W.contents writer.new)
         (place_text ends.0 ends.1 routes.now direction.now place)) }
 {
@@ -402,7 +378,6 @@ fn write_maybe_channel<W: Write>(
     window: &Window,
     damaged: u64,
 ) -> io::Result<()>
-    // On success the line of the channel is appended if it has a `route`.
     ensures { OnOk result (Appends (W.contents writer.old) (W.contents writer.new)
         (maybe_channel_text ends.0 ends.1 place route window.now damaged)) }
 {
@@ -422,7 +397,6 @@ fn write_channel<W: Write>(
     window: &Window,
     damaged: u64,
 ) -> io::Result<()>
-    // On success the ends and number, the addresses, the datagrams, the numbers and the `damaged` ones are appended.
     ensures { OnOk result (Appends (W.contents writer.old) (W.contents writer.new)
         (known_channel_text ends.0 ends.1 place route window.now damaged)) }
 {
@@ -436,7 +410,6 @@ fn write_channel<W: Write>(
 /// Writes how many datagrams on a channel were not a PDU, and ends the line.
 #[tactic(auto, unfolding(crate::specs::SummaryText::damaged_count_text))]
 fn write_damaged<W: Write>(writer: &mut W, damaged: u64) -> io::Result<()>
-    // On success the number of `damaged` datagrams and a line feed are appended.
     ensures { OnOk result (Appends (W.contents writer.old) (W.contents writer.new) (damaged_count_text damaged)) }
 {
     writeln!(writer, " damaged {damaged}")
@@ -445,7 +418,6 @@ fn write_damaged<W: Write>(writer: &mut W, damaged: u64) -> io::Result<()>
 /// Writes the addresses of a channel.
 #[tactic(auto, unfolding(crate::specs::SummaryText::route_text))]
 fn write_route<W: Write>(writer: &mut W, route: Route) -> io::Result<()>
-    // On success the lower end's and the other end's address are appended, with a hyphen between them.
     ensures { OnOk result (Appends (W.contents writer.old) (W.contents writer.new) (route_text route)) }
 {
     write_text(writer, " ")?;
@@ -457,7 +429,6 @@ fn write_route<W: Write>(writer: &mut W, route: Route) -> io::Result<()>
 /// Writes the ends and the number of a channel.
 #[tactic(auto, unfolding(crate::specs::SummaryText::sum_text))]
 fn write_sum<W: Write>(writer: &mut W, ends: (u32, u32), place: usize) -> io::Result<()>
-    // On success the sender, the receiver, and the words of the channel at `place` are appended.
     ensures { OnOk result (Appends (W.contents writer.old) (W.contents writer.new) (sum_text ends.0 ends.1 place)) }
 {
     write_text(writer, "sum ")?;
@@ -468,7 +439,6 @@ fn write_sum<W: Write>(writer: &mut W, ends: (u32, u32), place: usize) -> io::Re
 /// Writes how many datagrams came on a channel.
 #[tactic(auto, unfolding(crate::specs::SummaryText::datagrams_text))]
 fn write_datagrams<W: Write>(writer: &mut W, window: &Window, damaged: u64) -> io::Result<()>
-    // On success the number of all datagrams on the channel, the `damaged` ones included, is appended.
     ensures { OnOk result (Appends (W.contents writer.old) (W.contents writer.new)
         (datagrams_text window.now damaged)) }
 {
@@ -478,8 +448,6 @@ fn write_datagrams<W: Write>(writer: &mut W, window: &Window, damaged: u64) -> i
 
 /// Returns how many datagrams came on a channel: in order, late, repeated, differing, stale or damaged.
 pub(crate) fn datagrams(window: &Window, damaged: u64) -> u64
-    // The result is the sum of all counts of the `window` except missing numbers, and of the `damaged` ones, limited
-    // to 2^64 - 1.
     ensures { result ≡ datagrams_of window.now damaged }
 {
     window
@@ -494,7 +462,6 @@ pub(crate) fn datagrams(window: &Window, damaged: u64) -> u64
 /// Writes the line of sums over all connections.
 #[tactic(auto, unfolding(crate::specs::SummaryText::all_text))]
 fn write_all<W: Write>(writer: &mut W, totals: Totals, counts: CaptureCounts) -> io::Result<()>
-    // On success the datagrams, the `totals` and the `counts` are appended as one line.
     ensures { OnOk result (Appends (W.contents writer.old) (W.contents writer.new) (all_text totals counts)) }
 {
     write_came(writer, counts.datagrams)?;
@@ -507,7 +474,6 @@ fn write_all<W: Write>(writer: &mut W, totals: Totals, counts: CaptureCounts) ->
 /// Writes how many datagrams came.
 #[tactic(auto, unfolding(crate::specs::SummaryText::datagram_count_text))]
 fn write_came<W: Write>(writer: &mut W, datagrams: u64) -> io::Result<()>
-    // On success the number of all `datagrams` of the capture is appended.
     ensures { OnOk result (Appends (W.contents writer.old) (W.contents writer.new) (datagram_count_text datagrams)) }
 {
     write!(writer, "sum all datagrams {datagrams}")
@@ -516,7 +482,6 @@ fn write_came<W: Write>(writer: &mut W, datagrams: u64) -> io::Result<()>
 /// Writes the sums over all connections.
 #[tactic(auto, unfolding(crate::specs::SummaryText::totals_text))]
 fn write_totals<W: Write>(writer: &mut W, totals: Totals) -> io::Result<()>
-    // On success PDUs and missing numbers of all are appended, then the rest of these `totals`.
     ensures { OnOk result (Appends (W.contents writer.old) (W.contents writer.new) (totals_text totals)) }
 {
     let heard = totals.heard;
@@ -528,7 +493,6 @@ fn write_totals<W: Write>(writer: &mut W, totals: Totals) -> io::Result<()>
 /// Writes how many numbers of all connections were repeated, late, differing or stale.
 #[tactic(auto, unfolding(crate::specs::SummaryText::other_totals_text))]
 fn write_other_totals<W: Write>(writer: &mut W, totals: Totals) -> io::Result<()>
-    // On success repeats, late, differing and stale ones of these `totals` are appended.
     ensures { OnOk result (Appends (W.contents writer.old) (W.contents writer.new) (other_totals_text totals)) }
 {
     let repeats = totals.repeats;
@@ -544,7 +508,6 @@ fn write_other_totals<W: Write>(writer: &mut W, totals: Totals) -> io::Result<()
 /// Writes the counts over the whole capture.
 #[tactic(auto, unfolding(crate::specs::SummaryText::counts_text))]
 fn write_counts<W: Write>(writer: &mut W, counts: CaptureCounts) -> io::Result<()>
-    // On success the damaged, forgotten and unreadable ones of these `counts` are appended.
     ensures { OnOk result (Appends (W.contents writer.old) (W.contents writer.new) (counts_text counts)) }
 {
     let damaged = counts.damaged;

@@ -25,8 +25,6 @@ pub(crate) fn write_sessions<W: Write>(
     at: Option<Route>,
     sessions: &Sessions,
 ) -> io::Result<()>
-    // On success the lines of the kept sessions are appended in order of their numbers, then that of the current one
-    // (`sessions_text`).
     ensures { OnOk result (Appends (W.contents writer.old) (W.contents writer.new)
         (sessions_text clock ends.0 ends.1 at sessions.now)) }
 {
@@ -45,7 +43,6 @@ fn write_past<W: Write>(
     at: Option<Route>,
     past: &[Session],
 ) -> io::Result<()>
-    // On success the line of each session is appended, in the order of `past`.
     ensures { OnOk result (Appends (W.contents writer.old) (W.contents writer.new)
         (past_text clock ends.0 ends.1 at past.now)) }
 {
@@ -64,7 +61,6 @@ fn write_session<W: Write>(
     at: Option<Route>,
     session: &Session,
 ) -> io::Result<()>
-    // On success the line is appended: how the session began, how it ended, and what happened in it.
     ensures { OnOk result (Appends (W.contents writer.old) (W.contents writer.new)
         (session_text clock ends.0 ends.1 at session.now)) }
 {
@@ -83,8 +79,6 @@ fn write_beginning<W: Write>(
     at: Option<Route>,
     session: &Session,
 ) -> io::Result<()>
-    // On success its number, its addresses if there are any in `at`, its ConnReq and its ConnResp are appended, or that
-    // they were not recorded.
     ensures { OnOk result (Appends (W.contents writer.old) (W.contents writer.new)
         (start_text clock ends.0 ends.1 at session.now)) }
 {
@@ -99,7 +93,6 @@ fn write_beginning<W: Write>(
 /// Writes the number of a session, and its connection.
 #[tactic(auto, unfolding(crate::specs::TableText::number_text))]
 fn write_number<W: Write>(writer: &mut W, number: u64, ends: (u32, u32)) -> io::Result<()>
-    // On success the `number` and both identifiers are appended.
     ensures { OnOk result (Appends (W.contents writer.old) (W.contents writer.new)
         (number_text number ends.0 ends.1)) }
 {
@@ -109,7 +102,6 @@ fn write_number<W: Write>(writer: &mut W, number: u64, ends: (u32, u32)) -> io::
 
 /// Writes the addresses of a connection, if it needs them.
 fn write_any_place<W: Write>(writer: &mut W, at: Option<Route>) -> io::Result<()>
-    // On success the addresses in `at` are appended, if there are any (`maybe_at_text`).
     ensures { OnOk result (Appends (W.contents writer.old) (W.contents writer.new) (maybe_at_text at)) }
 {
     match at {
@@ -121,7 +113,6 @@ fn write_any_place<W: Write>(writer: &mut W, at: Option<Route>) -> io::Result<()
 /// Writes the addresses of a connection.
 #[tactic(auto, unfolding(crate::specs::TableText::at_text))]
 fn write_place<W: Write>(writer: &mut W, route: Route) -> io::Result<()>
-    // On success both addresses of the `route` are appended after a word, the lower end's first (`at_text`).
     ensures { OnOk result (Appends (W.contents writer.old) (W.contents writer.new) (at_text route)) }
 {
     write_text(writer, " at ")?;
@@ -137,7 +128,6 @@ fn write_asked<W: Write>(
     ends: (u32, u32),
     asked: SessionRequest,
 ) -> io::Result<()>
-    // On success the end that `asked` and the time are appended, or that the ConnReq was not recorded.
     ensures { OnOk result (Appends (W.contents writer.old) (W.contents writer.new)
         (maybe_request_text clock ends.0 ends.1 asked)) }
 {
@@ -151,7 +141,6 @@ fn write_asked<W: Write>(
 
 /// Returns the end that asked for a session.
 pub(crate) fn asker(ends: (u32, u32), by_low: bool) -> u32
-    // The result is the lower identifier if that end sent the ConnReq, otherwise the higher one.
     ensures { result ≡ asker_of ends.0 ends.1 by_low }
 {
     if by_low { ends.0 } else { ends.1 }
@@ -160,7 +149,6 @@ pub(crate) fn asker(ends: (u32, u32), by_low: bool) -> u32
 /// Writes which end asked for a session, and when.
 #[tactic(auto, unfolding(crate::specs::TableText::request_text))]
 fn write_asking<W: Write>(writer: &mut W, clock: Clock, end: u32, time: u64) -> io::Result<()>
-    // On success the identifier of `end` and the time since `clock` are appended.
     ensures { OnOk result (Appends (W.contents writer.old) (W.contents writer.new)
         (request_text clock end time)) }
 {
@@ -175,7 +163,6 @@ fn write_outcome<W: Write>(
     up: Option<u64>,
     unanswered: bool,
 ) -> io::Result<()>
-    // On success the time `up` is appended; without one, whether nobody answered.
     ensures { OnOk result (Appends (W.contents writer.old) (W.contents writer.new)
         (outcome_text clock up unanswered)) }
 {
@@ -187,7 +174,6 @@ fn write_outcome<W: Write>(
 
 /// Returns the words for a session that was not seen to come up.
 fn name_down(unanswered: bool) -> &'static str
-    // The words say that nobody answered, if so; otherwise that the session was not seen to come up.
     ensures { result.now ≡ down_text unanswered }
 {
     if unanswered {
@@ -200,7 +186,6 @@ fn name_down(unanswered: bool) -> &'static str
 /// Writes when a session came up.
 #[tactic(auto, unfolding(crate::specs::TableText::up_text))]
 fn write_came_up<W: Write>(writer: &mut W, clock: Clock, time: u64) -> io::Result<()>
-    // On success the words "came up at" and the time since `clock` are appended.
     ensures { OnOk result (Appends (W.contents writer.old) (W.contents writer.new) (up_text clock time)) }
 {
     write!(writer, ", came up at ")?;
@@ -215,7 +200,6 @@ fn write_ended<W: Write>(
     ends: (u32, u32),
     session: &Session,
 ) -> io::Result<()>
-    // On success the DiscReq of the lower end and that of the other end are appended, or that nobody left.
     ensures { OnOk result (Appends (W.contents writer.old) (W.contents writer.new)
         (end_text clock ends.0 ends.1 session.now)) }
 {
@@ -228,7 +212,6 @@ fn write_ended<W: Write>(
 
 /// Returns `true` if neither end left a session.
 fn keeps(session: &Session) -> bool
-    // The result is true exactly if neither side has a DiscReq.
     ensures { result ≡ is_kept session.now }
 {
     !session.low.left.is_sent() && !session.high.left.is_sent()
@@ -236,7 +219,6 @@ fn keeps(session: &Session) -> bool
 
 /// Returns the words for a session that nobody left.
 fn name_kept(kept: bool) -> &'static str
-    // The words are empty if an end left.
     ensures { result.now ≡ no_disconnect_text kept }
 {
     if kept { ", nobody left" } else { "" }
@@ -249,7 +231,6 @@ fn write_left<W: Write>(
     end: u32,
     left: Disconnection,
 ) -> io::Result<()>
-    // On success the DiscReq is appended if the end `left`; otherwise nothing is.
     ensures { OnOk result (Appends (W.contents writer.old) (W.contents writer.new) (maybe_disconnect_text clock end left)) }
 {
     match left {
@@ -268,7 +249,6 @@ fn write_left<W: Write>(
 /// Writes which end left, and when.
 #[tactic(auto, unfolding(crate::specs::TableText::departure_text))]
 fn write_departure<W: Write>(writer: &mut W, clock: Clock, end: u32, time: u64) -> io::Result<()>
-    // On success the identifier of the `end` that left and the time since `clock` are appended.
     ensures { OnOk result (Appends (W.contents writer.old) (W.contents writer.new)
         (departure_text clock end time)) }
 {
@@ -279,7 +259,6 @@ fn write_departure<W: Write>(writer: &mut W, clock: Clock, end: u32, time: u64) 
 /// Writes how an end left.
 #[tactic(auto, unfolding(crate::specs::TableText::manner_text))]
 fn write_manner<W: Write>(writer: &mut W, follows: bool, leaving: Leaving) -> io::Result<()>
-    // On success it is appended whether the other end had left before, and then the reason.
     ensures { OnOk result (Appends (W.contents writer.old) (W.contents writer.new)
         (manner_text follows leaving)) }
 {
@@ -289,7 +268,6 @@ fn write_manner<W: Write>(writer: &mut W, follows: bool, leaving: Leaving) -> io
 
 /// Returns the words for the first leaving of a session, or for one after it.
 fn name_own(follows: bool) -> &'static str
-    // A leaving that `follows` is after the other end's; any other is by the end itself.
     ensures { result.now ≡ own_text follows }
 {
     if follows {
@@ -302,7 +280,6 @@ fn name_own(follows: bool) -> &'static str
 /// Writes what happened in a session, and ends its line.
 #[tactic(auto, unfolding(crate::specs::TableText::session_events_text))]
 fn write_happened<W: Write>(writer: &mut W, ends: (u32, u32), session: &Session) -> io::Result<()>
-    // On success the longest waits, both losses, what was sent again and the repeats are appended.
     ensures { OnOk result (Appends (W.contents writer.old) (W.contents writer.new)
         (session_events_text ends.0 ends.1 session.now)) }
 {
@@ -317,7 +294,6 @@ fn write_happened<W: Write>(writer: &mut W, ends: (u32, u32), session: &Session)
 /// Writes the longest wait of each end.
 #[tactic(auto, unfolding(crate::specs::TableText::waits_text))]
 fn write_waited<W: Write>(writer: &mut W, ends: (u32, u32), one: u32, other: u32) -> io::Result<()>
-    // On success each identifier is appended with its wait in milliseconds.
     ensures { OnOk result (Appends (W.contents writer.old) (W.contents writer.new)
         (waits_text ends.0 ends.1 one other)) }
 {
@@ -328,7 +304,6 @@ fn write_waited<W: Write>(writer: &mut W, ends: (u32, u32), one: u32, other: u32
 /// Writes how many PDUs were lost on every channel, and how many datagrams on one channel whose PDU came on another.
 #[tactic(auto, unfolding(crate::specs::TableText::session_losses_text))]
 pub(crate) fn write_lost<W: Write>(writer: &mut W, everywhere: u64, alone: u64) -> io::Result<()>
-    // On success both losses are appended, each after the words that say what it counts.
     ensures { OnOk result (Appends (W.contents writer.old) (W.contents writer.new) (session_losses_text everywhere alone)) }
 {
     write!(
@@ -339,7 +314,6 @@ pub(crate) fn write_lost<W: Write>(writer: &mut W, everywhere: u64, alone: u64) 
 
 /// Returns how many units both ends sent again.
 fn resent_count(session: &Session) -> u64
-    // The counts of both sides are added.
     ensures { result ≡ resent_in session.now }
 {
     (session.low.resent as u64).saturating_add(session.high.resent as u64)
@@ -347,7 +321,6 @@ fn resent_count(session: &Session) -> u64
 
 /// Returns how many PDUs of both ends came twice on one channel.
 fn repeat_count(session: &Session) -> u64
-    // The repeats of both sides are added.
     ensures { result ≡ repeats_in session.now }
 {
     (session.low.repeats as u64).saturating_add(session.high.repeats as u64)
@@ -356,7 +329,6 @@ fn repeat_count(session: &Session) -> u64
 /// Writes what was sent again and what came twice on one channel, and ends the line.
 #[tactic(auto, unfolding(crate::specs::TableText::again_text))]
 fn write_again<W: Write>(writer: &mut W, resent: u64, repeats: u64) -> io::Result<()>
-    // On success the units sent again, the repeats and a line feed are appended.
     ensures { OnOk result (Appends (W.contents writer.old) (W.contents writer.new) (again_text resent repeats)) }
 {
     writeln!(

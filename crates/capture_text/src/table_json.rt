@@ -21,7 +21,6 @@ pub(crate) fn write_sessions_json<W: Write>(
     ends: (u32, u32),
     sessions: &Sessions,
 ) -> io::Result<()>
-    // On success the member of the sessions is appended: five sums, and the table (`sessions_json`).
     ensures { OnOk result (Appends (W.contents writer.old) (W.contents writer.new)
         (sessions_json ends.0 ends.1 sessions.now)) }
 {
@@ -35,7 +34,6 @@ pub(crate) fn write_sessions_json<W: Write>(
 /// Writes how many sessions there were, how many came up, and how many nobody answered.
 #[tactic(auto, unfolding(crate::specs::TableJson::session_counts_json))]
 fn write_came<W: Write>(writer: &mut W, number: u64, totals: SessionTotals) -> io::Result<()>
-    // On success the number of sessions and two of the `totals` are appended.
     ensures { OnOk result (Appends (W.contents writer.old) (W.contents writer.new) (session_counts_json number totals)) }
 {
     let up = totals.up;
@@ -49,7 +47,6 @@ fn write_came<W: Write>(writer: &mut W, number: u64, totals: SessionTotals) -> i
 /// Writes how many sessions an end left, how many by a timeout, and the start of the table.
 #[tactic(auto, unfolding(crate::specs::TableJson::disconnect_counts_json))]
 fn write_gone<W: Write>(writer: &mut W, totals: SessionTotals) -> io::Result<()>
-    // On success the other two of the `totals` are appended, and the list is opened.
     ensures { OnOk result (Appends (W.contents writer.old) (W.contents writer.new) (disconnect_counts_json totals)) }
 {
     let left = totals.left;
@@ -63,8 +60,6 @@ fn write_gone<W: Write>(writer: &mut W, totals: SessionTotals) -> io::Result<()>
 /// Writes the table of the last sessions.
 #[tactic(auto, unfolding(crate::specs::TableJson::table_json))]
 fn write_table<W: Write>(writer: &mut W, ends: (u32, u32), sessions: &Sessions) -> io::Result<()>
-    // On success the kept sessions are appended in order of their numbers, then the current one, and the list is
-    // closed (`table_json`).
     ensures { OnOk result (Appends (W.contents writer.old) (W.contents writer.new)
         (table_json ends.0 ends.1 sessions.now)) }
 {
@@ -78,7 +73,6 @@ fn write_table<W: Write>(writer: &mut W, ends: (u32, u32), sessions: &Sessions) 
 
 /// Writes sessions that have ended, each before a comma.
 fn write_past<W: Write>(writer: &mut W, ends: (u32, u32), past: &[Session]) -> io::Result<()>
-    // On success the object of each session, and a comma, are appended in the order of `past`.
     ensures { OnOk result (Appends (W.contents writer.old) (W.contents writer.new)
         (past_json ends.0 ends.1 past.now)) }
 {
@@ -90,7 +84,6 @@ fn write_past<W: Write>(writer: &mut W, ends: (u32, u32), past: &[Session]) -> i
 
 /// Writes a session before a comma.
 fn write_item<W: Write>(writer: &mut W, ends: (u32, u32), session: &Session) -> io::Result<()>
-    // On success the object and a comma are appended (`item_json`).
     ensures { OnOk result (Appends (W.contents writer.old) (W.contents writer.new)
         (item_json ends.0 ends.1 session.now)) }
 {
@@ -101,7 +94,6 @@ fn write_item<W: Write>(writer: &mut W, ends: (u32, u32), session: &Session) -> 
 /// Writes the object of a session.
 #[tactic(auto, unfolding(crate::specs::TableJson::session_json))]
 fn write_session<W: Write>(writer: &mut W, ends: (u32, u32), session: &Session) -> io::Result<()>
-    // On success how the session began is appended, and what each end did in it.
     ensures { OnOk result (Appends (W.contents writer.old) (W.contents writer.new)
         (session_json ends.0 ends.1 session.now)) }
 {
@@ -113,7 +105,6 @@ fn write_session<W: Write>(writer: &mut W, ends: (u32, u32), session: &Session) 
 /// Writes how a session began.
 #[tactic(auto, unfolding(crate::specs::TableJson::start_json))]
 fn write_beginning<W: Write>(writer: &mut W, ends: (u32, u32), session: &Session) -> io::Result<()>
-    // On success its number, its ConnReq, and its outcome are appended.
     ensures { OnOk result (Appends (W.contents writer.old) (W.contents writer.new)
         (start_json ends.0 ends.1 session.now)) }
 {
@@ -127,7 +118,6 @@ fn write_beginning<W: Write>(writer: &mut W, ends: (u32, u32), session: &Session
 /// Writes the number of a session.
 #[tactic(auto, unfolding(crate::specs::TableJson::number_json))]
 fn write_number<W: Write>(writer: &mut W, number: u64) -> io::Result<()>
-    // On success the `number` is appended at the start of the object.
     ensures { OnOk result (Appends (W.contents writer.old) (W.contents writer.new) (number_json number)) }
 {
     write!(writer, "{{\"session\":{number}")
@@ -135,7 +125,6 @@ fn write_number<W: Write>(writer: &mut W, number: u64) -> io::Result<()>
 
 /// Writes the ConnReq of a session.
 fn write_asked<W: Write>(writer: &mut W, ends: (u32, u32), asked: SessionRequest) -> io::Result<()>
-    // On success its time and its end are appended; both are null if it was not recorded.
     ensures { OnOk result (Appends (W.contents writer.old) (W.contents writer.new)
         (maybe_request_json ends.0 ends.1 asked)) }
 {
@@ -150,7 +139,6 @@ fn write_asked<W: Write>(writer: &mut W, ends: (u32, u32), asked: SessionRequest
 /// Writes the time and the end of a ConnReq.
 #[tactic(auto, unfolding(crate::specs::TableJson::request_json))]
 fn write_asking<W: Write>(writer: &mut W, end: u32, time: u64) -> io::Result<()>
-    // On success both members are appended, with this `time` and this `end`.
     ensures { OnOk result (Appends (W.contents writer.old) (W.contents writer.new) (request_json end time)) }
 {
     write!(writer, ",\"asked\":{time},\"asked_by\":{end}")
@@ -159,7 +147,6 @@ fn write_asking<W: Write>(writer: &mut W, end: u32, time: u64) -> io::Result<()>
 /// Writes if and when a session came up.
 #[tactic(auto, unfolding(crate::specs::TableJson::outcome_json))]
 fn write_outcome<W: Write>(writer: &mut W, up: Option<u64>, unanswered: bool) -> io::Result<()>
-    // On success the time `up`, or null, is appended, and whether nobody answered.
     ensures { OnOk result (Appends (W.contents writer.old) (W.contents writer.new)
         (outcome_json up unanswered)) }
 {
@@ -172,7 +159,6 @@ fn write_outcome<W: Write>(writer: &mut W, up: Option<u64>, unanswered: bool) ->
 
 /// Writes a time, or null.
 fn write_maybe_time<W: Write>(writer: &mut W, time: Option<u64>) -> io::Result<()>
-    // On success the `time` is appended; null without one.
     ensures { OnOk result (Appends (W.contents writer.old) (W.contents writer.new) (maybe_time_json time)) }
 {
     match time {
@@ -183,7 +169,6 @@ fn write_maybe_time<W: Write>(writer: &mut W, time: Option<u64>) -> io::Result<(
 
 /// Returns the word for a truth.
 pub(crate) fn name_truth(holds: bool) -> &'static str
-    // The words are those of JSON.
     ensures { result.now ≡ truth_json holds }
 {
     if holds { "true" } else { "false" }
@@ -192,7 +177,6 @@ pub(crate) fn name_truth(holds: bool) -> &'static str
 /// Writes what both ends did in a session.
 #[tactic(auto, unfolding(crate::specs::TableJson::sides_json))]
 fn write_sides<W: Write>(writer: &mut W, session: &Session) -> io::Result<()>
-    // On success the objects of the lower end and of the other end are appended, and that of the session is closed.
     ensures { OnOk result (Appends (W.contents writer.old) (W.contents writer.new) (sides_json session.now)) }
 {
     write_text(writer, ",\"low\":")?;
@@ -206,7 +190,6 @@ fn write_sides<W: Write>(writer: &mut W, session: &Session) -> io::Result<()>
 /// Writes what an end did in a session.
 #[tactic(auto, unfolding(crate::specs::TableJson::side_json))]
 fn write_side<W: Write>(writer: &mut W, side: &Side) -> io::Result<()>
-    // On success its DiscReq or null, its longest wait, its losses, and what it sent again are appended.
     ensures { OnOk result (Appends (W.contents writer.old) (W.contents writer.new) (side_json side.now)) }
 {
     let alone = alone(side);
@@ -219,7 +202,6 @@ fn write_side<W: Write>(writer: &mut W, side: &Side) -> io::Result<()>
 
 /// Writes the DiscReq of an end, or null.
 fn write_left<W: Write>(writer: &mut W, left: Disconnection) -> io::Result<()>
-    // On success the object of the DiscReq is appended if the end `left`, otherwise null.
     ensures { OnOk result (Appends (W.contents writer.old) (W.contents writer.new) (maybe_disconnect_json left)) }
 {
     match left {
@@ -240,7 +222,6 @@ fn write_parting<W: Write>(
     leaving: Leaving,
     time: u64,
 ) -> io::Result<()>
-    // On success its time, reason and detail are appended, and whether the other end had left before.
     ensures { OnOk result (Appends (W.contents writer.old) (W.contents writer.new) (disconnect_json follows leaving time)) }
 {
     let reason = leaving.reason;
@@ -255,8 +236,6 @@ fn write_parting<W: Write>(
 /// Writes the longest wait and the losses of an end.
 #[tactic(auto, unfolding(crate::specs::TableJson::losses_json))]
 fn write_losses<W: Write>(writer: &mut W, waits: u32, lost: u32, alone: u64) -> io::Result<()>
-    // On success the wait in milliseconds, the PDUs lost on every channel, and the datagrams lost on one channel
-    // only are appended.
     ensures { OnOk result (Appends (W.contents writer.old) (W.contents writer.new)
         (losses_json waits lost alone)) }
 {
@@ -269,7 +248,6 @@ fn write_losses<W: Write>(writer: &mut W, waits: u32, lost: u32, alone: u64) -> 
 /// Writes what an end sent again, and what came twice on one channel.
 #[tactic(auto, unfolding(crate::specs::TableJson::again_json))]
 fn write_again<W: Write>(writer: &mut W, resent: u32, repeats: u32) -> io::Result<()>
-    // On success both counts are appended, and the object is closed.
     ensures { OnOk result (Appends (W.contents writer.old) (W.contents writer.new) (again_json resent repeats)) }
 {
     write!(writer, ",\"resent\":{resent},\"repeats\":{repeats}}}")

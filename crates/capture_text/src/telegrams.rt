@@ -30,7 +30,6 @@ pub fn write_telegrams<W: Write>(writer: &mut W, rule: &CodeRule, datagram: &[u8
 
 /// Writes the lines of the telegrams in the part of a redundancy PDU.
 fn write_body<W: Write>(writer: &mut W, rule: &CodeRule, upper: &[u8]) -> io::Result<()>
-    // On success the lines of the telegrams in the safety PDU of `upper` are appended; nothing if it is rejected.
     ensures { OnOk result (Appends (W.contents writer.old) (W.contents writer.new)
         (body_lines (safe_seen rule.now upper.now))) }
 {

@@ -115,7 +115,6 @@ pub fn run<R: AllocGlobal + Env + Files + Net + Clock, O: Write>(
 
 /// Returns the path and the number of seconds.
 fn words<R: AllocGlobal + Env>(rt: &R) -> Result<(String, u64), Stop>
-    // The number of seconds is at most 2^32.
     ensures { IfOk result (λ words. words.1 ≤ 2 ^ 32) }
 {
     let Ok(mut words) = env::args(rt) else {
@@ -149,7 +148,6 @@ fn open<R: AllocGlobal + Files + Net>(
     settings: &Settings,
     watch: &Watch,
 ) -> Result<End<UdpChannels>, Stop>
-    // The time of the opened end is 0.
     ensures { IfOk result (λ end. end.time ≡ 0) }
 {
     let (local, remote) = (settings.local.as_slice(), settings.remote.as_slice());
@@ -192,7 +190,6 @@ fn first_number<R: Files>(rt: &R, stated: Option<u32>) -> Result<u32, Stop> {
 /// Returns the milliseconds since the start, never less than the last reading.
 fn read<K: Clock>(system: &K, began: Instant, last: Milliseconds) -> Result<Milliseconds, Stop>
     requires { last ≤ 2 ^ 62 }
-    // The reading is at least the last one, and at most 2^62.
     ensures { IfOk result (λ now. (last ≤ now) × (now ≤ 2 ^ 62)) }
 {
     let Ok(seen) = Instant::now(system) else {

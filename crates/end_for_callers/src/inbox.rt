@@ -45,7 +45,6 @@ impl Inbox {
     ///
     /// Returns an error if the allocation fails.
     pub(crate) fn new(alloc: Global, telegrams: u32) -> Result<Inbox, AllocError>
-        // A new inbox is empty, has room for `telegrams` payloads of the greatest size, and has lost nothing.
         ensures { IfOk result (λ i. i ≡ record { queue = new_queue telegrams (telegrams * PAYLOAD_MAX); lost = false }) }
     {
         let places = telegrams as usize;
@@ -75,7 +74,6 @@ impl Inbox {
 
     /// Begins with a new connection, of which no telegram is lost. The queue stays.
     pub(crate) fn forget_loss(&mut self)
-        // The queue of telegrams is unchanged, and none is lost.
         ensures { self.new ≡ record self.old { lost = false } }
     {
         self.lost = false;
@@ -83,7 +81,6 @@ impl Inbox {
 
     /// Returns the queue of telegrams, to read its length and free room.
     pub(crate) fn queue(&self) -> &Queue<u16>
-        // The queue returned is that of the telegrams.
         ensures { result.now ≡ self.now.queue }
     {
         &self.queue
@@ -91,7 +88,6 @@ impl Inbox {
 
     /// Returns true if a telegram found no room.
     pub(crate) fn lost(&self) -> bool
-        // The result is true if and only if a telegram was lost.
         ensures { result ≡ self.now.lost }
     {
         self.lost

@@ -34,7 +34,6 @@ pub enum StationNote {
 impl StationNote {
     /// Returns a note of an end as it is kept. The payload of a telegram is not.
     pub(crate) fn of(note: &Note<'_>) -> StationNote
-        // The note says the same, without the payload of a telegram.
         ensures { result ≡ note_of note.now }
     {
         match note {
@@ -78,7 +77,6 @@ impl Notes {
     ///
     /// Returns an error if the allocation fails.
     pub(crate) fn new(alloc: Global) -> Result<Notes, AllocError>
-        // No note is kept, and none waits.
         ensures { IfOk result (λ n. n ≡ heard_anew false) }
     {
         Ok(Notes {
@@ -90,7 +88,6 @@ impl Notes {
 
     /// Keeps notes from now on, or no longer. Those that wait are dropped.
     pub(crate) fn set_kept(&mut self, hears: bool)
-        // No note waits, and later ones are kept if and only if `hears` is true.
         ensures { self.new ≡ heard_anew hears }
     {
         self.waiting.clear();
@@ -100,7 +97,6 @@ impl Notes {
 
     /// Returns true if notes are kept.
     pub(crate) fn hears(&self) -> bool
-        // The result is true if and only if notes are kept.
         ensures { result ≡ self.now.hears }
     {
         self.hears
@@ -108,8 +104,6 @@ impl Notes {
 
     /// Appends a note, if notes are kept and there is room.
     pub(crate) fn add(&mut self, note: StationNote)
-        // The note waits behind the others if notes are kept, none had no room, and fewer than 128 wait. Without room it
-        // is counted.
         ensures { self.new ≡ with_note note self.old }
     {
         if !self.hears {

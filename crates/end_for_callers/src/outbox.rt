@@ -33,7 +33,6 @@ pub(crate) struct Shares {
 impl Shares {
     /// Returns shares of this number of places for each of this number of channels.
     fn new(channels: usize, each: usize) -> Shares
-        // Each of the channels has this number of places, and any other none.
         ensures { result ≡ shares_of channels each }
     {
         Shares {
@@ -47,7 +46,6 @@ impl Shares {
     /// Returns the places of all channels.
     fn total(&self) -> usize
         requires small { sum_of_shares self.now < 2 ^ 64 }
-        // The result is the number of places set aside for all channels.
         ensures { result ≡ sum_of_shares self.now }
     {
         self.first + self.second + self.third + self.fourth
@@ -55,7 +53,6 @@ impl Shares {
 
     /// Returns the shares after a datagram on this channel.
     fn spent_on(&self, channel: usize) -> Shares
-        // The channel has one place less, if it has one.
         ensures { result ≡ spent_on channel self.now }
     {
         Shares {
@@ -99,8 +96,6 @@ impl Outbox {
     ///
     /// Returns an error if the allocation fails.
     pub(crate) fn new(alloc: Global, datagrams: u32) -> Result<Outbox, AllocError>
-        // A new outbox is empty, has room for `datagrams` redundancy PDUs of the greatest size, has counted none as
-        // unsent, and keeps no notes.
         ensures { IfOk result (λ o. o.out ≡ new_outgoing datagrams) }
     {
         let places = datagrams as usize;
@@ -131,7 +126,6 @@ impl Outbox {
 
     /// Drops the datagrams that wait, and counts unsent ones from 0 on. The notes stay.
     pub(crate) fn clear(&mut self)
-        // No datagram waits, all places and room are free, and none is counted as unsent. The notes stay.
         ensures { self.new.out ≡ clear_outgoing self.old.out }
     {
         self.queue.clear();
@@ -156,7 +150,6 @@ impl Outbox {
 
     /// Returns the queue of datagrams, to read its length and free room.
     pub(crate) fn queue(&self) -> &Queue<usize>
-        // The queue returned is that of the datagrams.
         ensures { result.now ≡ self.now.out.queue }
     {
         &self.queue
@@ -164,7 +157,6 @@ impl Outbox {
 
     /// Returns the number of datagrams that found no room, modulo 2^64.
     pub(crate) fn unsent(&self) -> u64
-        // The result is the count of datagrams that found no room in this outbox.
         ensures { result ≡ self.now.out.unsent }
     {
         self.unsent
@@ -172,7 +164,6 @@ impl Outbox {
 
     /// Keeps notes from now on, or no longer. Those that wait are dropped.
     pub(crate) fn hear_notes(&mut self, hears: bool)
-        // Only the notes change: they are kept if and only if `hears` is true, and none waits.
         ensures { self.new ≡ record self.old { out = record self.old.out { notes = heard_anew hears } } }
     {
         self.notes.set_kept(hears);

@@ -125,7 +125,6 @@ impl PlainSettings {
 
     /// Reads names and lists from their rows.
     fn lists(&self) -> Option<Lists>
-        // All four are read, or the result is `None` if one cannot be (`lists_in`).
         ensures { option_map lists_seen result ≡ lists_in self.now }
     {
         let own = name(&self.name)?;
@@ -143,8 +142,6 @@ impl PlainSettings {
     /// Returns the settings with these names and lists.
     fn config(&self, lists: &Lists) -> EndConfig
         requires { self.now.protocol ≤ 255 }
-        // The settings have the numbers of their fields, the initial value's four words, and these names and
-        // lists.
         ensures { settings_of result ≡ config_with self.now (lists_seen lists.now) }
     {
         let iv = &self.initial_value;
@@ -173,7 +170,6 @@ impl PlainSettings {
 
 /// Returns the side with this number.
 fn side(number: u32) -> Option<Side>
-    // The number 1 is an interlocking, 2 a field element, and any other `None`.
     ensures { result ≡ side_in number }
 {
     match number {
@@ -185,7 +181,6 @@ fn side(number: u32) -> Option<Side>
 
 /// Returns the first `count` bytes of a row, or `None` if it is shorter.
 fn front(row: &[u8], count: u32) -> Option<&[u8]>
-    // `front` returns the first `count` bytes if the row has as many, and `None` otherwise.
     ensures { option_map (λ s. s.now) result ≡ front_of count row.now }
 {
     if count as usize > row.len() {
@@ -196,8 +191,6 @@ fn front(row: &[u8], count: u32) -> Option<&[u8]>
 
 /// Reads the name before the first zero.
 fn name(row: &[u8]) -> Option<OwnedName>
-    // The bytes before the first zero are the name. The result is `None` if there is no zero, or they are not a
-    // valid name.
     ensures { option_map owned_characters result ≡ name_in row.now }
 {
     let size = text_size(row);

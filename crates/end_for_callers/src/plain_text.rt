@@ -68,7 +68,6 @@ impl PlainSettings {
 
 /// Returns true if each number fits a field.
 fn are_plain(config: &EndConfig) -> bool
-    // `are_plain` is true if and only if none of the ten numbers that may be wider is above 2^32 - 1.
     ensures { result ≡ are_plain config.now }
 {
     config.code <= NUMBER_MAX
@@ -85,7 +84,6 @@ fn are_plain(config: &EndConfig) -> bool
 
 /// Returns the number of a side.
 fn number_of(side: Side) -> u32
-    // The number is read back as the same side (`side_in`).
     ensures { side_in result ≡ Some side }
 {
     match side {
@@ -107,7 +105,6 @@ fn widen(octet: u8) -> u32
 /// Writes bytes at the start of a row.
 fn fill(row: &mut [u8], octets: &[u8])
     requires { length octets.now ≤ length row.old }
-    // The row starts with the bytes, and is unchanged after them.
     ensures { row.new ≡ octets.now ++ drop (length octets.now) row.old }
 {
     row[..octets.len()].copy_from_slice(octets);
@@ -115,7 +112,6 @@ fn fill(row: &mut [u8], octets: &[u8])
 
 /// Returns the bytes of four words, least significant byte first.
 fn octets_of(words: &[u32; 4]) -> [u8; 16]
-    // Reading the 16 bytes as words gives the same four words (`words_of`).
     ensures { words_of result ≡ words.now }
 {
     let mut octets = [0; 16];
@@ -125,7 +121,6 @@ fn octets_of(words: &[u32; 4]) -> [u8; 16]
 
 /// Returns a name followed by zeros.
 fn spell_name(name: &OwnedName) -> [u8; NAME_ROW]
-    // Reading the row up to its first zero gives the name (`name_in`).
     ensures { name_in result ≡ Some (owned_characters name.now) }
 {
     let mut row = [0; NAME_ROW];

@@ -561,7 +561,6 @@ impl Station {
 
     /// Returns the number of channels.
     fn channels(&self) -> usize
-        // The result is the number of channels of the station's end.
         ensures { result ≡ (inside self.now.end).upper.count }
     {
         self.reserve / (WINDOW_MAX + PART_PDUS)
@@ -569,8 +568,6 @@ impl Station {
 
     /// Returns true if there is too little room for a call that may deliver telegrams.
     fn is_blocked(&self) -> bool
-        // The result is true if and only if there is room for fewer than 27 telegrams, or for fewer datagrams than the
-        // reserve.
         ensures { result ≡ is_blocked self.now }
     {
         !has_room(self.inbox.queue(), CALL_TELEGRAMS, PAYLOAD_MAX)
@@ -579,7 +576,6 @@ impl Station {
 
     /// Returns true if T_max has passed since the peer last confirmed anything.
     fn is_expired(&self, now: Milliseconds) -> bool
-        // The result is true if and only if the end has a connection, and its margin to T_max is 0.
         ensures { result ≡ is_expired now (inside self.now.end).upper }
     {
         match self.end.margin(now) {
@@ -590,7 +586,6 @@ impl Station {
 
     /// Returns the time at which T_max ends the connection if the peer confirms nothing more.
     fn timeout(&self) -> Option<Milliseconds>
-        // Without a connection the result is `None`; with one it is T_max after the time last confirmed.
         ensures { result ≡ timeout_of (inside self.now.end).upper }
     {
         let confirmed = self.end.confirmed_time();
@@ -602,7 +597,6 @@ impl Station {
 
     /// Returns true if a call may have this time.
     fn is_time(&self, now: Milliseconds) -> bool
-        // The result is true if and only if `now` is not before the last accepted call and at most 2^62.
         ensures { result ≡ is_time now self.now }
     {
         self.time <= now && now <= TIME_MAX
@@ -654,8 +648,6 @@ impl Station {
 
     /// Returns the outcome of a call; `unsent` is the count before it.
     fn outcome(&self, unsent: u64) -> Outcome
-        // The outcome is Lost if a telegram was lost, otherwise Whole if the count of unsent datagrams is
-        // unchanged, and Unsent if it is not.
         ensures { result ≡ (if self.now.inbox.lost then ended.Lost else if (outbox_of self.now).unsent == unsent then ended.Whole else ended.Unsent) }
     {
         if self.lost() {
@@ -713,7 +705,6 @@ fn set_aside(end: &mut End<Outbox>, channels: usize)
 fn has_room<T: Copy>(queue: &Queue<T>, count: usize, size: usize) -> bool
     requires size { size < 2 ^ 31 }
     requires count { count < 2 ^ 32 }
-    // The result is true if and only if `count` places are free, and `count` times `size` bytes of room.
     ensures { result ≡ has_room count size queue.now }
 {
     queue.places() >= count && queue.room() >= count * size
@@ -722,7 +713,6 @@ fn has_room<T: Copy>(queue: &Queue<T>, count: usize, size: usize) -> bool
 /// Returns how many datagrams must have room before a call: on each channel the PDUs of one part, and a
 /// retransmission of the greatest window that a peer may have.
 fn reserve_of(config: &EndConfig) -> u64
-    // The reserve is 37 datagrams for each channel; beyond 64 bits it is the greatest number.
     ensures { result ≡ min (reserve_of (settings_of config.now)) (2 ^ 64 - 1) }
 {
     config

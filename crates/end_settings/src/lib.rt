@@ -143,8 +143,6 @@ impl EndConfig {
 
     /// Returns whether the settings of the safety machine are in their ranges.
     fn is_connection(&self) -> bool
-        // The result is true if and only if the connection settings are in their ranges, with two different
-        // identifiers and a safety code of 8 or 16 bytes.
         ensures { result ≡ is_legal (settings_of self.now).connection }
     {
         if self.n_sendmax > WINDOW_MAX as u64 {
@@ -155,8 +153,6 @@ impl EndConfig {
 
     /// Returns whether the settings of the other layers are in their ranges.
     fn in_limits(&self) -> bool
-        // The result is true if and only if `channels` (1 to 4), `n_maxpacket` (1 to 3), `q` (1 to 8) and
-        // `t_seq` (10 to 1,000) are in range.
         ensures { result ≡ in_limits (settings_of self.now) }
     {
         1 <= self.channels
@@ -171,8 +167,6 @@ impl EndConfig {
 
     /// Returns whether the versions are as the side needs them.
     fn has_versions(&self, side: Side) -> bool
-        // The result is true if and only if an interlocking has exactly one version, or a field element one
-        // to four different ones.
         ensures { result ≡ has_versions (side_of side) (settings_of self.now) }
     {
         match side {

@@ -19,7 +19,6 @@ const THIRD_ADDED: u32 = 0x6ed9_eba1;
 /// Returns F of three words (RFC 1320, section 3.4).
 #[inline(always)]
 fn conditional(x: u32, y: u32, z: u32) -> u32
-    // Each bit of the result of `conditional` is that of `y` if the bit of `x` is 1, else that of `z`.
     ensures { result ≡ conditional x y z }
 {
     (x & y) | (!x & z)
@@ -28,7 +27,6 @@ fn conditional(x: u32, y: u32, z: u32) -> u32
 /// Returns G of three words (RFC 1320, section 3.4).
 #[inline(always)]
 fn majority(x: u32, y: u32, z: u32) -> u32
-    // Each bit of the result of `majority` is the one that at least two of the three words have.
     ensures { result ≡ majority x y z }
 {
     // A sum, because only its second part waits for `x`, which the previous step makes.
@@ -38,7 +36,6 @@ fn majority(x: u32, y: u32, z: u32) -> u32
 /// Returns H of three words (RFC 1320, section 3.4).
 #[inline(always)]
 fn parity(x: u32, y: u32, z: u32) -> u32
-    // Each bit of the result of `parity` is the exclusive or of the three bits.
     ensures { result ≡ parity x y z }
 {
     x ^ y ^ z
@@ -47,7 +44,6 @@ fn parity(x: u32, y: u32, z: u32) -> u32
 /// Returns the new word of a step, whose constant is already in `word`.
 #[inline(always)]
 fn step_word(a: u32, mixed: u32, word: u32, shift: u32) -> u32
-    // The result of `step_word` is the sum of `a`, `mixed` and `word` modulo 2^32, rotated left by `shift`.
     ensures { result ≡ rotate_sum a mixed word 0 shift }
 {
     // `mixed` waits for the previous step, so it is added last.
@@ -57,7 +53,6 @@ fn step_word(a: u32, mixed: u32, word: u32, shift: u32) -> u32
 /// Takes four steps of the first round.
 #[inline(always)]
 fn first_four(v: [u32; 4], row: [u32; 4]) -> [u32; 4]
-    // The result of `first_four` is the four words after four steps of `first_round` with the words `row`.
     ensures { result ≡ four_steps first_round v row }
 {
     let [a, b, c, d] = v;
@@ -71,8 +66,6 @@ fn first_four(v: [u32; 4], row: [u32; 4]) -> [u32; 4]
 /// Takes four steps of the second round.
 #[inline(always)]
 fn second_four(v: [u32; 4], row: [u32; 4]) -> [u32; 4]
-    // If `row` has `words` with the second round's constant added, the result is the four words after four
-    // steps of `second_round` with `words`.
     ensures { (words : List ℕ) → HasAdded second_round words row → result ≡ four_steps second_round v words }
 {
     let [a, b, c, d] = v;
@@ -86,8 +79,6 @@ fn second_four(v: [u32; 4], row: [u32; 4]) -> [u32; 4]
 /// Takes four steps of the third round.
 #[inline(always)]
 fn third_four(v: [u32; 4], row: [u32; 4]) -> [u32; 4]
-    // If `row` has `words` with the third round's constant added, the result is the four words after four
-    // steps of `third_round` with `words`.
     ensures { (words : List ℕ) → HasAdded third_round words row → result ≡ four_steps third_round v words }
 {
     let [a, b, c, d] = v;
@@ -103,7 +94,6 @@ fn third_four(v: [u32; 4], row: [u32; 4]) -> [u32; 4]
 /// message).
 #[inline(never)]
 fn add_constant(w: &[u32; 16], added: u32) -> [u32; 16]
-    // Each of the sixteen words is that of the block plus `added`, modulo 2^32.
     ensures { (k : ℕ) → k < 16 → slice_index result k ≡ (slice_index w.now k + added) % 2 ^ 32 }
 {
     let mut sums = [0u32; 16];
@@ -116,7 +106,6 @@ fn add_constant(w: &[u32; 16], added: u32) -> [u32; 16]
 /// Takes the sixteen steps of the first round.
 #[inline(always)]
 fn after_first(w: &[u32; 16], v: [u32; 4]) -> [u32; 4]
-    // The result of `after_first` is the four words after all of `first_round` over the block's words.
     ensures { result ≡ after_round first_round w.now v }
 {
     let v = first_four(v, [w[0], w[1], w[2], w[3]]);
@@ -128,7 +117,6 @@ fn after_first(w: &[u32; 16], v: [u32; 4]) -> [u32; 4]
 /// Takes the sixteen steps of the second round.
 #[inline(always)]
 fn after_second(w: &[u32; 16], v: [u32; 4]) -> [u32; 4]
-    // The result of `after_second` is the four words after all of `second_round` over the block's words.
     ensures { result ≡ after_round second_round w.now v }
 {
     let w = add_constant(w, SECOND_ADDED);
@@ -141,7 +129,6 @@ fn after_second(w: &[u32; 16], v: [u32; 4]) -> [u32; 4]
 /// Takes the sixteen steps of the third round.
 #[inline(always)]
 fn after_third(w: &[u32; 16], v: [u32; 4]) -> [u32; 4]
-    // The result of `after_third` is the four words after all of `third_round` over the block's words.
     ensures { result ≡ after_round third_round w.now v }
 {
     let w = add_constant(w, THIRD_ADDED);

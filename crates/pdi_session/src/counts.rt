@@ -12,7 +12,6 @@ use crate::telegram::decode;
 
 /// Returns true if a message is a command or status.
 pub(crate) fn is_item(message: &[u8]) -> bool
-    // `is_item` is true if and only if the message decodes to a telegram outside the establishment.
     ensures { result ≡ is_item (tele_seen message.now) }
 {
     match decode(message) {

@@ -11,7 +11,6 @@ use crate::MessageType;
 
 /// Returns true if a message type is one of the five of the establishment.
 pub(crate) fn is_reserved(kind: MessageType) -> bool
-    // `is_reserved` is true for 0x0021 to 0x0025, the five message types of the establishment, and for no other.
     ensures { result ≡ is_reserved kind }
 {
     kind == VERSION_CHECK
@@ -23,7 +22,6 @@ pub(crate) fn is_reserved(kind: MessageType) -> bool
 
 /// Returns the form of a version check's payload.
 fn check_form(payload: &[u8]) -> Form
-    // A payload of one byte is a check of that version; any other payload does not fit.
     ensures { result ≡ check_form payload.now }
 {
     match payload {
@@ -34,7 +32,6 @@ fn check_form(payload: &[u8]) -> Form
 
 /// Returns the form of a reply with this result and version.
 fn result_form(answer: u8, version: u8) -> Form
-    // The result 2 means equal versions and 1 different ones; any other result does not fit.
     ensures { result ≡ result_form answer version }
 {
     if answer == EQUAL {
@@ -48,8 +45,6 @@ fn result_form(answer: u8, version: u8) -> Form
 
 /// Returns the form of a reply's payload.
 fn answer_form(payload: &[u8]) -> Form
-    // A payload fits if exactly the given number of checksum bytes follows, at most 16; the result then decides
-    // (`result_form`).
     ensures { result ≡ answer_form payload.now }
 {
     let [answer, version, size, checksum @ ..] = payload else {
@@ -65,7 +60,6 @@ fn answer_form(payload: &[u8]) -> Form
 
 /// Returns the form of a telegram that must not have a payload.
 fn bare_form(notice: Notice, payload: &[u8]) -> Form
-    // An empty payload is the `notice`; any other payload does not fit.
     ensures { result ≡ bare_form notice payload.now }
 {
     if payload.is_empty() {
@@ -77,8 +71,6 @@ fn bare_form(notice: Notice, payload: &[u8]) -> Form
 
 /// Returns the form of a telegram.
 pub(crate) fn form_of(kind: MessageType, payload: &[u8]) -> Form
-    // A message type of the establishment is read by its own layout; any other is a command or status, with any
-    // payload.
     ensures { result ≡ form_of kind payload.now }
 {
     match kind {

@@ -32,7 +32,6 @@ pub(crate) fn add_telegram<A: Allocator>(
 )
     requires fits { length payload.now ≤ PAYLOAD_MAX }
     requires room { length waiting.old < WAITING_MAX }
-    // The last waiting message is the encoded telegram from this end to the peer; those before it stay.
     ensures { waiting.new ≡ waiting.old ++ tele_text (telegram (addressing_of parties.now) kind payload.now) ∷ [] }
 {
     if MESSAGE_MIN + payload.len() <= SHORT_MESSAGE {
@@ -55,8 +54,6 @@ fn add_by<A: Allocator>(
     requires fits { length payload.now ≤ PAYLOAD_MAX }
     requires room { MESSAGE_MIN + length payload.now ≤ length buffer.old }
     requires place { length waiting.old < WAITING_MAX }
-    // The message appended is the telegram from this end; neither its size nor the old content of `buffer`
-    // matters.
     ensures { waiting.new ≡ waiting.old ++ tele_text (telegram (addressing_of parties.now) kind payload.now) ∷ [] }
 {
     let telegram = Telegram {
@@ -79,7 +76,6 @@ pub(crate) fn add_notice<A: Allocator>(
 )
     requires fits { length checksum.now ≤ CHECKSUM_MAX }
     requires room { length waiting.old < WAITING_MAX }
-    // The message appended has the message type and the payload of the `notice` (`kind_of`, `payload_of`).
     ensures { waiting.new ≡ waiting.old
         ++ tele_text (telegram (addressing_of parties.now) (kind_of notice) (payload_of checksum.now notice)) ∷ [] }
 {
@@ -110,7 +106,6 @@ fn add_equal<A: Allocator>(
 )
     requires fits { length checksum.now ≤ CHECKSUM_MAX }
     requires room { length waiting.old < WAITING_MAX }
-    // The message appended is a reply with result 2, this version, and the checksum after its length.
     ensures { waiting.new ≡ waiting.old
         ++ tele_text (telegram (addressing_of parties.now) (kind_of (Notice.VersionEqual version))
         (payload_of checksum.now (Notice.VersionEqual version))) ∷ [] }

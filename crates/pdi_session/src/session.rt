@@ -405,8 +405,6 @@ impl Session {
 
     /// Decides on a telegram.
     fn judge(&self, telegram: &Telegram<'_>) -> Verdict
-        // A telegram with another protocol type, sender or receiver gets `NotOfThisPair`; any other gets the
-        // table's verdict.
         ensures { result ≡ judge_telegram self.now (tele_of telegram.now) }
     {
         if !is_addressed(&self.parties, telegram) {
@@ -419,7 +417,6 @@ impl Session {
     #[inline(always)]
     fn judge_known(&self, telegram: &Telegram<'_>) -> Verdict
         requires { IsNamed self.now.addressing (tele_of telegram.now) }
-        // With the names known, only the protocol type remains to compare; the verdict is that of `judge_telegram`.
         ensures { result ≡ judge_telegram self.now (tele_of telegram.now) }
     {
         if telegram.protocol != self.parties.protocol {
@@ -431,7 +428,6 @@ impl Session {
     /// Looks up the verdict of this end's table.
     #[inline(always)]
     fn judge_form(&self, telegram: &Telegram<'_>) -> Verdict
-        // The verdict is the row of the `table` for this phase and the form of the telegram.
         ensures { result ≡ table self.now.role self.now.phase (form_of telegram.now.kind telegram.now.payload.now) }
     {
         let form = form_of(telegram.kind, telegram.payload);
@@ -443,7 +439,6 @@ impl Session {
 
     /// Records what a verdict agrees on, if it agrees on anything.
     fn agree(&mut self, payload: &[u8], verdict: Verdict)
-        // Only what is agreed changes, to what the verdict on a telegram with this payload gives (`agreed_by`).
         ensures { self.new ≡ with_agreed (agreed_by self.old.role payload.now verdict self.old.agreed) self.old }
     {
         match (&self.side, verdict) {
@@ -486,8 +481,6 @@ impl Session {
     /// Appends a telegram of the establishment to the waiting messages.
     fn send<A: Allocator>(&self, notice: Notice, waiting: &mut Waiting<A>)
         requires room { length waiting.old < WAITING_MAX }
-        // The message appended is the notice from this end to the peer, with this session's checksum
-        // (`notice_tele`).
         ensures { waiting.new ≡ waiting.old ++ tele_text (notice_tele self.now notice) ∷ [] }
     {
         match &self.side {
@@ -498,7 +491,6 @@ impl Session {
 
     /// Returns true if the application may put telegrams.
     fn may_put(&self) -> bool
-        // The result is true in Established, and at a field element also in Initialising.
         ensures { result ≡ may_put self.now.role self.now.phase }
     {
         match (&self.side, self.phase) {
@@ -509,7 +501,6 @@ impl Session {
 
     /// Returns true if this is a field element in Initialising.
     fn is_initialising(&self) -> bool
-        // The result is true for a field element in Initialising, and only then.
         ensures { result ≡ is_initialising self.now.role self.now.phase }
     {
         match (&self.side, self.phase) {
@@ -522,7 +513,6 @@ impl Session {
 /// Returns a copy of a checksum.
 fn copy_of(checksum: &[u8]) -> ArrayVec<u8, CHECKSUM_MAX>
     requires { length checksum.now ≤ CHECKSUM_MAX }
-    // The copy has the bytes of the checksum.
     ensures { result.items ≡ checksum.now }
 {
     let mut copy = ArrayVec::new();
@@ -532,7 +522,6 @@ fn copy_of(checksum: &[u8]) -> ArrayVec<u8, CHECKSUM_MAX>
 
 /// Returns the checksum in the payload of a reply: what follows result, version and length.
 fn checksum_in(payload: &[u8]) -> ArrayVec<u8, CHECKSUM_MAX>
-    // The checksum is the bytes from the fourth on, at most 16.
     ensures { result.items ≡ take CHECKSUM_MAX (drop 3 payload.now) }
 {
     match payload {
@@ -543,7 +532,6 @@ fn checksum_in(payload: &[u8]) -> ArrayVec<u8, CHECKSUM_MAX>
 
 /// Returns the pair of names that telegrams from the peer have.
 fn names_of(parties: &Parties) -> KnownPair
-    // The pair has the peer's name as sender and this end's name as receiver.
     ensures { HasNames result (owned_characters parties.now.peer) (owned_characters parties.now.own) }
 {
     KnownPair::new(parties.peer.name(), parties.own.name())
@@ -551,8 +539,6 @@ fn names_of(parties: &Parties) -> KnownPair
 
 /// Returns true if a telegram is from the peer to this end.
 fn is_addressed(parties: &Parties, telegram: &Telegram<'_>) -> bool
-    // The result is true if and only if the protocol type is the session's, the sender the peer and the receiver
-    // this end.
     ensures { result ≡ is_addressed (addressing_of parties.now) (tele_of telegram.now) }
 {
     telegram.protocol == parties.protocol
@@ -570,7 +556,6 @@ pub fn are_versions(versions: &[u8]) -> bool
 
 /// Returns true if no two versions are equal.
 fn are_different(versions: &[u8]) -> bool
-    // `are_different` is true if and only if no version occurs twice.
     ensures { result ≡ are_different versions.now }
 {
     match versions {

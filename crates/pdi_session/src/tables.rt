@@ -8,7 +8,6 @@ use super::{Form, Notice, Phase, SessionDetail, Verdict};
 
 /// Returns the decision of an interlocking when the connection comes up.
 pub(crate) fn interlocking_up(own: u8, phase: Phase) -> Verdict
-    // An idle interlocking goes to Checking and sends its version; in another phase nothing changes.
     ensures { result ≡ interlocking_up own phase }
 {
     match phase {
@@ -19,7 +18,6 @@ pub(crate) fn interlocking_up(own: u8, phase: Phase) -> Verdict
 
 /// Returns the decision of a field element when the connection comes up.
 pub(crate) fn field_up(phase: Phase) -> Verdict
-    // An idle field element goes to AwaitCheck and sends nothing; in another phase nothing changes.
     ensures { result ≡ field_up phase }
 {
     match phase {
@@ -30,8 +28,6 @@ pub(crate) fn field_up(phase: Phase) -> Verdict
 
 /// Returns the decision of an interlocking on a telegram.
 pub(crate) fn interlocking_verdict(own: u8, phase: Phase, form: Form) -> Verdict
-    // The verdict is the row of `interlocking_table` for this version, phase and form; without a row it is
-    // `OutOfOrder`.
     ensures { result ≡ interlocking_table own phase form }
 {
     match (phase, form) {
@@ -58,8 +54,6 @@ pub(crate) fn interlocking_verdict(own: u8, phase: Phase, form: Form) -> Verdict
 
 /// Returns the decision of a field element on a telegram.
 pub(crate) fn field_verdict(versions: &[u8], phase: Phase, form: Form) -> Verdict
-    // The verdict is the row of `field_table` for these versions, this phase and form; without a row it is
-    // `OutOfOrder`.
     ensures { result ≡ field_table versions.now phase form }
 {
     match (phase, form) {
@@ -83,7 +77,6 @@ pub(crate) fn field_verdict(versions: &[u8], phase: Phase, form: Form) -> Verdic
 
 /// Returns the version that a field element names in reply to one that it does not have.
 fn first_version(versions: &[u8]) -> u8
-    // `first_version` returns the first version of the list, and 0 for an empty one.
     ensures { result ≡ first_version versions.now }
 {
     match versions {

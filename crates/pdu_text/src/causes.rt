@@ -40,7 +40,6 @@ pub enum Cause {
 
 /// Writes why a datagram was dropped.
 pub(crate) fn write_cause<W: Write>(writer: &mut W, cause: Cause) -> io::Result<()>
-    // If it succeeds, `write_cause` has appended the words for the cause.
     ensures { OnOk result (Appends (W.contents writer.old) (W.contents writer.new) (causes.cause_text cause)) }
 {
     match cause {
@@ -65,7 +64,6 @@ fn write_stranger<W: Write>(
     peer_id: Identifier,
     id: Identifier,
 ) -> io::Result<()>
-    // If it succeeds, `write_stranger` has appended the text with all four identifiers in decimal.
     ensures { OnOk result (Appends (W.contents writer.old) (W.contents writer.new)
         (causes.stranger_text sender receiver peer_id id)) }
 {
@@ -78,7 +76,6 @@ fn write_stranger<W: Write>(
 /// Writes that a datagram has another safety code, with its length and that expected.
 #[tactic(auto, unfolding(crate::specs::Causes::other_code_text))]
 fn write_other_code<W: Write>(writer: &mut W, found: u64, own: u64) -> io::Result<()>
-    // If it succeeds, `write_other_code` has appended the text with both lengths in decimal.
     ensures { OnOk result (Appends (W.contents writer.old) (W.contents writer.new)
         (causes.other_code_text found own)) }
 {
@@ -90,7 +87,6 @@ fn write_other_code<W: Write>(writer: &mut W, found: u64, own: u64) -> io::Resul
 
 /// Returns the words for an event of the redundancy layer.
 fn event_words(event: RedEvent) -> &'static str
-    // The result is the text of the event, such as "its number is too far ahead" for `Far`.
     ensures { result.now ≡ causes.event_text event }
 {
     match event {
@@ -106,7 +102,6 @@ fn event_words(event: RedEvent) -> &'static str
 
 /// Returns the words for a cause of the safety machine.
 fn part_words(why: DropCause) -> &'static str
-    // The result is the text of the cause; for a fault of the safety PDU it is that of the fault.
     ensures { result.now ≡ causes.part_text why }
 {
     match why {
@@ -122,7 +117,6 @@ fn part_words(why: DropCause) -> &'static str
 
 /// Returns the words for a fault of a safety PDU, with what may have caused it.
 fn fault_words(fault: SafeFault) -> &'static str
-    // The result is the text of the fault, such as "its body does not fit its type" for `Body`.
     ensures { result.now ≡ causes.fault_text fault }
 {
     match fault {

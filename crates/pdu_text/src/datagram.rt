@@ -67,7 +67,6 @@ fn show_upper<W: Write>(upper: &[u8], rule: &CodeRule, writer: &mut W) -> io::Re
 
 /// Writes the line of a redundancy PDU.
 fn write_red<W: Write>(writer: &mut W, size: usize, seq: u32) -> io::Result<()>
-    // If it succeeds, `write_red` has appended the line with the length and the sequence number in decimal.
     ensures { OnOk result (Appends (W.contents writer.old) (W.contents writer.new) (red_line size seq)) }
 {
     writeln!(writer, "red length {size} seq {seq}")
@@ -76,8 +75,6 @@ fn write_red<W: Write>(writer: &mut W, size: usize, seq: u32) -> io::Result<()>
 /// Writes the line of a safety PDU.
 fn write_safe<W: Write>(writer: &mut W, pdu: &SafePdu<'_>) -> io::Result<()>
     requires { IsBody pdu.now.kind pdu.now.body.now }
-    // If it succeeds, `write_safe` has appended the line of the PDU: its header fields, the content of its
-    // body, and a line end.
     ensures { OnOk result (Appends (W.contents writer.old) (W.contents writer.new) (safe_line (pdu_of pdu.now))) }
 {
     write_fields(writer, pdu)?;
@@ -87,8 +84,6 @@ fn write_safe<W: Write>(writer: &mut W, pdu: &SafePdu<'_>) -> io::Result<()>
 
 /// Writes the PDU type and the header fields.
 fn write_fields<W: Write>(writer: &mut W, pdu: &SafePdu<'_>) -> io::Result<()>
-    // If it succeeds, `write_fields` has appended the name of the PDU type and the six other fields in
-    // decimal.
     ensures { OnOk result (Appends (W.contents writer.old) (W.contents writer.new) (fields_text (pdu_of pdu.now))) }
 {
     let SafePdu {
@@ -111,8 +106,6 @@ fn write_fields<W: Write>(writer: &mut W, pdu: &SafePdu<'_>) -> io::Result<()>
 /// Writes the content of a body on the line of its PDU.
 fn write_body<W: Write>(writer: &mut W, kind: Kind, body: &[u8]) -> io::Result<()>
     requires { IsBody kind body.now }
-    // If it succeeds, `write_body` has appended version and N_sendmax of a ConnReq or ConnResp, detail and
-    // reason of a DiscReq, and otherwise nothing.
     ensures { OnOk result (Appends (W.contents writer.old) (W.contents writer.new) (body_text kind body.now)) }
 {
     match kind {
@@ -127,8 +120,6 @@ fn write_body<W: Write>(writer: &mut W, kind: Kind, body: &[u8]) -> io::Result<(
 
 /// Writes the version and N_sendmax.
 fn write_opening<W: Write>(writer: &mut W, opening: &Opening<'_>) -> io::Result<()>
-    // If it succeeds, `write_opening` has appended " version ", the version, " nsendmax " and N_sendmax in
-    // decimal.
     ensures { OnOk result (Appends (W.contents writer.old) (W.contents writer.new)
         (join_pieces (codes " version " ∷ opening.now.version.now
         ∷ codes " nsendmax " ∷ decimal opening.now.n_sendmax ∷ []))) }

@@ -15,8 +15,6 @@ pub(crate) fn write_leaving<W: Write>(
     front: &str,
     leaving: Leaving,
 ) -> io::Result<()>
-    // If it succeeds, `write_leaving` has appended `front`, the reason and the detail in decimal, and their
-    // words.
     ensures { OnOk result (Appends (W.contents writer.old) (W.contents writer.new)
         (leavings.leaving_text front.now leaving)) }
 {
@@ -27,8 +25,6 @@ pub(crate) fn write_leaving<W: Write>(
 
 /// Returns the words for a reason and a detail.
 fn leaving_words(reason: u16, detail: u16) -> &'static str
-    // The result is the words for the `reason`; for reasons 4 and 7 they depend on the `detail`, and an
-    // unknown reason has none.
     ensures { result.now ≡ leavings.leaving_words reason detail }
 {
     match reason {
@@ -46,8 +42,6 @@ fn leaving_words(reason: u16, detail: u16) -> &'static str
 
 /// Returns the words for a detail of reason 4.
 fn session_words(detail: u16) -> &'static str
-    // The result is the words for details 1 to 3 of a refusal by the session, and general words for any
-    // other detail.
     ensures { result.now ≡ leavings.session_words detail }
 {
     match detail {
@@ -60,8 +54,6 @@ fn session_words(detail: u16) -> &'static str
 
 /// Returns the words for a detail of reason 7.
 fn protocol_words(detail: u16) -> &'static str
-    // The result is the words for details 1 to 4 of a protocol error, and general words for any other
-    // detail.
     ensures { result.now ≡ leavings.protocol_words detail }
 {
     match detail {

@@ -72,7 +72,6 @@ pub fn write_ending<W: Write>(
 /// Writes the state and the phase.
 #[tactic(auto, unfolding(crate::specs::LastLines::state_and_phase_text))]
 fn write_standing<W: Write>(writer: &mut W, ending: &FinalState) -> io::Result<()>
-    // If it succeeds, `write_standing` has appended "ends", the name of the state and that of the phase.
     ensures { OnOk result (Appends (W.contents writer.old) (W.contents writer.new)
         (endings.state_and_phase_text ending.now)) }
 {
@@ -83,8 +82,6 @@ fn write_standing<W: Write>(writer: &mut W, ending: &FinalState) -> io::Result<(
 
 /// Writes who disconnected and why.
 fn write_departure<W: Write>(writer: &mut W, departure: Option<Departure>) -> io::Result<()>
-    // If it succeeds, `write_departure` has appended who left with which reason and detail, and nothing if
-    // nobody did.
     ensures { OnOk result (Appends (W.contents writer.old) (W.contents writer.new)
         (endings.departure_text departure)) }
 {
@@ -104,8 +101,6 @@ fn write_heard<W: Write>(
     taken: u64,
     last: Option<Cause>,
 ) -> io::Result<()>
-    // If it succeeds, `write_heard` has appended a question about the settings if nothing `came`, the last
-    // cause if nothing was `taken`, and otherwise nothing.
     ensures { OnOk result (Appends (W.contents writer.old) (W.contents writer.new)
         (endings.strangers_text came taken last)) }
 {
@@ -124,8 +119,6 @@ fn write_heard<W: Write>(
 /// Writes how many datagrams came and why the last one was dropped.
 #[tactic(auto, unfolding(crate::specs::LastLines::untaken_text))]
 fn write_untaken<W: Write>(writer: &mut W, came: u64, last: Option<Cause>) -> io::Result<()>
-    // If it succeeds, `write_untaken` has appended the number of datagrams and why the last one was
-    // dropped, if that is known.
     ensures { OnOk result (Appends (W.contents writer.old) (W.contents writer.new)
         (endings.untaken_text came last)) }
 {
@@ -137,8 +130,6 @@ fn write_untaken<W: Write>(writer: &mut W, came: u64, last: Option<Cause>) -> io
 /// Writes how many datagrams came.
 #[tactic(auto, unfolding(crate::specs::LastLines::datagram_count_text))]
 fn write_came<W: Write>(writer: &mut W, came: u64) -> io::Result<()>
-    // If it succeeds, `write_came` has appended the number of datagrams in decimal, and that none was the
-    // peer's.
     ensures { OnOk result (Appends (W.contents writer.old) (W.contents writer.new) (endings.datagram_count_text came)) }
 {
     write!(
@@ -149,7 +140,6 @@ fn write_came<W: Write>(writer: &mut W, came: u64) -> io::Result<()>
 
 /// Writes why the last dropped datagram was dropped.
 fn write_last<W: Write>(writer: &mut W, last: Option<Cause>) -> io::Result<()>
-    // If it succeeds, `write_last` has appended the words for the last cause, and nothing if there is none.
     ensures { OnOk result (Appends (W.contents writer.old) (W.contents writer.new) (endings.last_text last)) }
 {
     match last {

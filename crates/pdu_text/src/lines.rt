@@ -71,7 +71,6 @@ pub fn write_happening<W: Write>(
 
 /// Writes the text of an event.
 fn write_what<W: Write>(writer: &mut W, happening: EndEvent) -> io::Result<()>
-    // If it succeeds, `write_what` has appended the text of the event.
     ensures { OnOk result (Appends (W.contents writer.old) (W.contents writer.new)
         (lines.end_event_text happening)) }
 {
@@ -99,7 +98,6 @@ fn write_what<W: Write>(writer: &mut W, happening: EndEvent) -> io::Result<()>
 /// Writes that the connection has entered a state.
 #[tactic(auto, unfolding(crate::specs::LogLines::state_text))]
 fn write_state<W: Write>(writer: &mut W, name: &str) -> io::Result<()>
-    // If it succeeds, `write_state` has appended "connection" and the name of the state.
     ensures { OnOk result (Appends (W.contents writer.old) (W.contents writer.new) (lines.state_text name.now)) }
 {
     write!(writer, "connection {name}")
@@ -108,7 +106,6 @@ fn write_state<W: Write>(writer: &mut W, name: &str) -> io::Result<()>
 /// Writes that the session has entered a phase.
 #[tactic(auto, unfolding(crate::specs::LogLines::phase_text))]
 fn write_phase<W: Write>(writer: &mut W, name: &str) -> io::Result<()>
-    // If it succeeds, `write_phase` has appended "session" and the name of the phase.
     ensures { OnOk result (Appends (W.contents writer.old) (W.contents writer.new) (lines.phase_text name.now)) }
 {
     write!(writer, "session {name}")
@@ -117,8 +114,6 @@ fn write_phase<W: Write>(writer: &mut W, name: &str) -> io::Result<()>
 /// Writes that an end was opened again.
 #[tactic(auto, unfolding(crate::specs::LogLines::reopened_text))]
 fn write_anew<W: Write>(writer: &mut W, number: u32) -> io::Result<()>
-    // If it succeeds, `write_anew` has appended that the end is opened again, with its first sequence
-    // number in decimal.
     ensures { OnOk result (Appends (W.contents writer.old) (W.contents writer.new) (lines.reopened_text number)) }
 {
     write!(writer, "reopened, first sequence number {number}")
@@ -127,8 +122,6 @@ fn write_anew<W: Write>(writer: &mut W, number: u32) -> io::Result<()>
 /// Writes that a telegram was not accepted.
 #[tactic(auto, unfolding(crate::specs::LogLines::refusal_text))]
 fn write_refused<W: Write>(writer: &mut W, name: &str) -> io::Result<()>
-    // If it succeeds, `write_refused` has appended that a telegram was not put in, and the name of the
-    // fault.
     ensures { OnOk result (Appends (W.contents writer.old) (W.contents writer.new) (lines.refusal_text name.now)) }
 {
     write!(writer, "telegram not accepted: {name}")
@@ -137,8 +130,6 @@ fn write_refused<W: Write>(writer: &mut W, name: &str) -> io::Result<()>
 /// Writes that the end of the initialisation was not accepted.
 #[tactic(auto, unfolding(crate::specs::LogLines::not_ended_text))]
 fn write_not_ended<W: Write>(writer: &mut W, name: &str) -> io::Result<()>
-    // If it succeeds, `write_not_ended` has appended that the initialisation was not ended, and the name of
-    // the fault.
     ensures { OnOk result (Appends (W.contents writer.old) (W.contents writer.new)
         (lines.not_ended_text name.now)) }
 {
@@ -148,7 +139,6 @@ fn write_not_ended<W: Write>(writer: &mut W, name: &str) -> io::Result<()>
 /// Writes that nothing came on a channel for longer than T_max.
 #[tactic(auto, unfolding(crate::specs::LogLines::silent_text))]
 fn write_silent<W: Write>(writer: &mut W, channel: usize) -> io::Result<()>
-    // If it succeeds, `write_silent` has appended that the channel with this number is silent.
     ensures { OnOk result (Appends (W.contents writer.old) (W.contents writer.new) (lines.silent_text channel)) }
 {
     write!(
@@ -160,8 +150,6 @@ fn write_silent<W: Write>(writer: &mut W, channel: usize) -> io::Result<()>
 /// Writes that something came on a channel again.
 #[tactic(auto, unfolding(crate::specs::LogLines::recovered_text))]
 fn write_heard<W: Write>(writer: &mut W, channel: usize) -> io::Result<()>
-    // If it succeeds, `write_heard` has appended that something comes on the channel with this number
-    // again.
     ensures { OnOk result (Appends (W.contents writer.old) (W.contents writer.new) (lines.recovered_text channel)) }
 {
     write!(writer, "channel {channel} receives again")
@@ -170,7 +158,6 @@ fn write_heard<W: Write>(writer: &mut W, channel: usize) -> io::Result<()>
 /// Writes that a datagram was dropped, and why.
 #[tactic(auto, unfolding(crate::specs::LogLines::drop_text))]
 fn write_dropped<W: Write>(writer: &mut W, channel: usize, cause: Cause) -> io::Result<()>
-    // If it succeeds, `write_dropped` has appended which datagram was dropped and the words for the cause.
     ensures { OnOk result (Appends (W.contents writer.old) (W.contents writer.new)
         (lines.drop_text channel cause)) }
 {
@@ -182,8 +169,6 @@ fn write_dropped<W: Write>(writer: &mut W, channel: usize, cause: Cause) -> io::
 /// Writes which datagram was dropped.
 #[tactic(auto, unfolding(crate::specs::LogLines::drop_front))]
 fn write_drop_front<W: Write>(writer: &mut W, channel: usize) -> io::Result<()>
-    // If it succeeds, `write_drop_front` has appended that a deferred datagram was dropped for `channel` 0,
-    // else one of the channel with this number.
     ensures { OnOk result (Appends (W.contents writer.old) (W.contents writer.new) (lines.drop_front channel)) }
 {
     match channel {
@@ -195,8 +180,6 @@ fn write_drop_front<W: Write>(writer: &mut W, channel: usize) -> io::Result<()>
 /// Writes that a datagram of a channel was dropped.
 #[tactic(auto, unfolding(crate::specs::LogLines::channel_front))]
 fn write_channel_front<W: Write>(writer: &mut W, channel: usize) -> io::Result<()>
-    // If it succeeds, `write_channel_front` has appended that a datagram of the channel with this number
-    // was dropped.
     ensures { OnOk result (Appends (W.contents writer.old) (W.contents writer.new)
         (lines.channel_front channel)) }
 {
@@ -235,7 +218,6 @@ fn write_opened<W: Write>(
     local: &str,
     remote: &str,
 ) -> io::Result<()>
-    // If it succeeds, `write_opened` has appended the channel's number, its own address and the peer's.
     ensures { OnOk result (Appends (W.contents writer.old) (W.contents writer.new)
         (lines.channel_text channel local.now remote.now)) }
 {
@@ -270,7 +252,6 @@ pub fn write_missed<W: Write>(
 /// Writes how many lines were left out.
 #[tactic(auto, unfolding(crate::specs::LogLines::missing_lines_text))]
 fn write_count<W: Write>(writer: &mut W, count: u64) -> io::Result<()>
-    // If it succeeds, `write_count` has appended the number of lines left out in decimal, and why.
     ensures { OnOk result (Appends (W.contents writer.old) (W.contents writer.new) (lines.missing_lines_text count)) }
 {
     write!(

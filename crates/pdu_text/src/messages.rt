@@ -98,8 +98,6 @@ fn write_message_fault<W: Write>(
     fault: u8,
     name: &str,
 ) -> io::Result<()>
-    // If it succeeds, `write_message_fault` has appended the line with the message's number and the number
-    // and name of its fault.
     ensures { OnOk result (Appends (W.contents writer.old) (W.contents writer.new)
         (fault_line (message_label number) fault name.now)) }
 {
@@ -112,8 +110,6 @@ fn write_telegram<W: Write>(
     number: usize,
     telegram: &Telegram<'_>,
 ) -> io::Result<()>
-    // If it succeeds, `write_telegram` has appended the line: the head, both names, the payload in hex
-    // digits (a dash if empty), and a line end.
     ensures { OnOk result (Appends (W.contents writer.old) (W.contents writer.new)
         (telegram_line number (tele_of telegram.now))) }
 {
@@ -125,8 +121,6 @@ fn write_telegram<W: Write>(
 
 /// Writes the number, protocol type and message type of a telegram.
 fn write_head<W: Write>(writer: &mut W, number: usize, telegram: &Telegram<'_>) -> io::Result<()>
-    // If it succeeds, `write_head` has appended the message's number, and the protocol type and message
-    // type in hex digits.
     ensures { OnOk result (Appends (W.contents writer.old) (W.contents writer.new)
         (telegram_head number (tele_of telegram.now))) }
 {
@@ -137,7 +131,6 @@ fn write_head<W: Write>(writer: &mut W, number: usize, telegram: &Telegram<'_>) 
 
 /// Writes a label, and bytes in hex digits.
 fn write_hex_field<W: Write>(writer: &mut W, label: &str, octets: &[u8]) -> io::Result<()>
-    // If it succeeds, `write_hex_field` has appended the label, and the bytes in two hex digits each.
     ensures { OnOk result (Appends (W.contents writer.old) (W.contents writer.new) (hex_field label.now octets.now)) }
 {
     write_text(writer, label)?;
@@ -146,7 +139,6 @@ fn write_hex_field<W: Write>(writer: &mut W, label: &str, octets: &[u8]) -> io::
 
 /// Writes the number of a message.
 fn write_label<W: Write>(writer: &mut W, number: usize) -> io::Result<()>
-    // If it succeeds, `write_label` has appended "message" and the number in decimal.
     ensures { OnOk result (Appends (W.contents writer.old) (W.contents writer.new) (message_label number)) }
 {
     write!(writer, "message {number}")
@@ -154,8 +146,6 @@ fn write_label<W: Write>(writer: &mut W, number: usize) -> io::Result<()>
 
 /// Writes the names of a telegram.
 fn write_names<W: Write>(writer: &mut W, sender: &str, receiver: &str) -> io::Result<()>
-    // If it succeeds, `write_names` has appended the names of the sender and the receiver, and the label of
-    // the payload.
     ensures { OnOk result (Appends (W.contents writer.old) (W.contents writer.new)
         (names_text sender.now receiver.now)) }
 {

@@ -99,8 +99,6 @@ pub fn step_cause(step: Step) -> Option<&'static str>
 
 /// Returns the word for a cause of the safety machine.
 fn drop_cause(cause: DropCause) -> &'static str
-    // The result of `drop_cause` is the word for the cause; for a fault of the safety PDU it is the fault's
-    // name.
     ensures { result.now ≡ names.drop_cause cause }
 {
     match cause {

@@ -13,8 +13,6 @@ use std::io::Write;
 /// Writes the time and the end at the start of a line.
 #[tactic(auto, unfolding(crate::specs::Pieces::front_text))]
 pub(crate) fn write_front<W: Write>(writer: &mut W, at: Milliseconds, side: Side) -> io::Result<()>
-    // If it succeeds, `write_front` has appended the time in seconds, a space, the name of the end and a
-    // space.
     ensures { OnOk result (Appends (W.contents writer.old) (W.contents writer.new) (front_text at side)) }
 {
     write_time(writer, at)?;
@@ -25,8 +23,6 @@ pub(crate) fn write_front<W: Write>(writer: &mut W, at: Milliseconds, side: Side
 /// Writes milliseconds as seconds with three decimals.
 #[tactic(auto, unfolding(crate::specs::Pieces::time_text))]
 pub(crate) fn write_time<W: Write>(writer: &mut W, ms: Milliseconds) -> io::Result<()>
-    // If it succeeds, `write_time` has appended the whole seconds in decimal, a point, and three digits of
-    // milliseconds.
     ensures { OnOk result (Appends (W.contents writer.old) (W.contents writer.new) (time_text ms)) }
 {
     let seconds = ms / 1_000;
@@ -37,7 +33,6 @@ pub(crate) fn write_time<W: Write>(writer: &mut W, ms: Milliseconds) -> io::Resu
 
 /// Returns the last three digits of a number.
 fn spell(number: u64) -> [u8; 3]
-    // The result is the last three decimal digits of `number`, with leading zeros.
     ensures { result ≡ three_digits number }
 {
     [

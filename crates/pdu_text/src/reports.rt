@@ -72,8 +72,6 @@ pub fn write_report<W: Write>(
 
 /// Writes the line of the state of an end.
 fn write_standing<W: Write>(writer: &mut W, side: &str, standing: &EndReport) -> io::Result<()>
-    // If it succeeds, `write_standing` has appended the line with state, phase, and the counts of telegrams
-    // put and taken in decimal.
     ensures { OnOk result (Appends (W.contents writer.old) (W.contents writer.new)
         (lines.state_line side.now standing.now)) }
 {
@@ -86,7 +84,6 @@ fn write_standing<W: Write>(writer: &mut W, side: &str, standing: &EndReport) ->
 
 /// Writes the line of an end that was never opened.
 fn write_none<W: Write>(writer: &mut W, side: &str) -> io::Result<()>
-    // If it succeeds, `write_none` has appended the line with the end and "none".
     ensures { OnOk result (Appends (W.contents writer.old) (W.contents writer.new) (lines.none_line side.now)) }
 {
     writeln!(writer, "{side} none")

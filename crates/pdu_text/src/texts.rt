@@ -15,8 +15,6 @@ pub(crate) fn write_fault<W: Write>(
     number: u8,
     name: &str,
 ) -> io::Result<()>
-    // If it succeeds, `write_fault` has appended the line: the layer, "fault", the fault's number and its
-    // name.
     ensures { OnOk result (Appends (W.contents writer.old) (W.contents writer.new)
         (fault_line layer.now number name.now)) }
 {
@@ -49,7 +47,6 @@ pub fn write_hex<W: Write>(writer: &mut W, octets: &[u8]) -> io::Result<()>
 
 /// Writes a byte in two hex digits.
 fn write_octet<W: Write>(writer: &mut W, octet: u8) -> io::Result<()>
-    // If it succeeds, `write_octet` has appended the two lowercase hex digits of the byte.
     ensures { OnOk result (Appends (W.contents writer.old) (W.contents writer.new) (octet_text octet)) }
 {
     let mut digits = [0u8; 2];

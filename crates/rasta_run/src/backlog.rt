@@ -328,7 +328,6 @@ fn write_front<W: Write>(
 /// Writes how many lines were left out.
 #[tactic(auto, unfolding(crate::specs::Backlogs::left_out_text))]
 fn write_left_out<W: Write>(writer: &mut W, count: u64) -> io::Result<()>
-    // If `write_left_out` succeeds, it has appended the line with the number of lines.
     ensures { OnOk result (Appends (W.contents writer.old) (W.contents writer.new) (left_out_text count)) }
 {
     write!(writer, "log: {count} lines left out\n")
@@ -348,7 +347,6 @@ fn front_size(octets: &[u8]) -> usize
 
 /// Returns how many bytes come after the last line feed.
 fn feed_from_end(octets: &[u8]) -> Option<usize>
-    // `feed_from_end` returns the place of the first line feed from the end, and `None` if there is none.
     ensures { result ≡ feed_place (reverse octets.now) }
 {
     octets.iter().rev().position(|octet| *octet == LINE_FEED)
@@ -370,7 +368,6 @@ fn cut_size(most: usize, after: Option<usize>) -> usize
 /// Removes bytes at the front.
 fn remove_front(octets: &mut Vec<u8>, count: usize)
     requires { count ≤ length octets.old.items }
-    // `remove_front` removes the first `count` bytes.
     ensures { octets.new.items ≡ drop count octets.old.items }
 {
     let size = octets.len();

@@ -68,7 +68,6 @@ fn month_of(leap: bool, day: u64) -> (u64, u64)
 /// Returns the number of days of the year that is some years after 1970.
 fn days_of_year(years: u64) -> u64
     requires { years < years_most }
-    // `days_of_year` returns 366 for a leap year, and 365 for any other.
     ensures { result ≡ days_of_year years }
 {
     if is_leap(1970 + years) { 366 } else { 365 }
@@ -76,7 +75,6 @@ fn days_of_year(years: u64) -> u64
 
 /// Returns whether a year is a leap year.
 fn is_leap(year: u64) -> bool
-    // `is_leap` is true for each fourth year, but of the hundredth only for each four hundredth.
     ensures { result ≡ is_leap year }
 {
     year % 4 == 0 && (year % 100 != 0 || year % 400 == 0)

@@ -90,7 +90,6 @@ impl CallFailures {
 
     /// Returns how many calls had failed before these began to fail.
     fn failed_before(&self) -> u64
-        // `failed_before` returns the number from before they began, or that so far if they do not fail.
         ensures { result ≡ failing.failed_count_before self.now }
     {
         match self.is_failing {
@@ -101,7 +100,6 @@ impl CallFailures {
 
     /// Returns whether calls no longer fail.
     fn has_recovered(&self, done: Option<u64>, now: Milliseconds, t_max: Milliseconds) -> bool
-        // `has_recovered` is true for calls that fail, if one was tried and none has failed for longer than T_max.
         ensures { result ≡ failing.has_recovered self.now done now t_max }
     {
         self.is_failing && is_tried(done, self.done) && now.saturating_sub(self.at) > t_max
@@ -110,7 +108,6 @@ impl CallFailures {
 
 /// Returns whether a call was made since this many had succeeded.
 fn is_tried(done: Option<u64>, before: Option<u64>) -> bool
-    // `is_tried` is false if and only if both numbers are there and equal.
     ensures { result ≡ failing.is_tried done before }
 {
     match (done, before) {
@@ -121,7 +118,6 @@ fn is_tried(done: Option<u64>, before: Option<u64>) -> bool
 
 /// Returns the system's number for a failure, if it gave one.
 fn number_of(fault: Option<CallFault>) -> Option<i32>
-    // `number_of` returns the number of the fault, and `None` without a fault or a number.
     ensures { result ≡ failing.number_of fault }
 {
     match fault {
@@ -148,7 +144,6 @@ impl Actor<'_, UdpChannels> {
 
 /// Returns the failures of a channel, numbered from 1: none, if there is no such channel.
 fn failures_of(channels: &UdpChannels, channel: usize) -> Failures
-    // `failures_of` returns the failures of this channel, and none for a channel that is not there.
     ensures { result ≡ failing.failures_at channels.now.channels channel }
 {
     match channels.failures(channel) {

@@ -53,7 +53,6 @@ pub fn run_check<O: Write, E: Write>(
 
 /// Writes the settings in force, and flushes them.
 fn write_all<O: Write>(out: &mut O, ends: &Ends) -> io::Result<()>
-    // If `write_all` succeeds, it has appended the settings in force.
     ensures { OnOk result (Appends (O.contents out.old) (O.contents out.new) (settings_text (ends_seen ends.now))) }
 {
     write_settings(out, ends)?;

@@ -111,7 +111,6 @@ impl CountsPrinter {
     /// Records whether the channel at a place, from 0, received something, if the end has it.
     fn look_at(&mut self, counted: &RunCounts, now: Milliseconds, place: usize)
         requires { place < CHANNELS_MAX }
-        // `look_at` records whether this channel has received something, and looks at no other.
         ensures { self.new ≡ record self.old {
           heard = silences_at counted.now.sums.channels self.old.count now (2 ^ 64 - 1) place self.old.heard;
         } }
@@ -146,7 +145,6 @@ impl CountsPrinter {
 
     /// Returns the form of the lines, if there are any.
     fn line_form(&self) -> Option<LineForm>
-        // `line_form` returns the form of the lines, and `None` without a form or for that of Prometheus.
         ensures { result ≡ counts.line_form self.now.telling }
     {
         match self.telling {
@@ -189,7 +187,6 @@ impl CountsPrinter {
         counted: &RunCounts,
         now: Milliseconds,
     ) -> io::Result<()>
-        // If `write` succeeds, it has appended a line for each channel in order, and one for the connection.
         ensures { OnOk result (Appends (W.contents writer.old) (W.contents writer.new)
             (counts.all_text self.now form now counted.now)) }
     {
@@ -211,7 +208,6 @@ impl CountsPrinter {
         place: usize,
     ) -> io::Result<()>
         requires { place < CHANNELS_MAX }
-        // If `write_place` succeeds, it has appended the line of this channel, or nothing if the end has fewer.
         ensures { OnOk result (Appends (W.contents writer.old) (W.contents writer.new)
             (counts.place_text self.now form now counted.now place)) }
     {
@@ -238,7 +234,6 @@ impl CountsPrinter {
 
 /// Returns when counts are printed next, in milliseconds.
 fn next_after(telling: Option<CountsRequest>, now: Milliseconds) -> Option<Milliseconds>
-    // `next_after` returns the time after the seconds of the form, if there is a form that has some.
     ensures { result ≡ counts.next_after telling now }
 {
     match telling {
@@ -249,7 +244,6 @@ fn next_after(telling: Option<CountsRequest>, now: Milliseconds) -> Option<Milli
 
 /// Returns the time that is some seconds later, in milliseconds.
 fn next_every(every: Option<u32>, now: Milliseconds) -> Option<Milliseconds>
-    // `next_every` returns the time after the seconds, and `None` without any.
     ensures { result ≡ counts.next_every every now }
 {
     match every {
@@ -265,7 +259,6 @@ fn next_by(
     next: Option<Milliseconds>,
     now: Milliseconds,
 ) -> Option<Milliseconds>
-    // `next_by` returns a new time if counts are due, and else the time so far.
     ensures { result ≡ counts.next_by is_due telling next now }
 {
     match is_due {
@@ -276,7 +269,6 @@ fn next_by(
 
 /// Returns the form of lines of counts, if a form has lines.
 fn form_of(form: CountsForm) -> Option<LineForm>
-    // `form_of` returns the form itself, and `None` for that of Prometheus.
     ensures { result ≡ counts.form_of form }
 {
     match form {
@@ -288,7 +280,6 @@ fn form_of(form: CountsForm) -> Option<LineForm>
 
 /// Returns whether a form has one block for all ends.
 fn is_block(form: CountsForm) -> bool
-    // `is_block` is true for the form of Prometheus, and false for any other.
     ensures { result ≡ counts.is_block form }
 {
     match form {
@@ -299,7 +290,6 @@ fn is_block(form: CountsForm) -> bool
 
 /// Returns whether counts are due.
 fn is_due(next: Option<Milliseconds>, now: Milliseconds) -> bool
-    // `is_due` is true if and only if there is a next time and it is reached.
     ensures { result ≡ counts.is_due next now }
 {
     match next {
@@ -397,7 +387,6 @@ fn write_pdus<W: Write>(
     at: Milliseconds,
     counted: &RunCounts,
 ) -> io::Result<()>
-    // If `write_pdus` succeeds, it has appended the time, the PDUs made, accepted and dropped, and the confirmed units.
     ensures { OnOk result (Appends (W.contents writer.old) (W.contents writer.new)
         (counts.pdus_text form at counted.now)) }
 {
@@ -429,7 +418,6 @@ pub fn margin_of(oldest: Option<Milliseconds>, t_max: Milliseconds) -> Option<Mi
 
 /// Writes the start of a line.
 fn write_front<W: Write>(writer: &mut W, form: LineForm, side: Side) -> io::Result<()>
-    // If `write_front` succeeds, it has appended the start of a line of this form for this end.
     ensures { OnOk result (Appends (W.contents writer.old) (W.contents writer.new) (counts.front_of form side)) }
 {
     match form {
@@ -441,7 +429,6 @@ fn write_front<W: Write>(writer: &mut W, form: LineForm, side: Side) -> io::Resu
 /// Writes the start of a line in words.
 #[tactic(auto, unfolding(crate::specs::Counts::worded_front))]
 fn write_worded_front<W: Write>(writer: &mut W, side: Side) -> io::Result<()>
-    // If `write_worded_front` succeeds, it has appended the name of the end and the word counts.
     ensures { OnOk result (Appends (W.contents writer.old) (W.contents writer.new) (counts.worded_front side)) }
 {
     let end = side_name(side);
@@ -451,7 +438,6 @@ fn write_worded_front<W: Write>(writer: &mut W, side: Side) -> io::Result<()>
 /// Writes the start of a line of JSON.
 #[tactic(auto, unfolding(crate::specs::Counts::json_front))]
 fn write_json_front<W: Write>(writer: &mut W, side: Side) -> io::Result<()>
-    // If `write_json_front` succeeds, it has appended an open brace and the field of the end.
     ensures { OnOk result (Appends (W.contents writer.old) (W.contents writer.new) (counts.json_front side)) }
 {
     let end = side_name(side);
@@ -460,7 +446,6 @@ fn write_json_front<W: Write>(writer: &mut W, side: Side) -> io::Result<()>
 
 /// Writes numbers, each with its name.
 fn write_fields<W: Write>(writer: &mut W, form: LineForm, fields: &[(&str, u64)]) -> io::Result<()>
-    // If `write_fields` succeeds, it has appended each name and its number in this form, in order.
     ensures { OnOk result (Appends (W.contents writer.old) (W.contents writer.new)
         (flat_map (λ f. counts.field_text form f.0.now f.1) fields.now)) }
 {
@@ -472,7 +457,6 @@ fn write_fields<W: Write>(writer: &mut W, form: LineForm, fields: &[(&str, u64)]
 
 /// Writes a number with its name.
 fn write_field<W: Write>(writer: &mut W, form: LineForm, name: &str, number: u64) -> io::Result<()>
-    // If `write_field` succeeds, it has appended the name and the number in this form.
     ensures { OnOk result (Appends (W.contents writer.old) (W.contents writer.new)
         (counts.field_text form name.now number)) }
 {
@@ -489,7 +473,6 @@ fn write_some<W: Write>(
     name: &str,
     number: Option<u64>,
 ) -> io::Result<()>
-    // If `write_some` succeeds, it has appended the name with the number, or with the word for none, in this form.
     ensures { OnOk result (Appends (W.contents writer.old) (W.contents writer.new)
         (counts.some_text form name.now number)) }
 {
@@ -501,7 +484,6 @@ fn write_some<W: Write>(
 
 /// Writes that there is no number of this name.
 fn write_none<W: Write>(writer: &mut W, form: LineForm, name: &str) -> io::Result<()>
-    // If `write_none` succeeds, it has appended the name with the word for none, in this form.
     ensures { OnOk result (Appends (W.contents writer.old) (W.contents writer.new)
         (counts.none_text form name.now)) }
 {
@@ -514,7 +496,6 @@ fn write_none<W: Write>(writer: &mut W, form: LineForm, name: &str) -> io::Resul
 /// Writes in words that there is no number.
 #[tactic(auto, unfolding(crate::specs::Counts::worded_none))]
 fn write_worded_none<W: Write>(writer: &mut W, name: &str) -> io::Result<()>
-    // If `write_worded_none` succeeds, it has appended a blank, the name, a blank and the word none.
     ensures { OnOk result (Appends (W.contents writer.old) (W.contents writer.new) (counts.worded_none name.now)) }
 {
     write!(writer, " {name} none")
@@ -523,7 +504,6 @@ fn write_worded_none<W: Write>(writer: &mut W, name: &str) -> io::Result<()>
 /// Writes in JSON that there is no number.
 #[tactic(auto, unfolding(crate::specs::Counts::json_none))]
 fn write_json_none<W: Write>(writer: &mut W, name: &str) -> io::Result<()>
-    // If `write_json_none` succeeds, it has appended a comma, the quoted name, a colon and null.
     ensures { OnOk result (Appends (W.contents writer.old) (W.contents writer.new) (counts.json_none name.now)) }
 {
     write!(writer, ",\"{name}\":null")
@@ -532,7 +512,6 @@ fn write_json_none<W: Write>(writer: &mut W, name: &str) -> io::Result<()>
 /// Writes a number in words.
 #[tactic(auto, unfolding(crate::specs::Counts::worded_field))]
 fn write_worded<W: Write>(writer: &mut W, name: &str, number: u64) -> io::Result<()>
-    // If `write_worded` succeeds, it has appended a blank, the name, a blank and the number.
     ensures { OnOk result (Appends (W.contents writer.old) (W.contents writer.new)
         (counts.worded_field name.now number)) }
 {
@@ -542,7 +521,6 @@ fn write_worded<W: Write>(writer: &mut W, name: &str, number: u64) -> io::Result
 /// Writes a number in JSON.
 #[tactic(auto, unfolding(crate::specs::Counts::json_field))]
 fn write_json<W: Write>(writer: &mut W, name: &str, number: u64) -> io::Result<()>
-    // If `write_json` succeeds, it has appended a comma, the quoted name, a colon and the number.
     ensures { OnOk result (Appends (W.contents writer.old) (W.contents writer.new)
         (counts.json_field name.now number)) }
 {
@@ -551,7 +529,6 @@ fn write_json<W: Write>(writer: &mut W, name: &str, number: u64) -> io::Result<(
 
 /// Returns the end of a line.
 fn end_of(form: LineForm) -> &'static str
-    // `end_of` returns a line feed, after a closing brace in JSON.
     ensures { result.now ≡ counts.end_of form }
 {
     match form {

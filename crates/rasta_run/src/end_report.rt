@@ -107,8 +107,6 @@ impl<C: Channels, A: Allocator + Copy> Actor<'_, C, A> {
     ///
     /// - The error of the writer; what it wrote before stays written.
     fn log_ending<E: Write>(&self, now: Milliseconds, err: &mut E) -> io::Result<()>
-        // If `log_ending` succeeds, it has appended the line of the end with its state and phase, how it disconnected,
-        // and what came.
         ensures { OnOk result (LogsLine self.now.log now (log_line now self.now.log.side (final_state_text (ending_of self.now.log.side self.now.end
             (run_counts_of self.now.earlier.sums (statistics_of self.now.end) (channels_of self.now.end).recorder.value self.now.failures self.now.put self.now.taken)
             (channels_of self.now.end).recorder.value.last_cause))) (E.contents err.old) (E.contents err.new)) }

@@ -44,7 +44,6 @@ pub fn run_follow<R: Read + Drop, O: Write, E: Write>(
 /// Returns the choices of `follow` in the form that `capture_text` expects; `None` if the initial value is not 32
 /// hex digits.
 fn options_for(following: &FollowRequest<'_>) -> Option<FollowOptions>
-    // `options_for` returns the choices with the octets of the initial value; `None` if it is not 32 hex digits.
     ensures { result ≡ options_under following.now (initial_value_of (option_copied following.now.iv)) }
 {
     let initial_value = initial_value(following.iv)?;
@@ -67,7 +66,6 @@ fn options_for(following: &FollowRequest<'_>) -> Option<FollowOptions>
 
 /// Returns the form of the output.
 fn form(json: bool, events: bool) -> OutputForm
-    // `form` returns `Events` if `events` is true, else `Json` if `json` is, and else `Lines`.
     ensures { result ≡ form_of json events }
 {
     if events {
@@ -81,8 +79,6 @@ fn form(json: bool, events: bool) -> OutputForm
 
 /// Prints the fault that stopped a run, and returns how the program ends.
 pub(crate) fn end<E: Write>(err: &mut E, ended: FollowStatus) -> Status
-    // `end` returns `Done` for a capture without fault and for an output that nobody reads any more, `Failed` for a
-    // failed output, and else `Refused`.
     ensures { result ≡ end_of ended }
 {
     match ended {

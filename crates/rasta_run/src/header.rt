@@ -54,7 +54,6 @@ pub fn header_of(datagram: &[u8]) -> Option<Header>
 
 /// Reads the four bytes where a ConnReq or ConnResp has its version of RaSTA; `None` if there are too few bytes.
 fn version_of(datagram: &[u8]) -> Option<u32>
-    // `version_of` returns the little-endian number of the bytes 36 to 39, and `None` for fewer than 40 bytes.
     ensures { result ≡ version_seen datagram.now }
 {
     if datagram.len() < VERSION_END {
@@ -65,8 +64,6 @@ fn version_of(datagram: &[u8]) -> Option<u32>
 
 /// Returns the length of the safety code in bytes, if type and length of the datagram tell it.
 fn code_of(datagram: &[u8]) -> Option<u64>
-    // `code_of` returns what is left after both headers and a body of the type's length, if that is 0, 8 or 16 bytes, and
-    // else `None`.
     ensures { result ≡ code_seen datagram.now }
 {
     let body = match kind_of(datagram) {
@@ -87,7 +84,6 @@ fn code_of(datagram: &[u8]) -> Option<u64>
 
 /// Returns the length of the body of a PDU of this type, in bytes, if all have the same.
 fn body_length(kind: Kind) -> Option<usize>
-    // `body_length` returns that of the type, and `None` for the types that carry messages.
     ensures { result ≡ body_length kind }
 {
     match kind {
@@ -112,7 +108,6 @@ pub fn kind_of(datagram: &[u8]) -> Option<Kind>
 /// Returns the body of the safety PDU in a datagram with a safety code of this length in bytes; empty if there are too
 /// few bytes.
 pub(crate) fn body_of(datagram: &[u8], code: usize) -> &[u8]
-    // `body_of` returns the bytes between the 36 bytes of both headers and the safety code.
     ensures { result.now ≡ body_seen datagram.now code }
 {
     let end = datagram.len().saturating_sub(code);

@@ -168,8 +168,6 @@ impl<I: Read + Drop> Feed<I> {
 
     /// Returns whether more is to be read.
     fn is_wanted(&self) -> bool
-        // `is_wanted` is true if and only if the input is not at its end, no whole line waits, and fewer than 65,536
-        // bytes do.
         ensures { result ≡ is_wanted self.now.ended self.now.lines.octets.items }
     {
         self.ended.is_none() && self.lines.has_room()
@@ -266,7 +264,6 @@ pub(crate) fn is_passing(kind: ErrorKind) -> bool {
 /// Writes that a line of standard input is not a telegram.
 #[tactic(auto, unfolding(crate::specs::InputLines::none_text))]
 fn write_none<W: Write>(writer: &mut W, number: u64) -> io::Result<()>
-    // If `write_none` succeeds, it has appended the message with the line's number.
     ensures { OnOk result (Appends (W.contents writer.old) (W.contents writer.new) (none_text number)) }
 {
     write!(writer, "line {number}: not a telegram TYPE:HEX\n")
@@ -275,7 +272,6 @@ fn write_none<W: Write>(writer: &mut W, number: u64) -> io::Result<()>
 /// Writes that the input ended within a line.
 #[tactic(auto, unfolding(crate::specs::InputLines::open_text))]
 fn write_open<W: Write>(writer: &mut W, number: u64) -> io::Result<()>
-    // If `write_open` succeeds, it has appended the message with the line's number.
     ensures { OnOk result (Appends (W.contents writer.old) (W.contents writer.new) (open_text number)) }
 {
     write!(
@@ -287,7 +283,6 @@ fn write_open<W: Write>(writer: &mut W, number: u64) -> io::Result<()>
 /// Writes that a line of standard input is too long.
 #[tactic(auto, unfolding(crate::specs::InputLines::long_text))]
 fn write_long<W: Write>(writer: &mut W, number: u64) -> io::Result<()>
-    // If `write_long` succeeds, it has appended the message with the line's number.
     ensures { OnOk result (Appends (W.contents writer.old) (W.contents writer.new) (long_text number)) }
 {
     write!(
@@ -298,7 +293,6 @@ fn write_long<W: Write>(writer: &mut W, number: u64) -> io::Result<()>
 
 /// Writes why a line of standard input is not put.
 fn write_flaw<W: Write>(writer: &mut W, number: u64, flaw: LineFlaw) -> io::Result<()>
-    // If `write_flaw` succeeds, it has appended the message of the flaw with the line's number.
     ensures { OnOk result (Appends (W.contents writer.old) (W.contents writer.new) (flaw_text flaw number)) }
 {
     match flaw {
@@ -342,7 +336,6 @@ pub enum LineFlaw {
 impl Lines {
     /// Returns an empty input.
     fn new(alloc: Global) -> Self
-        // A new `Lines` has no bytes, and no line was cut.
         ensures { (result.octets.items ≡ []) × (result.cut ≡ 0) }
     {
         Lines {
@@ -370,7 +363,6 @@ impl Lines {
 
     /// Returns whether no byte is left.
     fn is_empty(&self) -> bool
-        // `is_empty` is true if and only if there are no bytes.
         ensures { result ≡ nat_eq (length self.now.octets.items) 0 }
     {
         self.octets.is_empty()
@@ -378,7 +370,6 @@ impl Lines {
 
     /// Returns whether more is to be read.
     fn has_room(&self) -> bool
-        // `has_room` is true if and only if there is no line feed, and there are fewer than 65,536 bytes.
         ensures { result ≡ (is_none (feed_place self.now.octets.items) && nat_lt (length self.now.octets.items) ahead_most) }
     {
         feed_in(self.octets.as_slice()).is_none() && self.octets.len() < AHEAD_MAX
@@ -420,8 +411,6 @@ fn telegram_in(
     size: usize,
     used: usize,
 ) -> Result<Option<PutEntry>, AllocError>
-    // If `telegram_in` succeeds, the telegram is that of the text, and none if there is no line feed to remove or if
-    // the line is too long.
     ensures { IfOk result (λ put. option_map put_seen put ≡ telegram_of (is_whole size used) text.now) }
 {
     if size < used && size < LINE_MAX {
@@ -432,8 +421,6 @@ fn telegram_in(
 
 /// Returns why a line of this size is no telegram.
 fn flaw_of(size: usize, used: usize) -> LineFlaw
-    // `flaw_of` returns `Open` if there is no line feed to remove, else `Long` if the line is too long, and else
-    // `NoTelegram`.
     ensures { result ≡ flaw_of size used }
 {
     if used <= size {
@@ -463,7 +450,6 @@ fn line_in(octets: &[u8], ended: bool) -> Option<(usize, usize)>
 
 /// Returns how many lines bytes have; the last one needs no line feed.
 pub(crate) fn lines_left(octets: &[u8]) -> usize
-    // `lines_left` returns the number of line feeds, and one more if bytes come after the last one.
     ensures { result ≡ lines_left octets.now }
 {
     let feeds = octets.iter().filter(|octet| **octet == LINE_FEED).count();
@@ -475,7 +461,6 @@ pub(crate) fn lines_left(octets: &[u8]) -> usize
 
 /// Returns whether the last byte belongs to a line without a line feed.
 pub(crate) fn is_open(last: Option<u8>) -> bool
-    // `is_open` is true if and only if there is a last byte, and it is not a line feed.
     ensures { result ≡ is_open last }
 {
     match last {

@@ -75,8 +75,6 @@ impl Keeper {
 
     /// Returns how long it is until an end that is stale since `left` is opened again, in milliseconds.
     fn rest_of(&self, side: Side, left: Milliseconds, now: Milliseconds) -> Milliseconds
-        // `rest_of` returns the rest of T_max/4 since an interlocking was found stale, or of the pause since it was
-        // opened, if that is longer; and for a field element the rest of T_max/8 since it was opened.
         ensures { result ≡ keeping.rest_of side self.now left now }
     {
         let t_max = self.config.t_max;
@@ -130,7 +128,6 @@ impl Keeper {
 
 /// Returns since when an end is stale.
 fn left_by(before: Option<Milliseconds>, is_stale: bool, now: Milliseconds) -> Option<Milliseconds>
-    // `left_by` returns the time so far, or `now`, for a stale end, and `None` for any other.
     ensures { result ≡ keeping.stale_since before is_stale now }
 {
     match (is_stale, before) {
@@ -142,7 +139,6 @@ fn left_by(before: Option<Milliseconds>, is_stale: bool, now: Milliseconds) -> O
 
 /// Returns the number of openings in a row without a session, when an end is seen.
 fn row_of(is_up: bool, fruitless: u64) -> u64
-    // `row_of` returns 0 for an end that has a session, and else the number so far.
     ensures { result ≡ keeping.row_of is_up fruitless }
 {
     match is_up {
@@ -153,7 +149,6 @@ fn row_of(is_up: bool, fruitless: u64) -> u64
 
 /// Returns the number of openings in a row without a session, after one more opening.
 fn row_after(had_session: bool, fruitless: u64) -> u64
-    // `row_after` returns 0 if that opening had a session, and else one more.
     ensures { result ≡ keeping.row_after had_session fruitless }
 {
     match had_session {
@@ -164,7 +159,6 @@ fn row_after(had_session: bool, fruitless: u64) -> u64
 
 /// Returns the least time between two openings of an interlocking, in milliseconds.
 fn pause_of(fruitless: u64, t_max: Milliseconds) -> Milliseconds
-    // `pause_of` returns T_max/4, T_max/2 after one opening without a session, and T_max after more in a row.
     ensures { result ≡ keeping.pause_of fruitless t_max }
 {
     match fruitless {

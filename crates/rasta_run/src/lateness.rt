@@ -86,8 +86,6 @@ fn boundary_after(
     now: Milliseconds,
     before: Option<Boundary>,
 ) -> Option<Boundary>
-    // `boundary_after` returns `None` if nothing waits; else the boundary so far, if a byte before it waits; else a new
-    // one behind all bytes, which came after the last boundary was set.
     ensures { result ≡ late.boundary_after gone waiting now before }
 {
     let place = gone.wrapping_add(waiting as u64);
@@ -104,8 +102,6 @@ fn boundary_after(
 
 /// Returns a boundary, or the next one if no byte before it waits.
 fn moved(boundary: Boundary, gone: u64, place: u64, now: Milliseconds) -> Boundary
-    // `moved` returns the boundary if bytes up to it are not gone, and else that of this place, whose bytes came after
-    // the boundary was set.
     ensures { result ≡ late.moved boundary gone place now }
 {
     let behind = place.wrapping_sub(boundary.place);
@@ -127,8 +123,6 @@ fn state_of(
     patience: Milliseconds,
     now: Milliseconds,
 ) -> ReaderState
-    // `state_of` returns `Stale` if the oldest byte is as old as the `patience`, else `Behind` if it is 100 ms old and
-    // that was not logged, and else `Known`.
     ensures { result ≡ late.state_of is_told boundary patience now }
 {
     let Some(boundary) = boundary else {

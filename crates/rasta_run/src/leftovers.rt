@@ -92,7 +92,6 @@ impl Leftovers {
 /// Writes how many lines were not put.
 #[tactic(auto, unfolding(crate::specs::Leftovers::lines_text))]
 fn write_lines<W: Write>(writer: &mut W, lines: u64) -> io::Result<()>
-    // If `write_lines` succeeds, it has appended the number of lines.
     ensures { OnOk result (Appends (W.contents writer.old) (W.contents writer.new) (undone.lines_text lines)) }
 {
     write!(writer, ": not put: {lines} lines of input, ")
@@ -101,7 +100,6 @@ fn write_lines<W: Write>(writer: &mut W, lines: u64) -> io::Result<()>
 /// Writes how many entries were not put.
 #[tactic(auto, unfolding(crate::specs::Leftovers::entries_text))]
 fn write_entries<W: Write>(writer: &mut W, entries: u64) -> io::Result<()>
-    // If `write_entries` succeeds, it has appended the number of entries.
     ensures { OnOk result (Appends (W.contents writer.old) (W.contents writer.new) (undone.entries_text entries)) }
 {
     write!(writer, "{entries} entries of puts; ")
@@ -110,7 +108,6 @@ fn write_entries<W: Write>(writer: &mut W, entries: u64) -> io::Result<()>
 /// Writes how many telegrams are in doubt.
 #[tactic(auto, unfolding(crate::specs::Leftovers::doubt_text))]
 fn write_doubt<W: Write>(writer: &mut W, doubt: u64) -> io::Result<()>
-    // If `write_doubt` succeeds, it has appended the number of telegrams.
     ensures { OnOk result (Appends (W.contents writer.old) (W.contents writer.new) (undone.doubt_text doubt)) }
 {
     write!(writer, "in doubt: {doubt} telegrams sent and not confirmed; ")
@@ -119,7 +116,6 @@ fn write_doubt<W: Write>(writer: &mut W, doubt: u64) -> io::Result<()>
 /// Writes how many telegrams were not sent.
 #[tactic(auto, unfolding(crate::specs::Leftovers::unsent_text))]
 fn write_unsent<W: Write>(writer: &mut W, unsent: u64) -> io::Result<()>
-    // If `write_unsent` succeeds, it has appended the number of telegrams.
     ensures { OnOk result (Appends (W.contents writer.old) (W.contents writer.new) (undone.unsent_text unsent)) }
 {
     write!(writer, "not sent: {unsent}\n")
@@ -149,7 +145,6 @@ pub fn write_refused<W: Write>(
 
 /// Writes where a telegram comes from.
 fn write_origin<W: Write>(writer: &mut W, origin: Origin) -> io::Result<()>
-    // If `write_origin` succeeds, it has appended the line or the entry with its number.
     ensures { OnOk result (Appends (W.contents writer.old) (W.contents writer.new) (undone.origin_text origin)) }
 {
     match origin {
@@ -161,7 +156,6 @@ fn write_origin<W: Write>(writer: &mut W, origin: Origin) -> io::Result<()>
 /// Writes the number of a line.
 #[tactic(auto, unfolding(crate::specs::Leftovers::line_text))]
 fn write_line<W: Write>(writer: &mut W, number: u64) -> io::Result<()>
-    // If `write_line` succeeds, it has appended the number of the line.
     ensures { OnOk result (Appends (W.contents writer.old) (W.contents writer.new) (undone.line_text number)) }
 {
     write!(writer, "line {number}: ")
@@ -170,7 +164,6 @@ fn write_line<W: Write>(writer: &mut W, number: u64) -> io::Result<()>
 /// Writes the number of an entry.
 #[tactic(auto, unfolding(crate::specs::Leftovers::entry_text))]
 fn write_entry<W: Write>(writer: &mut W, number: u64) -> io::Result<()>
-    // If `write_entry` succeeds, it has appended the number of the entry.
     ensures { OnOk result (Appends (W.contents writer.old) (W.contents writer.new) (undone.entry_text number)) }
 {
     write!(writer, "puts entry {number}: ")

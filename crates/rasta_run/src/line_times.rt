@@ -62,7 +62,6 @@ pub fn write_with_time<W: Write>(
 
 /// Writes a line after a time of the run.
 fn write_after_time<W: Write>(writer: &mut W, now: Milliseconds, line: &[u8]) -> io::Result<()>
-    // If `write_after_time` succeeds, it has appended the time of the run, a blank and the line.
     ensures { OnOk result (Appends (W.contents writer.old) (W.contents writer.new) (run_text now ++ line.now)) }
 {
     write_run_time(writer, now)?;
@@ -72,7 +71,6 @@ fn write_after_time<W: Write>(writer: &mut W, now: Milliseconds, line: &[u8]) ->
 /// Writes a time of the run, and a blank.
 #[tactic(auto, unfolding(crate::specs::LineTimes::run_text))]
 fn write_run_time<W: Write>(writer: &mut W, now: Milliseconds) -> io::Result<()>
-    // If `write_run_time` succeeds, it has appended the whole seconds, a point, three digits of milliseconds, and a blank.
     ensures { OnOk result (Appends (W.contents writer.old) (W.contents writer.new) (run_text now)) }
 {
     let seconds = now / 1_000;
@@ -106,8 +104,6 @@ pub fn write_stamped<W: Write>(
 
 /// Writes a line with a time in UTC in place of its own, if the year has four digits.
 fn write_in_utc<W: Write>(writer: &mut W, at: Milliseconds, line: &[u8]) -> io::Result<()>
-    // If `write_in_utc` succeeds, it has appended the time in UTC and the line from its first blank on, or the line as
-    // it is after the year 9999.
     ensures { OnOk result ((written : List ℕ) × StampsUtc at line.now written
         × Appends (W.contents writer.old) (W.contents writer.new) written) }
 {
@@ -128,7 +124,6 @@ fn write_dated<W: Write>(
     line: &[u8],
 ) -> io::Result<()>
     requires { (date.years < years_most) × (date.months < 12) × (date.days < 31) }
-    // If `write_dated` succeeds, it has appended date and time of day, and the line from its first blank on.
     ensures { OnOk result (Appends (W.contents writer.old) (W.contents writer.new)
         (utc_text date ms ++ after_time line.now)) }
 {
@@ -140,7 +135,6 @@ fn write_dated<W: Write>(
 #[tactic(auto, unfolding(crate::specs::LineTimes::utc_text))]
 fn write_utc<W: Write>(writer: &mut W, date: Date, ms: Milliseconds) -> io::Result<()>
     requires { (date.years < years_most) × (date.months < 12) × (date.days < 31) }
-    // If `write_utc` succeeds, it has appended the date, a T, the time of day and a Z.
     ensures { OnOk result (Appends (W.contents writer.old) (W.contents writer.new) (utc_text date ms)) }
 {
     write_date(writer, date)?;
@@ -153,7 +147,6 @@ fn write_utc<W: Write>(writer: &mut W, date: Date, ms: Milliseconds) -> io::Resu
 #[tactic(auto, unfolding(crate::specs::LineTimes::date_text))]
 fn write_date<W: Write>(writer: &mut W, date: Date) -> io::Result<()>
     requires { (date.years < years_most) × (date.months < 12) × (date.days < 31) }
-    // If `write_date` succeeds, it has appended the year, the month and the day of the month, with hyphens between.
     ensures { OnOk result (Appends (W.contents writer.old) (W.contents writer.new) (date_text date)) }
 {
     writer.write_all(&four_digits(1970 + date.years))?;
@@ -166,7 +159,6 @@ fn write_date<W: Write>(writer: &mut W, date: Date) -> io::Result<()>
 /// Writes a time of day.
 #[tactic(auto, unfolding(crate::specs::LineTimes::clock_text))]
 fn write_clock<W: Write>(writer: &mut W, ms: Milliseconds) -> io::Result<()>
-    // If `write_clock` succeeds, it has appended the hour, the minute, the second and the milliseconds.
     ensures { OnOk result (Appends (W.contents writer.old) (W.contents writer.new) (clock_text ms)) }
 {
     write_pair(writer, ms / 3_600_000, ":")?;
@@ -178,7 +170,6 @@ fn write_clock<W: Write>(writer: &mut W, ms: Milliseconds) -> io::Result<()>
 /// Writes the last two digits of a number, and a text after them.
 #[tactic(auto, unfolding(crate::specs::LineTimes::pair_text))]
 fn write_pair<W: Write>(writer: &mut W, number: u64, text: &str) -> io::Result<()>
-    // If `write_pair` succeeds, it has appended two digits and the text.
     ensures { OnOk result (Appends (W.contents writer.old) (W.contents writer.new) (pair_text number text.now)) }
 {
     writer.write_all(&two_digits(number))?;
@@ -187,7 +178,6 @@ fn write_pair<W: Write>(writer: &mut W, number: u64, text: &str) -> io::Result<(
 
 /// Returns the last two digits of a number.
 fn two_digits(number: u64) -> [u8; 2]
-    // `two_digits` returns the last two decimal digits, with leading zeros.
     ensures { result ≡ two_digits number }
 {
     [(48 + number / 10 % 10) as u8, (48 + number / 1 % 10) as u8]
@@ -207,7 +197,6 @@ pub fn spell(number: u64) -> [u8; 3]
 
 /// Returns the last four digits of a number.
 fn four_digits(number: u64) -> [u8; 4]
-    // `four_digits` returns the last four decimal digits, with leading zeros.
     ensures { result ≡ four_digits number }
 {
     [
@@ -220,7 +209,6 @@ fn four_digits(number: u64) -> [u8; 4]
 
 /// Returns a line after the time at its start.
 fn after_time(line: &[u8]) -> &[u8]
-    // `after_time` returns the line from its first blank on, and all of it if it has none.
     ensures { result.now ≡ after_time line.now }
 {
     from_place(line, blank_in(line))
@@ -239,7 +227,6 @@ fn blank_in(line: &[u8]) -> Option<usize>
 /// Returns a line from a place on, or all of it.
 fn from_place(line: &[u8], place: Option<usize>) -> &[u8]
     requires { IfSome place (λ place. place < length line.now) }
-    // `from_place` returns the bytes from the place on, and all of them without a place.
     ensures { result.now ≡ from_place place line.now }
 {
     match place {

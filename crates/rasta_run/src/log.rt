@@ -169,7 +169,6 @@ impl Log {
         now: Milliseconds,
         err: &mut E,
     ) -> io::Result<()>
-        // If `write_channel` succeeds, it has appended the line of the channel, with the time that the log has.
         ensures { OnOk result (LogsLine self.now now (log_line now self.now.side (channel_text channel local.now remote.now))
             (E.contents err.old) (E.contents err.new)) }
     {
@@ -223,7 +222,6 @@ impl Log {
     /// Writes how many events were left out.
     #[inline(never)]
     fn write_missed<E: Write>(&self, missed: u64, now: Milliseconds, err: &mut E) -> io::Result<()>
-        // If `write_missed` succeeds, it has appended the line with the number, with the time that the log has.
         ensures { OnOk result (LogsLine self.now now (log_line now self.now.side (missing_lines_text missed))
             (E.contents err.old) (E.contents err.new)) }
     {
@@ -243,7 +241,6 @@ impl Log {
         now: Milliseconds,
         err: &mut E,
     )
-        // `log_explained` changes only which causes are known, how often they came, and whether openings are only counted.
         ensures { self.new ≡ record self.old {
           causes = self.new.causes;
           cause_count = self.new.cause_count;
@@ -271,8 +268,6 @@ impl Log {
         config: &EndConfig,
         err: &mut E,
     ) -> io::Result<()>
-        // If `show_data` succeeds, it has appended the lines of the messages and of the settings for such an event, and
-        // else nothing.
         ensures { OnOk result (Appends (E.contents err.old) (E.contents err.new)
             (telling.data_lines (telling.is_session_fault event && (not self.now.is_quiet && not (telling.is_off self.now.level)))
             last.now self.now.code self.now.side (settings_of config.now))) }
@@ -318,7 +313,6 @@ impl Log {
     /// Writes the line of an event.
     #[inline(never)]
     fn write<E: Write>(&self, happening: EndEvent, now: Milliseconds, err: &mut E) -> io::Result<()>
-        // If `write` succeeds, it has appended the line of the event, with the time that the log has.
         ensures { OnOk result (LogsEvent true self.now now happening (E.contents err.old) (E.contents err.new)) }
     {
         let mut line = LogLine::new();
@@ -328,7 +322,6 @@ impl Log {
 
     /// Writes a line that begins with the time of the run, with the time that the log has.
     fn pass<E: Write>(&self, line: &[u8], now: Milliseconds, err: &mut E) -> io::Result<()>
-        // If `pass` succeeds, it has appended the line with the time that the log has.
         ensures { OnOk result (LogsLine self.now now line.now (E.contents err.old) (E.contents err.new)) }
     {
         let at = self.zero.saturating_add(now);
@@ -416,7 +409,6 @@ impl Log {
         now: Milliseconds,
         err: &mut E,
     ) -> io::Result<()>
-        // If `write_notice` succeeds, it has appended the line of the notice, with the time that the log has.
         ensures { OnOk result (LogsLine self.now now (notice_line now self.now.side notice) (E.contents err.old) (E.contents err.new)) }
     {
         let mut line = LogLine::new();
@@ -522,8 +514,6 @@ impl Log {
         now: Milliseconds,
         err: &mut E,
     ) -> io::Result<()>
-        // If `log_change` succeeds, it has appended the line of the change, or nothing without a change or if the
-        // log is off.
         ensures { OnOk result (LogsChange said channel self.now now (E.contents err.old) (E.contents err.new)) }
     {
         if self.is_off() {
@@ -763,7 +753,6 @@ fn write_mismatch<W: Write>(
     side: Side,
     config: &EndConfig,
 ) -> io::Result<()>
-    // If `write_mismatch` succeeds, it has appended the lines of the messages, and those of the settings.
     ensures { OnOk result (Appends (W.contents writer.old) (W.contents writer.new)
         (telling.mismatch_lines body.now side (settings_of config.now))) }
 {

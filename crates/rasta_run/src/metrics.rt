@@ -80,7 +80,6 @@ impl ChannelMetric {
         beside: &ChannelCounts,
         failures: &Failures,
     ) -> u64
-        // `number` returns this count of the end itself, or of what is counted beside.
         ensures { result ≡ metrics.channel_number self receptions.now beside.now failures.now }
     {
         match self {
@@ -101,7 +100,6 @@ impl ChannelMetric {
 
     /// Returns the name of the metric, after the prefix of all.
     fn name(self) -> &'static str
-        // `name` returns the name of this count; that of dropped datagrams has six causes.
         ensures { result.now ≡ metrics.channel_name self }
     {
         match self {
@@ -122,7 +120,6 @@ impl ChannelMetric {
 
     /// Returns the label of the cause, if the metric has one.
     fn cause(self) -> &'static str
-        // `cause` returns why a datagram was dropped, and nothing for any other count.
         ensures { result.now ≡ metrics.channel_cause self }
     {
         match self {
@@ -143,7 +140,6 @@ impl ChannelMetric {
 
     /// Returns the help of the metric.
     fn help(self) -> &'static str
-        // `help` returns what this metric counts of a channel.
         ensures { result.now ≡ metrics.channel_help self }
     {
         match self {
@@ -206,7 +202,6 @@ pub enum EndMetric {
 impl EndMetric {
     /// Returns the count of an end, if there is one.
     fn number(self, sample: &Sample) -> Option<u64>
-        // `number` returns this count; an age and a margin only if a PDU was taken.
         ensures { result ≡ metrics.end_number self sample.now }
     {
         let counted = &sample.counted;
@@ -238,7 +233,6 @@ impl EndMetric {
 
     /// Returns the name of the metric, after the prefix of all.
     fn name(self) -> &'static str
-        // `name` returns the name of this count; that of dropped PDUs has seven causes.
         ensures { result.now ≡ metrics.end_name self }
     {
         match self {
@@ -267,7 +261,6 @@ impl EndMetric {
 
     /// Returns the label of the cause, if the metric has one.
     fn cause(self) -> &'static str
-        // `cause` returns why a PDU was dropped, and nothing for any other count.
         ensures { result.now ≡ metrics.end_cause self }
     {
         match self {
@@ -284,7 +277,6 @@ impl EndMetric {
 
     /// Returns the help of the metric.
     fn help(self) -> &'static str
-        // `help` returns what this metric counts of an end.
         ensures { result.now ≡ metrics.end_help self }
     {
         match self {
@@ -307,7 +299,6 @@ impl EndMetric {
 
     /// Returns the type of the metric.
     fn kind(self) -> &'static str
-        // `kind` returns "gauge" for times, and "counter" for what only grows.
         ensures { result.now ≡ metrics.end_kind self }
     {
         match self {
@@ -338,7 +329,6 @@ pub fn write_block<W: Write>(writer: &mut W, samples: &Samples) -> io::Result<()
 /// Writes what became of datagrams on channels.
 #[tactic(auto, unfolding(crate::specs::Metrics::traffic_text))]
 fn write_traffic<W: Write>(writer: &mut W, samples: &Samples) -> io::Result<()>
-    // If `write_traffic` succeeds, it has appended the metrics of datagrams sent and received.
     ensures { OnOk result (Appends (W.contents writer.old) (W.contents writer.new) (metrics.traffic_text samples.now)) }
 {
     write_channel_counter(writer, ChannelMetric::Sent, samples)?;
@@ -352,7 +342,6 @@ fn write_traffic<W: Write>(writer: &mut W, samples: &Samples) -> io::Result<()>
 /// Writes why datagrams were dropped.
 #[tactic(auto, unfolding(crate::specs::Metrics::drops_text))]
 fn write_drops<W: Write>(writer: &mut W, samples: &Samples) -> io::Result<()>
-    // If `write_drops` succeeds, it has appended the metric of datagrams dropped, with its six causes.
     ensures { OnOk result (Appends (W.contents writer.old) (W.contents writer.new) (metrics.drops_text samples.now)) }
 {
     write_channel_counter(writer, ChannelMetric::Old, samples)?;
@@ -366,7 +355,6 @@ fn write_drops<W: Write>(writer: &mut W, samples: &Samples) -> io::Result<()>
 /// Writes the PDUs that ends made.
 #[tactic(auto, unfolding(crate::specs::Metrics::made_pdus_text))]
 fn write_made<W: Write>(writer: &mut W, samples: &Samples) -> io::Result<()>
-    // If `write_made` succeeds, it has appended the metrics of PDUs made and units confirmed.
     ensures { OnOk result (Appends (W.contents writer.old) (W.contents writer.new) (metrics.made_pdus_text samples.now)) }
 {
     write_end_metric(writer, EndMetric::Units, samples)?;
@@ -380,7 +368,6 @@ fn write_made<W: Write>(writer: &mut W, samples: &Samples) -> io::Result<()>
 /// Writes the PDUs that ends received.
 #[tactic(auto, unfolding(crate::specs::Metrics::parts_text))]
 fn write_parts<W: Write>(writer: &mut W, samples: &Samples) -> io::Result<()>
-    // If `write_parts` succeeds, it has appended the metrics of PDUs accepted and dropped.
     ensures { OnOk result (Appends (W.contents writer.old) (W.contents writer.new) (metrics.parts_text samples.now)) }
 {
     write_end_metric(writer, EndMetric::Expired, samples)?;
@@ -392,7 +379,6 @@ fn write_parts<W: Write>(writer: &mut W, samples: &Samples) -> io::Result<()>
 /// Writes the PDUs that ends dropped for their code, their identifiers or their state.
 #[tactic(auto, unfolding(crate::specs::Metrics::rejections_text))]
 fn write_rejected<W: Write>(writer: &mut W, samples: &Samples) -> io::Result<()>
-    // If `write_rejected` succeeds, it has appended the metrics of these PDUs.
     ensures { OnOk result (Appends (W.contents writer.old) (W.contents writer.new) (metrics.rejections_text samples.now)) }
 {
     write_end_metric(writer, EndMetric::Damaged, samples)?;
@@ -403,7 +389,6 @@ fn write_rejected<W: Write>(writer: &mut W, samples: &Samples) -> io::Result<()>
 /// Writes the PDUs that ends dropped for their numbers.
 #[tactic(auto, unfolding(crate::specs::Metrics::misplacements_text))]
 fn write_misplaced<W: Write>(writer: &mut W, samples: &Samples) -> io::Result<()>
-    // If `write_misplaced` succeeds, it has appended the metrics of these PDUs.
     ensures { OnOk result (Appends (W.contents writer.old) (W.contents writer.new) (metrics.misplacements_text samples.now)) }
 {
     write_ends(writer, EndMetric::Far, samples)?;
@@ -415,7 +400,6 @@ fn write_misplaced<W: Write>(writer: &mut W, samples: &Samples) -> io::Result<()
 /// Writes telegrams and times.
 #[tactic(auto, unfolding(crate::specs::Metrics::telegrams_text))]
 fn write_telegrams<W: Write>(writer: &mut W, samples: &Samples) -> io::Result<()>
-    // If `write_telegrams` succeeds, it has appended the metrics of telegrams and times.
     ensures { OnOk result (Appends (W.contents writer.old) (W.contents writer.new) (metrics.telegrams_text samples.now)) }
 {
     write_end_metric(writer, EndMetric::Put, samples)?;
@@ -432,7 +416,6 @@ fn write_channel_counter<W: Write>(
     metric: ChannelMetric,
     samples: &Samples,
 ) -> io::Result<()>
-    // If `write_channel_counter` succeeds, it has appended help, type and numbers of the metric.
     ensures { OnOk result (Appends (W.contents writer.old) (W.contents writer.new) (metrics.channel_counter metric samples.now)) }
 {
     write_head(writer, metric.name(), "counter", metric.help())?;
@@ -446,7 +429,6 @@ fn write_end_metric<W: Write>(
     metric: EndMetric,
     samples: &Samples,
 ) -> io::Result<()>
-    // If `write_end_metric` succeeds, it has appended the type, the help and the numbers of the metric.
     ensures { OnOk result (Appends (W.contents writer.old) (W.contents writer.new) (metrics.end_metric metric samples.now)) }
 {
     write_head(writer, metric.name(), metric.kind(), metric.help())?;
@@ -456,7 +438,6 @@ fn write_end_metric<W: Write>(
 /// Writes the help and the type of a metric.
 #[tactic(auto, unfolding(crate::specs::Metrics::head_text))]
 fn write_head<W: Write>(writer: &mut W, name: &str, kind: &str, help: &str) -> io::Result<()>
-    // If `write_head` succeeds, it has appended a line with the help and one with the type.
     ensures { OnOk result (Appends (W.contents writer.old) (W.contents writer.new) (metrics.head_text name.now kind.now help.now)) }
 {
     write!(
@@ -472,7 +453,6 @@ fn write_channel_metric<W: Write>(
     metric: ChannelMetric,
     samples: &Samples,
 ) -> io::Result<()>
-    // If `write_channel_metric` succeeds, it has appended a line for each channel of each end.
     ensures { OnOk result (Appends (W.contents writer.old) (W.contents writer.new) (metrics.channel_text metric samples.now)) }
 {
     write_channels(writer, metric, &samples.first)?;
@@ -489,7 +469,6 @@ fn write_channels<W: Write>(
     metric: ChannelMetric,
     sample: &Sample,
 ) -> io::Result<()>
-    // If `write_channels` succeeds, it has appended a line for each channel of the end, in order.
     ensures { OnOk result (Appends (W.contents writer.old) (W.contents writer.new) (metrics.channels_text metric sample.now)) }
 {
     write_place(writer, metric, sample, 0)?;
@@ -507,7 +486,6 @@ fn write_place<W: Write>(
     place: usize,
 ) -> io::Result<()>
     requires { place < CHANNELS_MAX }
-    // If `write_place` succeeds, it has appended the metric's line of this channel, or nothing if the end has fewer.
     ensures { OnOk result (Appends (W.contents writer.old) (W.contents writer.new) (metrics.place_text metric sample.now place)) }
 {
     if place >= sample.count {
@@ -537,7 +515,6 @@ fn write_channel<W: Write>(
     channel: usize,
     number: u64,
 ) -> io::Result<()>
-    // If `write_channel` succeeds, it has appended the name, the labels and the number.
     ensures { OnOk result (Appends (W.contents writer.old) (W.contents writer.new) (metrics.channel_line name.now cause.now side channel number)) }
 {
     let end = side_name(side);
@@ -550,7 +527,6 @@ fn write_channel<W: Write>(
 /// Writes a metric of each end.
 #[tactic(auto, unfolding(crate::specs::Metrics::end_text))]
 fn write_ends<W: Write>(writer: &mut W, metric: EndMetric, samples: &Samples) -> io::Result<()>
-    // If `write_ends` succeeds, it has appended a line for each end.
     ensures { OnOk result (Appends (W.contents writer.old) (W.contents writer.new) (metrics.end_text metric samples.now)) }
 {
     write_sample(writer, metric, &samples.first)?;
@@ -562,7 +538,6 @@ fn write_ends<W: Write>(writer: &mut W, metric: EndMetric, samples: &Samples) ->
 
 /// Writes a metric of an end, if it has a number.
 fn write_sample<W: Write>(writer: &mut W, metric: EndMetric, sample: &Sample) -> io::Result<()>
-    // If `write_sample` succeeds, it has appended the line of this end, or nothing.
     ensures { OnOk result (Appends (W.contents writer.old) (W.contents writer.new) (metrics.sample_text metric sample.now)) }
 {
     match metric.number(sample) {
@@ -580,7 +555,6 @@ fn write_end<W: Write>(
     side: Side,
     number: u64,
 ) -> io::Result<()>
-    // If `write_end` succeeds, it has appended the name, the labels and the number.
     ensures { OnOk result (Appends (W.contents writer.old) (W.contents writer.new) (metrics.end_line name.now cause.now side number)) }
 {
     let end = side_name(side);

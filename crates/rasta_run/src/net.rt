@@ -120,7 +120,6 @@ fn run_over<R: Net + Clock + Input + Files, O: Write, E: Write>(
 
 /// Returns how long the end of a run waits for a reader that does not go on: T_max, and of two ends the longer.
 fn patience(ends: &Ends) -> Milliseconds
-    // `patience` returns T_max of the one end, or the longer T_max of two.
     ensures { result ≡ longest_patience ends.now }
 {
     match ends {
@@ -138,7 +137,6 @@ fn run_ends<R: Net + Clock + Input + Files, O: Write, E: Write>(
     run: &RunRequest<'_>,
     streams: &mut Streams<O, E>,
 ) -> Result<Outcome, StopCause>
-    // If no state is expected, each end was in it when `run_ends` succeeds.
     ensures { run.now.expected ≡ None → IfOk result (λ outcome. outcome.is_met ≡ true) }
 {
     warn(alloc, run.keep, ends, &mut streams.err);
@@ -151,7 +149,6 @@ fn run_ends<R: Net + Clock + Input + Files, O: Write, E: Write>(
 
 /// Prints the fault that ended a run, followed by the channel that could not be opened, if that is why.
 fn stop<E: Write>(stopped: StopCause, ends: &Ends, file: &str, err: &mut E) -> Status
-    // `stop` returns the status of the fault.
     ensures { result ≡ status_of (fault_of_stop stopped) }
 {
     let fault = stopped.fault();
@@ -176,7 +173,6 @@ fn run_sides<R: Net + Clock + Input + Files, O: Write, E: Write>(
     run: &RunRequest<'_>,
     streams: &mut Streams<O, E>,
 ) -> Result<Outcome, StopCause>
-    // If no state is expected, each end was in it when `run_sides` succeeds.
     ensures { run.now.expected ≡ None → IfOk result (λ outcome. outcome.is_met ≡ true) }
 {
     let mut watch = watch(rt, alloc)?;
@@ -208,7 +204,6 @@ fn run_sides<R: Net + Clock + Input + Files, O: Write, E: Write>(
 /// Returns the result of turns. If a line of standard output has no room, that is not a fault of the output, and the
 /// run is concluded.
 pub(crate) fn unless_unread(ran: Result<(), Fault>, has_left_out: bool) -> Result<(), Fault>
-    // `unless_unread` returns success in place of a fault of the output if `has_left_out` is true, and else `ran`.
     ensures { result ≡ unless_unread ran has_left_out }
 {
     match (ran, has_left_out) {

@@ -73,8 +73,6 @@ pub fn write_notice<W: Write>(
 /// Writes the time and the end at the start of a line.
 #[tactic(auto, unfolding(crate::specs::Notices::notice_front))]
 fn write_front<W: Write>(writer: &mut W, at: Milliseconds, side: Side) -> io::Result<()>
-    // If `write_front` succeeds, it has appended the whole seconds, a point, three digits of milliseconds, and the
-    // name of the end between blanks.
     ensures { OnOk result (Appends (W.contents writer.old) (W.contents writer.new) (noticing.notice_front at side)) }
 {
     let seconds = at / 1_000;
@@ -87,7 +85,6 @@ fn write_front<W: Write>(writer: &mut W, at: Milliseconds, side: Side) -> io::Re
 
 /// Writes the text of a notice.
 fn write_what<W: Write>(writer: &mut W, notice: Notice) -> io::Result<()>
-    // If `write_what` succeeds, it has appended the text of the notice.
     ensures { OnOk result (Appends (W.contents writer.old) (W.contents writer.new) (noticing.notice_text notice)) }
 {
     match notice {
@@ -121,8 +118,6 @@ fn write_calls_fail<W: Write>(
     channel: usize,
     error: Option<i32>,
 ) -> io::Result<()>
-    // If `write_calls_fail` succeeds, it has appended the kind of call, the number of the channel, and the system's
-    // number for the reason.
     ensures { OnOk result (Appends (W.contents writer.old) (W.contents writer.new)
         (noticing.calls_fail_text call channel error)) }
 {
@@ -133,7 +128,6 @@ fn write_calls_fail<W: Write>(
 /// Writes that the system refuses calls on a channel.
 #[tactic(auto, unfolding(crate::specs::Notices::refusal_text))]
 fn write_refusal<W: Write>(writer: &mut W, call: Call, channel: usize) -> io::Result<()>
-    // If `write_refusal` succeeds, it has appended the kind of call and the number of the channel.
     ensures { OnOk result (Appends (W.contents writer.old) (W.contents writer.new) (noticing.refusal_text call channel)) }
 {
     let calls = call_name(call);
@@ -145,7 +139,6 @@ fn write_refusal<W: Write>(writer: &mut W, call: Call, channel: usize) -> io::Re
 
 /// Writes the system's number for a reason, if it gave one.
 fn write_error<W: Write>(writer: &mut W, error: Option<i32>) -> io::Result<()>
-    // If `write_error` succeeds, it has appended the number in brackets, or nothing without one.
     ensures { OnOk result (Appends (W.contents writer.old) (W.contents writer.new) (noticing.error_text error)) }
 {
     match error {
@@ -157,7 +150,6 @@ fn write_error<W: Write>(writer: &mut W, error: Option<i32>) -> io::Result<()>
 /// Writes the system's number for a reason.
 #[tactic(auto, unfolding(crate::specs::Notices::number_text))]
 fn write_number<W: Write>(writer: &mut W, number: i32) -> io::Result<()>
-    // If `write_number` succeeds, it has appended the number in brackets.
     ensures { OnOk result (Appends (W.contents writer.old) (W.contents writer.new) (noticing.number_text number)) }
 {
     write!(writer, " (error {number})")
@@ -171,8 +163,6 @@ fn write_calls_succeed<W: Write>(
     channel: usize,
     failed: u64,
 ) -> io::Result<()>
-    // If `write_calls_succeed` succeeds, it has appended the kind of call, the number of the channel and that of the
-    // calls that failed.
     ensures { OnOk result (Appends (W.contents writer.old) (W.contents writer.new)
         (noticing.calls_succeed_text call channel failed)) }
 {
@@ -185,7 +175,6 @@ fn write_calls_succeed<W: Write>(
 
 /// Returns the name of calls of a kind.
 fn call_name(call: Call) -> &'static str
-    // `call_name` returns "sends" or "receptions".
     ensures { result.now ≡ noticing.call_name call }
 {
     match call {
@@ -197,7 +186,6 @@ fn call_name(call: Call) -> &'static str
 /// Writes that a requested retransmission did not come.
 #[tactic(auto, unfolding(crate::specs::Notices::unanswered_text))]
 fn write_unanswered<W: Write>(writer: &mut W, milliseconds: u64) -> io::Result<()>
-    // If `write_unanswered` succeeds, it has appended the time from the request to the end of the connection.
     ensures { OnOk result (Appends (W.contents writer.old) (W.contents writer.new)
         (noticing.unanswered_text milliseconds)) }
 {
@@ -210,7 +198,6 @@ fn write_unanswered<W: Write>(writer: &mut W, milliseconds: u64) -> io::Result<(
 /// Writes how many more datagrams were dropped.
 #[tactic(auto, unfolding(crate::specs::Notices::drops_text))]
 fn write_drops<W: Write>(writer: &mut W, count: u64) -> io::Result<()>
-    // If `write_drops` succeeds, it has appended the number of datagrams.
     ensures { OnOk result (Appends (W.contents writer.old) (W.contents writer.new) (noticing.drops_text count)) }
 {
     write!(
@@ -222,7 +209,6 @@ fn write_drops<W: Write>(writer: &mut W, count: u64) -> io::Result<()>
 /// Writes that the peer has another version of RaSTA.
 #[tactic(auto, unfolding(crate::specs::Notices::other_version_text))]
 fn write_other_version<W: Write>(writer: &mut W, version: u32) -> io::Result<()>
-    // If `write_other_version` succeeds, it has appended the version of the peer and that of this end.
     ensures { OnOk result (Appends (W.contents writer.old) (W.contents writer.new) (noticing.other_version_text version)) }
 {
     write_version_front(writer)?;
@@ -233,7 +219,6 @@ fn write_other_version<W: Write>(writer: &mut W, version: u32) -> io::Result<()>
 /// Writes what is before the version of the peer.
 #[tactic(auto, unfolding(crate::specs::Notices::version_front))]
 fn write_version_front<W: Write>(writer: &mut W) -> io::Result<()>
-    // If `write_version_front` succeeds, it has appended the text before the version.
     ensures { OnOk result (Appends (W.contents writer.old) (W.contents writer.new) noticing.version_front) }
 {
     write_text(writer, "the peer has another version of RaSTA: ")
@@ -242,7 +227,6 @@ fn write_version_front<W: Write>(writer: &mut W) -> io::Result<()>
 /// Writes what is after the version of the peer.
 #[tactic(auto, unfolding(crate::specs::Notices::version_back))]
 fn write_version_back<W: Write>(writer: &mut W) -> io::Result<()>
-    // If `write_version_back` succeeds, it has appended the text after the version.
     ensures { OnOk result (Appends (W.contents writer.old) (W.contents writer.new) noticing.version_back) }
 {
     write_text(writer, ", not 0303")
@@ -251,7 +235,6 @@ fn write_version_back<W: Write>(writer: &mut W) -> io::Result<()>
 /// Returns the four bytes of a version, from its little-endian number.
 #[tactic(auto, unfolding(crate::specs::Notices::version_bytes))]
 fn bytes_of(version: u32) -> [u8; 4]
-    // `bytes_of` returns the four bytes of the number, the least significant byte first.
     ensures { result ≡ noticing.version_bytes version }
 {
     [
@@ -265,7 +248,6 @@ fn bytes_of(version: u32) -> [u8; 4]
 /// Writes how many telegrams are in doubt, and how many were not sent.
 #[tactic(auto, unfolding(crate::specs::Notices::in_doubt_text))]
 fn write_in_doubt<W: Write>(writer: &mut W, sent: u64, unsent: u64) -> io::Result<()>
-    // If `write_in_doubt` succeeds, it has appended both numbers of telegrams, and what they mean.
     ensures { OnOk result (Appends (W.contents writer.old) (W.contents writer.new) (noticing.in_doubt_text sent unsent)) }
 {
     write!(
@@ -277,7 +259,6 @@ fn write_in_doubt<W: Write>(writer: &mut W, sent: u64, unsent: u64) -> io::Resul
 /// Writes for how long the end took no turn.
 #[tactic(auto, unfolding(crate::specs::Notices::no_turn_text))]
 fn write_no_turn<W: Write>(writer: &mut W, milliseconds: u64) -> io::Result<()>
-    // If `write_no_turn` succeeds, it has appended the time without a turn.
     ensures { OnOk result (Appends (W.contents writer.old) (W.contents writer.new)
         (noticing.no_turn_text milliseconds)) }
 {
@@ -290,7 +271,6 @@ fn write_no_turn<W: Write>(writer: &mut W, milliseconds: u64) -> io::Result<()>
 /// Writes how many openings in a row got no session.
 #[tactic(auto, unfolding(crate::specs::Notices::fruitless_text))]
 fn write_fruitless<W: Write>(writer: &mut W, count: u64) -> io::Result<()>
-    // If `write_fruitless` succeeds, it has appended the number of openings, and what the log does.
     ensures { OnOk result (Appends (W.contents writer.old) (W.contents writer.new) (noticing.fruitless_text count)) }
 {
     write!(
@@ -302,7 +282,6 @@ fn write_fruitless<W: Write>(writer: &mut W, count: u64) -> io::Result<()>
 /// Writes that the session is established after openings without one.
 #[tactic(auto, unfolding(crate::specs::Notices::session_text))]
 fn write_session<W: Write>(writer: &mut W, count: u64) -> io::Result<()>
-    // If `write_session` succeeds, it has appended the number of openings before the session.
     ensures { OnOk result (Appends (W.contents writer.old) (W.contents writer.new) (noticing.session_text count)) }
 {
     write!(
@@ -314,7 +293,6 @@ fn write_session<W: Write>(writer: &mut W, count: u64) -> io::Result<()>
 /// Writes how many lines wait for the reader of standard output.
 #[tactic(auto, unfolding(crate::specs::Notices::behind_text))]
 fn write_behind<W: Write>(writer: &mut W, count: u64) -> io::Result<()>
-    // If `write_behind` succeeds, it has appended the number of lines.
     ensures { OnOk result (Appends (W.contents writer.old) (W.contents writer.new) (noticing.behind_text count)) }
 {
     write!(writer, "output: nobody reads, {count} lines wait")
@@ -323,7 +301,6 @@ fn write_behind<W: Write>(writer: &mut W, count: u64) -> io::Result<()>
 /// Writes that standard output cannot be written, and why.
 #[tactic(auto, unfolding(crate::specs::Notices::output_fails_text))]
 fn write_output_fails<W: Write>(writer: &mut W, error: Option<i32>) -> io::Result<()>
-    // If `write_output_fails` succeeds, it has appended that, and the system's number for the reason.
     ensures { OnOk result (Appends (W.contents writer.old) (W.contents writer.new) (noticing.output_fails_text error)) }
 {
     write_output_front(writer)?;
@@ -333,7 +310,6 @@ fn write_output_fails<W: Write>(writer: &mut W, error: Option<i32>) -> io::Resul
 /// Writes that standard output cannot be written.
 #[tactic(auto, unfolding(crate::specs::Notices::output_front))]
 fn write_output_front<W: Write>(writer: &mut W) -> io::Result<()>
-    // If `write_output_front` succeeds, it has appended that text.
     ensures { OnOk result (Appends (W.contents writer.old) (W.contents writer.new) noticing.output_front) }
 {
     write_text(writer, "leaves: standard output cannot be written")

@@ -72,8 +72,6 @@ impl From<Fault> for StopCause {
 
 /// Returns the fault of a run whose channels were not opened.
 pub(crate) fn fault_of(fault: UdpFault) -> Fault
-    // `fault_of` returns `Settings` for lists and addresses, `Network` for a socket or a wait that the system
-    // refuses, and `Memory` for want of memory.
     ensures { result ≡ unopened.fault_of fault }
 {
     match fault {
@@ -101,7 +99,6 @@ fn report_if_unread<E: Write>(side: Side, channel: usize, is_own: bool, text: &s
 
 /// Returns the settings of one of the ends.
 fn settings_of(ends: &Ends, side: Side) -> &Settings
-    // `settings_of` returns the settings of the end of this side, or those of the only end.
     ensures { result.now ≡ unopened.settings_of ends.now side }
 {
     match (ends, side) {
@@ -129,7 +126,6 @@ fn number_of(error: Option<i32>) -> Option<u32> {
 
 /// Returns the fault of a run whose end was not opened.
 pub(crate) fn fault_of_end(fault: OpenFault) -> Fault
-    // `fault_of_end` returns `Settings` for settings that are not valid, and `Memory` for want of memory.
     ensures { result ≡ unopened.fault_of_end fault }
 {
     match fault {
@@ -191,8 +187,6 @@ fn write_unbound_front<W: Write>(
     channel: usize,
     address: &str,
 ) -> io::Result<()>
-    // If `write_unbound_front` succeeds, it has appended the channel with its own address, and that there is no
-    // socket.
     ensures { OnOk result (Appends (W.contents writer.old) (W.contents writer.new)
         (unopened.unbound_front side channel address.now)) }
 {
@@ -209,8 +203,6 @@ fn write_place<W: Write>(
     is_own: bool,
     address: &str,
 ) -> io::Result<()>
-    // If `write_place` succeeds, it has appended the end, the channel's number, whose address it is, and the
-    // address.
     ensures { OnOk result (Appends (W.contents writer.old) (W.contents writer.new)
         (unopened.place_text side channel is_own address.now)) }
 {
@@ -221,8 +213,6 @@ fn write_place<W: Write>(
 
 /// Returns whose address it is.
 fn whose_words(is_own: bool) -> &'static str
-    // `whose_words` returns the words for the end's own address if `is_own` is true, and else those for the
-    // peer's.
     ensures { result.now ≡ unopened.whose_text is_own }
 {
     match is_own {
@@ -233,7 +223,6 @@ fn whose_words(is_own: bool) -> &'static str
 
 /// Writes the system's error, if there is a number for it.
 fn write_error<W: Write>(writer: &mut W, error: Option<u32>) -> io::Result<()>
-    // If `write_error` succeeds, it has appended the error with its number, or nothing if there is none.
     ensures { OnOk result (Appends (W.contents writer.old) (W.contents writer.new) (unopened.error_text error)) }
 {
     match error {
@@ -245,8 +234,6 @@ fn write_error<W: Write>(writer: &mut W, error: Option<u32>) -> io::Result<()>
 /// Writes the number of an error, and words for the most frequent ones.
 #[tactic(auto, unfolding(crate::specs::OpeningFaults::error_number_text))]
 fn write_numbered<W: Write>(writer: &mut W, error: u32) -> io::Result<()>
-    // If `write_numbered` succeeds, it has appended the number of the error, and its words if it is a frequent
-    // one.
     ensures { OnOk result (Appends (W.contents writer.old) (W.contents writer.new) (unopened.error_number_text error)) }
 {
     let words = error_words(error);
@@ -255,7 +242,6 @@ fn write_numbered<W: Write>(writer: &mut W, error: u32) -> io::Result<()>
 
 /// Returns words for the most frequent errors.
 fn error_words(error: u32) -> &'static str
-    // `error_words` returns words for the errors 98, 99 and 13, and nothing for any other.
     ensures { result.now ≡ unopened.error_words error }
 {
     match error {

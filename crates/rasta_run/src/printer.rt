@@ -112,8 +112,6 @@ fn print_take<W: Write>(
     kind: MessageType,
     payload: &[u8],
 ) -> io::Result<()>
-    // If `print_take` succeeds, it has appended the line of the telegram, after the time that a line of the log has if
-    // there is one.
     ensures { OnOk result ((written : List ℕ) × StampsTake stamp (take_line side kind payload.now) written
         × Appends (W.contents writer.old) (W.contents writer.new) written) }
 {

@@ -96,7 +96,6 @@ fn run_capture<R: AllocGlobal + Files, O: Write, E: Write>(
 
 /// Returns the path of a file; for `-` that of standard input, `/dev/stdin`.
 fn path_of(file: &str) -> &str
-    // `path_of` returns `/dev/stdin` for `-`, and any other name as it is.
     ensures { result.now ≡ path_to file.now }
 {
     if file == "-" { "/dev/stdin" } else { file }
@@ -142,7 +141,6 @@ fn check_file<R: AllocGlobal + Files, O: Write, E: Write>(
     out: &mut O,
     err: &mut E,
 ) -> Status
-    // `check_file` returns `Done` only if it has written the settings in force of a text.
     ensures { result ≡ Status.Done → HasCheckedSome (O.contents out.old) (O.contents out.new) }
 {
     match file_text(rt, file, err) {
@@ -157,7 +155,6 @@ fn file_text<R: AllocGlobal + Files, E: Write>(
     path: &str,
     err: &mut E,
 ) -> Result<String, Status>
-    // If `file_text` fails, it returns `Refused`.
     ensures { IfErr result (λ status. status ≡ Status.Refused) }
 {
     let octets = match file_octets(rt, path) {
@@ -183,7 +180,6 @@ fn file_octets<R: AllocGlobal + Files>(rt: &R, path: &str) -> io::Result<Vec<u8>
 
 /// Prints the fault of a file that the system does not give, or want of memory for it.
 fn refuse_file<E: Write>(path: &str, error: &io::Error, err: &mut E) -> Status
-    // `refuse_file` returns `Refused`.
     ensures { result ≡ Status.Refused }
 {
     match error.kind() {
@@ -194,7 +190,6 @@ fn refuse_file<E: Write>(path: &str, error: &io::Error, err: &mut E) -> Status
 
 /// Prints the fault of a file, followed by its name and the reason.
 pub(crate) fn report_file<D: Display + Drop, E: Write>(path: &str, why: D, err: &mut E) -> Status
-    // `report_file` returns `Refused`, whatever the reason.
     ensures { result ≡ Status.Refused }
 {
     let status = report(err, Fault::File);
@@ -205,8 +200,6 @@ pub(crate) fn report_file<D: Display + Drop, E: Write>(path: &str, why: D, err: 
 
 /// Prints why the words are not a command, or the help that they call for.
 fn refuse<O: Write, E: Write>(fault: &WordsFault<'_>, out: &mut O, err: &mut E) -> Status
-    // `refuse` returns `WrongWords` for words that are not a command, `Refused` for want of memory, and `Done` or
-    // `Failed` for a call for help or the version.
     ensures { EndsWithStatus fault.now result }
 {
     match fault {
@@ -276,7 +269,6 @@ impl<'a, V: Env> Env for NamedEnv<'a, V> {
 
 /// Copies a text to the start of a buffer, if it has room.
 fn fill_buffer(text: &[u8], buffer: &mut [u8]) -> Result<usize, FillError>
-    // The number of bytes that `fill_buffer` copies is at most the length of the buffer.
     ensures { IfOk result (λ n. n ≤ length buffer.new) }
 {
     let size = text.len();

@@ -40,7 +40,6 @@ pub enum Stream {
 impl Stream {
     /// Returns its descriptor, which is also its place in the watch.
     fn descriptor(self) -> u8
-        // `descriptor` returns 0 for `Input`, 1 for `Output`, 2 for `Error` and 3 for `End`.
         ensures { result ≡ descriptor_of self }
     {
         match self {
@@ -67,30 +66,18 @@ pub trait Gate {
 
     /// Sets how long a question waits for a stream, in milliseconds.
     fn set_patience(&mut self, patience: Milliseconds)
-        // `set_patience` changes `self` as `waits` says for this time.
         ensures { waits self.old patience self.new };
 }
 
-/// The system's watch of the standard streams.
 #[derive(Drop)]
 pub struct Readiness {
-    /// The watch.
     poll: Poll,
-    /// Room for its events.
     events: Events,
-    /// Whether each stream is watched. The system does not watch a file, which never waits long.
     watched: [bool; STREAMS],
-    /// How long a question waits for the stream, in milliseconds.
     pub patience: Milliseconds,
 }
 
 impl Readiness {
-    /// Opens a watch of standard output and standard error.
-    ///
-    /// # Errors
-    ///
-    /// - `Memory` if an allocation fails;
-    /// - `Network` if the system has no means to wait.
     pub fn open<N: Net>(alloc: Global, net: &N) -> Result<Self, Fault> {
         let Ok(events) = Events::with_capacity(alloc, STREAMS) else {
             return Err(Fault::Memory);
@@ -108,11 +95,6 @@ impl Readiness {
         })
     }
 
-    /// Watches standard input in addition.
-    ///
-    /// # Errors
-    ///
-    /// - `File` if there is no standard input.
     pub fn watch_input(&mut self) -> Result<(), Fault> {
         match register(&self.poll, Stream::Input) {
             Ok(()) => {
@@ -124,16 +106,10 @@ impl Readiness {
         }
     }
 
-    /// Returns whether a stream is watched.
     pub fn is_watched(&self, stream: Stream) -> bool {
         self.watched[usize::from(stream.descriptor())]
     }
 
-    /// Watches the descriptor that ends a run in addition.
-    ///
-    /// # Errors
-    ///
-    /// - `File` if there is none, or if the system does not watch it, because it is a file.
     pub fn watch_end(&mut self) -> Result<(), Fault> {
         match register(&self.poll, Stream::End) {
             Ok(()) => {
@@ -144,7 +120,6 @@ impl Readiness {
         }
     }
 
-    /// Returns whether the run is told to end.
     pub fn is_told_to_end(&mut self) -> bool {
         self.watched[3] && self.poll_stream(Stream::End, Duration::from_millis(0))
     }

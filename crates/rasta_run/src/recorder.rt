@@ -210,7 +210,6 @@ impl Recorder {
 
     /// Records how the redundancy layer handled a datagram.
     fn record_event(&mut self, event: RedEvent)
-        // `record_event` keeps that the last datagram was dropped and why, if it was; it changes nothing else.
         ensures { self.new ≡ recording.after_event event self.old }
     {
         let (channel, _) = self.came;
@@ -240,7 +239,6 @@ impl Recorder {
 
     /// Records that the end disconnected because of a part.
     fn record_departure(&mut self, number: u32, reason: Reason)
-        // `record_departure` counts the part, and keeps its version if that is the reason; it changes nothing else.
         ensures { self.new ≡ record self.old {
           closing = one_more self.old.closing;
           version = recording.version_after reason (recording.header_under number self.old.came.1) self.old.version;
@@ -285,7 +283,6 @@ impl Recorder {
 
     /// Keeps an event, if there is one.
     fn keep_some(&mut self, happening: Option<EndEvent>)
-        // `keep_some` keeps the event and counts it, and changes nothing without one.
         ensures { self.new ≡ recording.with_some happening self.old }
     {
         if let Some(happening) = happening {
@@ -295,7 +292,6 @@ impl Recorder {
 
     /// Keeps an event, in place of the oldest if there is no room.
     fn keep(&mut self, happening: EndEvent)
-        // `keep` puts the event at the place of its number and counts it, and changes nothing else.
         ensures { self.new ≡ record self.old {
           kept = slice_set self.old.kept (self.old.happened % 256) happening;
           happened = one_more self.old.happened;
@@ -308,7 +304,6 @@ impl Recorder {
 
 /// Keeps a datagram of this type in place of the last one, if it is a Data.
 fn keep_data(last: &mut ArrayVec<u8, DATAGRAM_MAX>, kind: Option<Kind>, datagram: &[u8])
-    // `keep_data` keeps a Data of up to 1,258 bytes, and changes nothing for any other type.
     ensures { length datagram.now ≤ 1_258 → last.new.items ≡ recording.data_after kind datagram.now last.old.items }
 {
     if kind == Some(Kind::Data) {
@@ -319,7 +314,6 @@ fn keep_data(last: &mut ArrayVec<u8, DATAGRAM_MAX>, kind: Option<Kind>, datagram
 
 /// Returns whether a datagram of this type requests a connection.
 fn is_request(kind: Option<Kind>) -> bool
-    // `is_request` is true for a ConnReq, and false for any other type and for none.
     ensures { result ≡ recording.is_request kind }
 {
     match kind {
@@ -330,7 +324,6 @@ fn is_request(kind: Option<Kind>) -> bool
 
 /// Returns the event of a datagram that was to be sent on a channel.
 fn sent_event(channel: usize, datagram: &[u8]) -> Option<EndEvent>
-    // `sent_event` returns the event of the PDU on the first channel, and `None` on any other.
     ensures { result ≡ recording.sent_event channel datagram.now }
 {
     match channel {
@@ -355,8 +348,6 @@ fn under(came: (usize, Option<Header>), number: u32) -> (usize, Option<Header>)
 /// Returns the version for which the end last disconnected, after it disconnected for this reason because of a part
 /// with this header.
 fn version_after(reason: Reason, header: Option<Header>, before: Option<u32>) -> Option<u32>
-    // `version_after` returns the version in the header if that is the reason and the header is known, and else what was
-    // `before`.
     ensures { result ≡ recording.version_after reason header before }
 {
     match (reason, header) {
@@ -367,7 +358,6 @@ fn version_after(reason: Reason, header: Option<Header>, before: Option<u32>) ->
 
 /// Returns why the redundancy layer dropped a datagram.
 fn event_cause(event: RedEvent) -> Option<Cause>
-    // `event_cause` returns the event as the cause, and `None` if the datagram was passed on or deferred.
     ensures { result ≡ telling.event_cause event }
 {
     match event {
@@ -378,8 +368,6 @@ fn event_cause(event: RedEvent) -> Option<Cause>
 
 /// Returns which of two causes explains that nothing was taken.
 fn last_of(before: Option<Cause>, cause: Cause) -> Cause
-    // `last_of` returns the later cause, but the earlier one, if there is one, when the later is a copy of an
-    // earlier datagram.
     ensures { result ≡ telling.last_of before cause }
 {
     match before {
@@ -390,8 +378,6 @@ fn last_of(before: Option<Cause>, cause: Cause) -> Cause
 
 /// Returns why the safety machine dropped a part, with what its header shows and what was expected, if that is known.
 fn drop_cause(cause: DropCause, header: Option<Header>, wanted: ExpectedHeader) -> Cause
-    // `drop_cause` returns the cause itself, but for a stranger with a known header the identifiers in it, and for a
-    // fault the length of the safety code, if it is known and another one.
     ensures { result ≡ telling.drop_cause cause header wanted }
 {
     match (cause, header) {
@@ -408,7 +394,6 @@ fn drop_cause(cause: DropCause, header: Option<Header>, wanted: ExpectedHeader) 
 
 /// Returns the cause of a part with a fault, whose safety code has the length `found`, if that is known.
 fn fault_cause(fault: SafeFault, found: Option<u64>, own: u64) -> Cause
-    // `fault_cause` returns both lengths if they differ, and else the fault itself.
     ensures { result ≡ telling.fault_cause fault found own }
 {
     match found {
@@ -419,7 +404,6 @@ fn fault_cause(fault: SafeFault, found: Option<u64>, own: u64) -> Cause
 
 /// Returns the event of a PDU that the end made, by its type.
 fn event_of_made(kind: Option<Kind>) -> Option<EndEvent>
-    // `event_of_made` returns an event for a RetrReq and a RetrResp, and `None` for any other type.
     ensures { result ≡ telling.made_event kind }
 {
     match kind {

@@ -66,8 +66,6 @@ impl<C: Channels + Drop, A: Allocator + Copy> Actor<'_, C, A> {
 
     /// Records that the end is to be opened again now: what was in doubt of the lost connection is lost.
     fn note_opening(&mut self, now: Milliseconds)
-        // `note_opening` counts the opening, and adds the telegrams in doubt to those of earlier connections. The
-        // telegrams put so far are those before the opening. It changes nothing else.
         ensures { self.new ≡ record self.old {
           keeper = keeping.reopen_keeper now self.old.keeper;
           anew_at = None;
@@ -129,8 +127,6 @@ impl<C: Channels + Drop, A: Allocator + Copy> Actor<'_, C, A> {
 
     /// Logs an opening, and how many in a row got no session if that is due.
     fn log_opening<E: Write>(&mut self, first_sn: u32, now: Milliseconds, err: &mut E)
-        // `log_opening` changes nothing but the log, and the time at which the log had the number of openings
-        // without a session.
         ensures { self.new ≡ record self.old {
           keeper = keeping.keeper_after_count (keeping.is_count_due self.old.keeper now) now self.old.keeper;
           log = self.new.log;

@@ -199,7 +199,6 @@ impl Runner<'_> {
         now: Milliseconds,
         streams: &mut Streams<O, E>,
     ) -> Result<(), Fault>
-        // `pass_on` leaves no line of standard output out.
         ensures kept { streams.new.out.left_out ≡ streams.old.out.left_out }
     {
         streams.pass_on()?;
@@ -226,7 +225,6 @@ impl Runner<'_> {
     ) -> Result<(), Fault>
         requires later { (self.old.first.end.time ≤ clock.old.last) × IfSome self.old.second (λ a. a.end.time ≤ clock.old.last) }
         requires bounded { clock.old.last ≤ TIME_MAX }
-        // After `take_fed_turns` no end is later than the last reading of the clock, which is at most 2^62 ms.
         ensures { (self.new.first.end.time ≤ clock.new.last) × IfSome self.new.second (λ a. a.end.time ≤ clock.new.last)
             × (clock.new.last ≤ TIME_MAX) }
     {
@@ -257,7 +255,6 @@ impl Runner<'_> {
 
     /// Reads the system's clock for the lines of each log.
     fn look_at_clock<R: Clock>(&mut self, rt: &R, now: Milliseconds)
-        // `look_at_clock` does not change the time of an end, nor the number of turns, nor that of telegrams put.
         ensures { (self.new.first.end ≡ self.old.first.end) × (self.new.turns ≡ self.old.turns)
             × (self.new.first.put ≡ self.old.first.put)
             × ((limit : ℕ) → IfSome self.old.second (λ a. a.end.time ≤ limit) → IfSome self.new.second (λ a. a.end.time ≤ limit)) }
@@ -327,7 +324,6 @@ impl Runner<'_> {
 
     /// Records of each end whether it has got on.
     fn note_progress(&mut self, now: Milliseconds)
-        // `note_progress` does not change the time of an end.
         ensures time { (self.new.first.end ≡ self.old.first.end)
             × ((limit : ℕ) → IfSome self.old.second (λ a. a.end.time ≤ limit) → IfSome self.new.second (λ a. a.end.time ≤ limit)) }
     {
@@ -339,7 +335,6 @@ impl Runner<'_> {
 
     /// Returns whether all ends are over, once input has ended.
     fn are_over(&self, input_done: bool, now: Milliseconds) -> bool
-        // `are_over` is true if and only if the first end is over, and the second one too if there is one.
         ensures { result ≡ (acting.is_actor_over input_done now self.now.first && acting.is_second_over now self.now.second) }
     {
         let second_over = match &self.second {
@@ -351,7 +346,6 @@ impl Runner<'_> {
 
     /// Returns when the later of all ends gives up, in milliseconds.
     fn limit(&self) -> Milliseconds
-        // `limit` returns the time at which the first end gives up, or the later one of two.
         ensures { result ≡ acting.later_limit self.now.first self.now.second }
     {
         match &self.second {
@@ -482,7 +476,6 @@ impl Runner<'_> {
     )
         requires now { now ≤ TIME_MAX }
         requires later { (self.old.first.end.time ≤ now) × IfSome self.old.second (λ a. a.end.time ≤ now) }
-        // `leave` does not change standard output.
         ensures kept { streams.new.out ≡ streams.old.out }
     {
         let cause = leaving_cause(left_out, streams.is_stale, streams.out.failure);
@@ -608,7 +601,6 @@ fn hold_of<O: Write, E: Write>(
 ) -> Result<(), Fault>
     requires now { now ≤ TIME_MAX }
     requires later { actor.old.end.time ≤ now }
-    // After `hold_of` the end is no later than `now`, and it has taken a turn.
     ensures { (actor.new.end.time ≤ now) × (actor.new.last_turn ≡ now) }
 {
     let stamp = actor.log.stamp(now);
@@ -627,7 +619,6 @@ fn hold_of_second<O: Write, E: Write>(
 ) -> Result<(), Fault>
     requires now { now ≤ TIME_MAX }
     requires later { IfSome second.old (λ a. a.end.time ≤ now) }
-    // After `hold_of_second` the end is no later than `now`, and it has taken a turn.
     ensures { IfSome second.new (λ a. (a.end.time ≤ now) × (a.last_turn ≡ now)) }
 {
     match second {
@@ -666,7 +657,6 @@ fn hear_of_second<O: Write, E: Write>(
 ) -> Result<(), Fault>
     requires now { now ≤ TIME_MAX }
     requires later { IfSome second.old (λ a. a.end.time ≤ now) }
-    // After `hear_of_second` the end is no later than `now`.
     ensures { IfSome second.new (λ a. a.end.time ≤ now) }
 {
     match second {
@@ -702,7 +692,6 @@ fn turn_of_second<O: Write, E: Write>(
 ) -> Result<(), Fault>
     requires now { now ≤ TIME_MAX }
     requires later { IfSome second.old (λ a. a.end.time ≤ now) }
-    // After `turn_of_second` the end is no later than `now`, and it has taken a turn.
     ensures { IfSome second.new (λ a. (a.end.time ≤ now) × (a.last_turn ≡ now)) }
 {
     match second {
@@ -722,7 +711,6 @@ fn keep_second<R: Files, E: Write>(
 ) -> Result<bool, Fault>
     requires now { now ≤ TIME_MAX }
     requires later { IfSome second.old (λ a. a.end.time ≤ now) }
-    // After `keep_second` the end is no later than `now`.
     ensures { IfSome second.new (λ a. a.end.time ≤ now) }
 {
     match second {
@@ -768,7 +756,6 @@ fn limit_after(
     limit: Milliseconds,
     now: Milliseconds,
 ) -> Option<Milliseconds>
-    // `limit_after` returns the time if input has ended and the time is after `now`, and else `None`.
     ensures { result ≡ limit_after ended limit now }
 {
     match ended {

@@ -110,7 +110,6 @@ fn refuse_all<E: Write>(
     first: &SettingsFault,
     err: &mut E,
 ) -> Status
-    // `refuse_all` returns `Refused`.
     ensures { result ≡ Status.Refused }
 {
     match findings(alloc, word, text) {
@@ -136,7 +135,6 @@ fn refuse_at<D: Display, E: Write>(
     what: &D,
     err: &mut E,
 ) -> Status
-    // `refuse_at` returns `Refused`, whatever the fault.
     ensures { result ≡ Status.Refused }
 {
     let status = report(err, Fault::Settings);
@@ -154,7 +152,6 @@ fn write_fault<D: Display, E: Write>(file: &str, fault: &SettingsFault, what: &D
 
 /// Returns the line of a fault, if it is known.
 fn line_of(fault: &SettingsFault) -> Option<usize>
-    // `line_of` returns the line of a text that is not TOML, and `None` for any other fault.
     ensures { result ≡ line_of fault.now }
 {
     match fault {
@@ -177,7 +174,6 @@ pub(crate) fn refuse<D: Display, E: Write>(
     what: &D,
     err: &mut E,
 ) -> Status
-    // `refuse` returns `Refused`, whatever the reason.
     ensures { result ≡ Status.Refused }
 {
     let status = report(err, Fault::Settings);

@@ -110,7 +110,6 @@ fn message_octets(alloc: Global, text: &str) -> Result<Vec<u8>, Fault>
 
 /// Writes the line of the digest of a message.
 fn write_digest<O: Write>(out: &mut O, octets: &[u8]) -> io::Result<()>
-    // If `write_digest` succeeds, it has appended the digest of the bytes as 32 hex digits, and a line feed.
     ensures { OnOk result (Appends (O.contents out.old) (O.contents out.new) (digest_line octets.now)) }
 {
     let digest = md4::digest(md4::INITIAL_VALUE, octets);

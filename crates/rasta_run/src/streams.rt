@@ -250,7 +250,6 @@ impl<O: Write, E: Write, G: Gate> Streams<O, E, G> {
 /// Writes how many lines of standard output were not printed.
 #[tactic(auto, unfolding(crate::specs::Backlogs::unread_text))]
 fn write_unread<W: Write>(writer: &mut W, count: u64) -> io::Result<()>
-    // If `write_unread` succeeds, it has appended the line with the number of lines.
     ensures { OnOk result (Appends (W.contents writer.old) (W.contents writer.new) (unread_text count)) }
 {
     write!(writer, "output: {count} lines not printed\n")

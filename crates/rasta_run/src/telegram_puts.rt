@@ -71,8 +71,6 @@ impl<C: Channels, A: Allocator + Copy> Actor<'_, C, A> {
 
     /// Returns whether the end puts telegrams of its list now.
     fn may_put_list(&self) -> bool
-        // `may_put_list` is true for an interlocking with an established session, and for a field element that
-        // initialises.
         ensures { result ≡ puts_list_in self.now.side (inside self.now.end).upper.session.phase }
     {
         puts_in(self.side, self.end.phase())
@@ -80,7 +78,6 @@ impl<C: Channels, A: Allocator + Copy> Actor<'_, C, A> {
 
     /// Returns whether the end ends its initialisation now.
     fn may_complete(&self) -> bool
-        // `may_complete` is true for a field element that initialises, if nothing of its list is left.
         ensures { result ≡ ends_initialisation_in self.now.side (inside self.now.end).upper.session.phase (length self.now.left.now == 0) }
     {
         ends_in(self.side, self.end.phase(), self.left.is_empty())
@@ -88,8 +85,6 @@ impl<C: Channels, A: Allocator + Copy> Actor<'_, C, A> {
 
     /// Returns whether the end takes lines of input now.
     fn may_put_lines(&self) -> bool
-        // `may_put_lines` is true if the session is established and nothing of the list is left, and if the connection
-        // is closed for good.
         ensures { result ≡ takes_lines self.now.is_kept (inside self.now.end).upper.machine.connection
             (inside self.now.end).upper.session.phase (length self.now.left.now == 0) }
     {
@@ -205,7 +200,6 @@ impl<C: Channels, A: Allocator + Copy> Actor<'_, C, A> {
         now: Milliseconds,
         err: &mut E,
     )
-        // `log_refusal` changes nothing but the log.
         ensures { self.new ≡ record self.old { log = self.new.log } }
     {
         let _ = self.log.log_event(EndEvent::PutRefused(fault), now, err);
@@ -357,7 +351,6 @@ impl<C: Channels, A: Allocator + Copy> Actor<'_, C, A> {
 
 /// Returns whether the end has no room for a telegram that was offered.
 fn is_full(offered: PutOutcome) -> bool
-    // `is_full` is true for `Full`, and false for any other result.
     ensures { result ≡ is_full offered }
 {
     match offered {
@@ -368,7 +361,6 @@ fn is_full(offered: PutOutcome) -> bool
 
 /// Returns the number of telegrams refused after one more was offered.
 fn refusals_after(offered: PutOutcome, count: u64) -> u64
-    // `refusals_after` returns one more for a telegram that was refused, and else the number so far.
     ensures { result ≡ refusals_after offered count }
 {
     match offered {

@@ -75,7 +75,6 @@ pub fn received_on(sums: &Statistics) -> u64
 
 /// Adds the counts of a channel.
 fn receptions(first: ReceptionCounts, second: ReceptionCounts) -> ReceptionCounts
-    // Each count is the sum of both, and the time the second one, if it has one.
     ensures { result ≡ totals.add_receptions first second }
 {
     ReceptionCounts {
@@ -93,7 +92,6 @@ fn receptions(first: ReceptionCounts, second: ReceptionCounts) -> ReceptionCount
 
 /// Adds the counts of damaged datagrams, by fault.
 fn red_faults(first: RedFaultCounts, second: RedFaultCounts) -> RedFaultCounts
-    // Of each fault there are the datagrams of both.
     ensures { result ≡ totals.add_red_faults first second }
 {
     RedFaultCounts {
@@ -105,7 +103,6 @@ fn red_faults(first: RedFaultCounts, second: RedFaultCounts) -> RedFaultCounts
 
 /// Adds the counts of damaged parts, by fault.
 fn safe_faults(first: SafeFaultCounts, second: SafeFaultCounts) -> SafeFaultCounts
-    // Of each fault there are the parts of both.
     ensures { result ≡ totals.add_safe_faults first second }
 {
     SafeFaultCounts {
@@ -119,7 +116,6 @@ fn safe_faults(first: SafeFaultCounts, second: SafeFaultCounts) -> SafeFaultCoun
 
 /// Adds the counts of parts.
 fn parts(first: PartCounts, second: PartCounts) -> PartCounts
-    // Each count is the sum of both; age and wait are the greater ones.
     ensures { result ≡ totals.add_parts first second }
 {
     PartCounts {
@@ -139,7 +135,6 @@ fn parts(first: PartCounts, second: PartCounts) -> PartCounts
 
 /// Adds the counts of PDUs made.
 fn add_made_counts(first: MadeCounts, second: MadeCounts) -> MadeCounts
-    // Each count is the sum of both.
     ensures { result ≡ totals.add_made first second }
 {
     MadeCounts {

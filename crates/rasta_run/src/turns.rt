@@ -440,8 +440,6 @@ impl<'a, C: Channels, A: Allocator + Copy> Actor<'a, C, A> {
 
     /// Counts turns in which a reception fails.
     fn note_reception(&mut self, works: bool)
-        // `note_reception` counts a turn in which a reception failed, and begins again after one in which none did;
-        // it changes nothing else.
         ensures kept { self.new ≡ record self.old { deaf_turns = turning.deaf_after works self.old.deaf_turns } }
     {
         self.deaf_turns = deaf_after(works, self.deaf_turns);
@@ -515,7 +513,6 @@ fn poll_or_tick<C: Channels, A: Allocator, T: Taker>(
 
 /// Returns whether a connection is closed.
 fn is_closed(state: ConnectionState) -> bool
-    // `is_closed` is true for `Closed`, and false for any other state.
     ensures { result ≡ is_closed state }
 {
     state == ConnectionState::Closed
@@ -523,7 +520,6 @@ fn is_closed(state: ConnectionState) -> bool
 
 /// Returns the notice of a time without a turn, in milliseconds, if it is long.
 fn gap_notice(gap: u64) -> Option<Notice>
-    // `gap_notice` returns the time if it is more than 1,500 ms, and else `None`.
     ensures { result ≡ turning.gap_notice gap }
 {
     if gap > GAP_MAX {
@@ -534,7 +530,6 @@ fn gap_notice(gap: u64) -> Option<Notice>
 
 /// Returns the number of turns in a row in which a reception failed, after one more turn.
 fn deaf_after(works: bool, count: u64) -> u64
-    // `deaf_after` returns 0 after a turn without a failure, and else one more.
     ensures { result ≡ turning.deaf_after works count }
 {
     match works {
@@ -545,8 +540,6 @@ fn deaf_after(works: bool, count: u64) -> u64
 
 /// Returns the notice of a connection that was just found closed.
 fn loss_notice(was_closed: bool, is_closed: bool, open: u64, unsent: u64) -> Option<Notice>
-    // `loss_notice` returns how many of the telegrams that are not confirmed were sent, and how many were not, if there
-    // are any and the connection was not closed before.
     ensures { result ≡ turning.loss_notice was_closed is_closed open unsent }
 {
     if is_closed && !was_closed && open > 0 {

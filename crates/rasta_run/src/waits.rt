@@ -64,8 +64,6 @@ fn rest(
     now: Milliseconds,
     deadline: Option<Milliseconds>,
 ) -> Option<u64>
-    // `rest` returns `None` after a turn that `found` something. Else it returns the time until the deadline, at
-    // most 4 ms if turns are counted and a second otherwise.
     ensures { result ≡ rest_of length found now deadline }
 {
     let most = longest(length);
@@ -78,7 +76,6 @@ fn rest(
 
 /// Returns the longest wait, in milliseconds.
 fn longest(length: RunLength) -> Milliseconds
-    // `longest` returns 4 for counted turns, and 1,000 for a run until input ends.
     ensures { result ≡ longest_rest length }
 {
     match length {

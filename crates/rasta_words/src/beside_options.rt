@@ -35,7 +35,6 @@ pub fn chosen_recording<'a>(
 
 /// Returns the first option that was given though it says nothing of pairs.
 fn first_unpaired(entries: &ArgMatches<'_>) -> Option<&'static str>
-    // The option is the first in the order of `unpaired_of`.
     ensures { option_copied result ≡ unpaired_of (rows_of (found_of entries.now)) }
 {
     if is_chosen(entry(entries, "messages")) {
@@ -52,7 +51,6 @@ fn first_unpaired(entries: &ArgMatches<'_>) -> Option<&'static str>
 
 /// Returns the first option with a value that was given though it says nothing of pairs.
 fn unpaired_value(entries: &ArgMatches<'_>) -> Option<&'static str>
-    // The option is the first in the order of `value_of`.
     ensures { option_copied result ≡ value_of (rows_of (found_of entries.now)) }
 {
     if entry(entries, "code").is_some() {
@@ -70,7 +68,6 @@ fn unpaired_value(entries: &ArgMatches<'_>) -> Option<&'static str>
 
 /// Returns the first option of times that was given.
 fn unpaired_time(entries: &ArgMatches<'_>) -> Option<&'static str>
-    // The option is the first in the order of `time_of`.
     ensures { option_copied result ≡ time_of (rows_of (found_of entries.now)) }
 {
     if entry(entries, "time").is_some() {

@@ -42,7 +42,6 @@ pub fn chosen_times<'a>(entries: &ArgMatches<'a>) -> Result<FollowTimes, Rejecti
 
 /// Returns `true` if a span ends before it begins. Instants of two forms are not compared: only a recording has both.
 fn is_reversed(span: &Span) -> bool
-    // The result is true if and only if both instants have one form, and the last is before the first.
     ensures { result ≡ is_reversed span.now }
 {
     match (span.from, span.to) {

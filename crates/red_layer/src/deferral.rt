@@ -200,7 +200,6 @@ fn empty_places<T: Drop, A: Allocator>(places: &mut Vec<Option<(u32, T)>, A>)
 
 /// Empties every place.
 fn empty_all<T: Drop>(places: &mut [Option<(u32, T)>])
-    // After `empty_all`, there is no entry.
     ensures { entries_of places.new ≡ [] }
 {
     for place in places.iter_mut() {
@@ -295,7 +294,6 @@ fn free_place<T>(places: &[Option<(u32, T)>]) -> Option<usize>
 
 /// Returns the least number in the places.
 fn least_number<T>(places: &[Option<(u32, T)>]) -> Option<u32>
-    // The result of `least_number` is the least number of the entries, or `None` if all places are empty.
     ensures { result ≡ least_of (entries_of places.now) }
 {
     let mut least = None;

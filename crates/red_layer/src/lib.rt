@@ -269,7 +269,6 @@ impl<A: Allocator> RedLayer<A> {
     fn expect(&mut self, next: u64)
         requires in_range { next ≤ 2 ^ 32 }
         requires empty { self.old.waiting ≡ [] }
-        // Only the expected number changes, to `next`.
         ensures { self.new ≡ record self.old { expected = next } }
     {
         self.expected = next;

@@ -137,7 +137,6 @@ impl<A: Allocator> MachineState<A> {
     fn decide(&self, pdu: &SafePdu<'_>, now: Milliseconds) -> Decision
         requires body { IsBody pdu.now.kind pdu.now.body.now }
         requires reach { self.now.expected < 2 ^ 62 }
-        // A closed end does nothing, then a stranger's PDU is dropped, and then the state decides (`decide`).
         ensures { result ≡ decide self.now (pdu_of pdu.now) now }
     {
         // Most PDUs are the next Data or heartbeat at an end in Up: the decision that the table has for these comes first.
@@ -162,7 +161,6 @@ impl<A: Allocator> MachineState<A> {
 
     /// Returns whether a PDU is a stranger's.
     fn is_foreign(&self, pdu: &SafePdu<'_>) -> bool
-        // A PDU is foreign if its receiver is not this end or its sender is not the peer (`is_foreign`).
         ensures { result ≡ is_foreign self.now.settings (pdu_of pdu.now) }
     {
         pdu.receiver != self.config.own || pdu.sender != self.config.peer
@@ -173,8 +171,6 @@ impl<A: Allocator> MachineState<A> {
     fn by_connection(&self, pdu: &SafePdu<'_>, now: Milliseconds) -> Decision
         requires body { IsBody pdu.now.kind pdu.now.body.now }
         requires reach { self.now.expected < 2 ^ 62 }
-        // Down accepts or rejects a ConnReq only. In Start and later states a DiscReq closes the end. A client in
-        // Start waits for its ConnResp, and in the other cases the table decides (`by_connection`).
         ensures { result ≡ by_connection self.now (pdu_of pdu.now) now self.now.connection }
     {
         let is_goodbye = matches!(pdu.kind, Kind::DiscReq);
@@ -192,8 +188,6 @@ impl<A: Allocator> MachineState<A> {
     #[inline(never)]
     fn as_client(&self, pdu: &SafePdu<'_>, now: Milliseconds) -> Decision
         requires { IsBody pdu.now.kind pdu.now.body.now }
-        // A client in Start connects by a ConnResp of this version that passes both tests. It leaves with
-        // WrongVersion for another version, and with UnexpectedPdu for another type (`as_client`).
         ensures { result ≡ as_client self.now (pdu_of pdu.now) now pdu.now.kind }
     {
         match pdu.kind {
@@ -212,8 +206,6 @@ impl<A: Allocator> MachineState<A> {
     #[inline(always)]
     fn by_table(&self, pdu: &SafePdu<'_>, now: Milliseconds) -> Decision
         requires { self.now.expected < 2 ^ 62 }
-        // A PDU that is more than 10 times the own window ahead is dropped; for the others the cell of state,
-        // distance and PDU type decides (`by_table`).
         ensures { result ≡ by_table self.now (pdu_of pdu.now) now (distance self.now (pdu_of pdu.now)) }
     {
         let distance = self.distance(pdu);
@@ -228,8 +220,6 @@ impl<A: Allocator> MachineState<A> {
     #[inline(always)]
     fn by_cell(&self, pdu: &SafePdu<'_>, now: Milliseconds, distance: u32, cell: Cell) -> Decision
         requires { self.now.expected < 2 ^ 62 }
-        // The cell leads to the decision that it names; taking and resuming need both confirmation tests, and
-        // answering depends on the index of the RetrReq (`by_cell`).
         ensures { result ≡ by_cell self.now (pdu_of pdu.now) now distance cell }
     {
         match cell {
@@ -247,8 +237,6 @@ impl<A: Allocator> MachineState<A> {
     #[inline(never)]
     fn decide_request(&self, pdu: &SafePdu<'_>, now: Milliseconds, distance: u32) -> Decision
         requires { self.now.expected < 2 ^ 62 }
-        // A RetrReq handled before is dropped. One that fails the number test is dropped or refused. The next PDU
-        // of an end in Up or RetrRun must also pass the timestamp test; any other is answered early (`decide_request`).
         ensures { result ≡ decide_request self.now (pdu_of pdu.now) now distance }
     {
         if self.expected + u64::from(distance) <= self.answered {
@@ -268,8 +256,6 @@ impl<A: Allocator> MachineState<A> {
 
     /// Decides on a RetrReq whose confirmed number fails the test.
     fn decide_failed_number(&self, pdu: &SafePdu<'_>) -> Decision
-        // The RetrReq is dropped if its step is 2^31 or more, so that it confirms less than before; otherwise the
-        // end disconnects with RetransmissionImpossible (`decide_failed_number`).
         ensures { result ≡ decide_unconfirming_request self.now (pdu_of pdu.now) }
     {
         if self.cs_step(pdu) >= 0x8000_0000 {
@@ -281,8 +267,6 @@ impl<A: Allocator> MachineState<A> {
 
     /// Applies both confirmation tests to a decision.
     fn apply_tests(&self, pdu: &SafePdu<'_>, now: Milliseconds, decision: Decision) -> Decision
-        // The end disconnects with ConfirmedNumber if the number test fails, then with ConfirmedTimestamp if the
-        // timestamp test fails; otherwise the decision stays (`apply_tests`).
         ensures { result ≡ decide_by_tests self.now (pdu_of pdu.now) now decision }
     {
         if !self.cs_fits(pdu) {
@@ -297,7 +281,6 @@ impl<A: Allocator> MachineState<A> {
     /// Returns how far a PDU is ahead of the expected one.
     #[tactic(auto, unfolding(crate::specs::Numbers::ahead, crate::specs::Numbers::sn_of))]
     pub(crate) fn distance(&self, pdu: &SafePdu<'_>) -> u32
-        // The distance is counted from the sequence number after the last one passed, modulo 2^32 (`distance`).
         ensures { result ≡ distance self.now (pdu_of pdu.now) }
     {
         steps_ahead(self.last_sn.wrapping_add(1), pdu.sn)
@@ -305,7 +288,6 @@ impl<A: Allocator> MachineState<A> {
 
     /// Returns whether the PDU passes the number test.
     fn cs_fits(&self, pdu: &SafePdu<'_>) -> bool
-        // The confirmed number means a PDU that was made, and not one before the last one confirmed (`cs_fits`).
         ensures { result ≡ cs_fits self.now (pdu_of pdu.now) }
     {
         u64::from(self.cs_step(pdu)) < self.made.saturating_sub(self.confirmed)
@@ -314,7 +296,6 @@ impl<A: Allocator> MachineState<A> {
     /// Returns how many PDUs a PDU confirms after the last one confirmed.
     #[tactic(auto, unfolding(crate::specs::Numbers::ahead, crate::specs::Numbers::sn_of))]
     pub(crate) fn cs_step(&self, pdu: &SafePdu<'_>) -> u32
-        // The step is counted from the sequence number of the last own PDU confirmed, modulo 2^32 (`cs_step`).
         ensures { result ≡ cs_step self.now (pdu_of pdu.now) }
     {
         let confirmed = self.first.wrapping_add(low(self.confirmed));
@@ -323,7 +304,6 @@ impl<A: Allocator> MachineState<A> {
 
     /// Returns whether the PDU passes the timestamp test.
     fn cts_fits(&self, pdu: &SafePdu<'_>, now: Milliseconds) -> bool
-        // The confirmed timestamp is not later than `now`, counted from the time last confirmed (`cts_fits`).
         ensures { result ≡ cts_fits self.now (pdu_of pdu.now) now }
     {
         u64::from(self.cts_step(pdu)) <= now.saturating_sub(self.confirmed_at)
@@ -332,7 +312,6 @@ impl<A: Allocator> MachineState<A> {
     /// Returns by how many milliseconds a PDU confirms a later time than the one last confirmed.
     #[tactic(auto, unfolding(crate::specs::Numbers::ahead, crate::specs::Numbers::sn_of))]
     pub(crate) fn cts_step(&self, pdu: &SafePdu<'_>) -> u32
-        // The step is counted from the own time last confirmed, modulo 2^32 (`cts_step`).
         ensures { result ≡ cts_step self.now (pdu_of pdu.now) }
     {
         steps_ahead(low(self.confirmed_at), pdu.cts)
@@ -433,8 +412,6 @@ pub(crate) enum Decision {
 impl Decision {
     /// Returns what the decision is reported as.
     fn answer(self) -> Step
-        // `Shuts` is reported as `Nothing`, `Rejects` as `Left`, `Asks` as `Gap`, and every acceptance as `Taken`
-        // (`answer_of`).
         ensures { result ≡ answer_of self }
     {
         match self {
@@ -451,8 +428,6 @@ impl Decision {
 /// Decides as a server that waits for a ConnReq.
 fn in_down(pdu: &SafePdu<'_>) -> Decision
     requires { IsBody pdu.now.kind pdu.now.body.now }
-    // A ConnReq of this version is accepted, and one of another version rejected; any other PDU is dropped with
-    // `NotOpened` (`in_down`).
     ensures { result ≡ in_down (pdu_of pdu.now) pdu.now.kind }
 {
     match pdu.kind {
@@ -470,7 +445,6 @@ fn in_down(pdu: &SafePdu<'_>) -> Decision
 /// Returns whether the body of a ConnReq or ConnResp has this profile's version.
 fn is_ours(body: &[u8]) -> bool
     requires { IsBody Kind.ConnReq body.now }
-    // The version in the body is 0303 (`is_ours`).
     ensures { result ≡ is_ours body.now }
 {
     read_opening(body).version == VERSION.as_slice()
@@ -495,7 +469,6 @@ pub(crate) enum Cell {
 
 /// Returns the cell for a state, whether the PDU is the next one, and its PDU type.
 fn cell_of(connection: ConnectionState, next: bool, kind: Kind) -> Cell
-    // The cell is that of the state's row; Closed and Down have no row, and drop the PDU (`cell`).
     ensures { result ≡ cell connection next kind }
 {
     match connection {
@@ -509,8 +482,6 @@ fn cell_of(connection: ConnectionState, next: bool, kind: Kind) -> Cell
 
 /// Returns the cell of a server in Start.
 fn start_row(next: bool, kind: Kind) -> Cell
-    // In Start the next heartbeat is taken, a gap in heartbeats or Data is a sequence error, and any other PDU is
-    // unexpected (`start_row`).
     ensures { result ≡ start_row next kind }
 {
     match kind {
@@ -523,8 +494,6 @@ fn start_row(next: bool, kind: Kind) -> Cell
 
 /// Returns the cell of Up.
 fn up_row(next: bool, kind: Kind) -> Cell
-    // In Up the next heartbeat or Data is taken, a retransmission is requested at a gap, and a RetrReq is answered;
-    // the other types are unexpected (`up_row`).
     ensures { result ≡ up_row next kind }
 {
     match kind {
@@ -537,8 +506,6 @@ fn up_row(next: bool, kind: Kind) -> Cell
 
 /// Returns the cell of RetrRun.
 fn run_row(next: bool, kind: Kind) -> Cell
-    // In RetrRun the next heartbeat or Data leads to Up, the next RetrData is taken, a retransmission is requested
-    // at a gap, and a RetrReq is answered (`run_row`).
     ensures { result ≡ run_row next kind }
 {
     match kind {
@@ -552,8 +519,6 @@ fn run_row(next: bool, kind: Kind) -> Cell
 
 /// Returns the cell of RetrReq, where the distance does not matter.
 fn request_row(kind: Kind) -> Cell
-    // In RetrReq heartbeats and units are dropped, a RetrReq is answered, a RetrResp resumes, and the other types
-    // are unexpected (`request_row`).
     ensures { result ≡ request_row kind }
 {
     match kind {
@@ -567,7 +532,6 @@ fn request_row(kind: Kind) -> Cell
 /// Returns how far a 32-bit number is ahead of another.
 #[tactic(auto, unfolding(crate::specs::Numbers::ahead))]
 fn steps_ahead(from: u32, to: u32) -> u32
-    // The steps are counted modulo 2^32 (`ahead`).
     ensures { result ≡ ahead from to }
 {
     to.wrapping_sub(from)

@@ -137,8 +137,6 @@ impl<A: Allocator> MachineState<A> {
         requires reach { self.old.expected < 2 ^ 62 }
         requires number { cs_step self.old (pdu_of pdu.now) < self.old.made - self.old.confirmed }
         requires time { cts_step self.old (pdu_of pdu.now) ≤ now - self.old.confirmed_at }
-        // `resume` moves both confirmations on, passes everything up to the RetrResp, and goes to RetrRun
-        // (`resume`).
         ensures { self.new ≡ resume (pdu_of pdu.now) self.old }
     {
         let distance = self.distance(pdu);
@@ -283,7 +281,6 @@ impl<A: Allocator> MachineState<A> {
     /// Returns the bytes of the unit at a place.
     fn unit_at(&self, place: usize) -> &[u8]
         requires { place < length self.now.ring }
-        // `unit_at` returns the bytes of the unit at this place of the ring.
         ensures { IfSome (slice_get self.now.ring place) (λ u. result.now ≡ u.octets) }
     {
         self.ring.get(place).unwrap().1.as_slice()
@@ -292,8 +289,6 @@ impl<A: Allocator> MachineState<A> {
     /// Records that a RetrReq at a distance was handled.
     fn note_request(&mut self, distance: u32)
         requires { self.old.expected < 2 ^ 62 }
-        // `note_request` sets the index of the last RetrReq handled to the expected index plus the distance
-        // (`mark_answered`).
         ensures { self.new ≡ mark_answered distance self.old }
     {
         self.answered = self.expected + u64::from(distance);
@@ -302,8 +297,6 @@ impl<A: Allocator> MachineState<A> {
     /// Marks everything up to a PDU at a distance as passed.
     fn pass(&mut self, pdu: &SafePdu<'_>, distance: u32)
         requires { self.old.expected < 2 ^ 62 }
-        // `pass` moves the expected index to the one after this PDU, and keeps its sequence number and timestamp
-        // (`move_past`).
         ensures { self.new ≡ move_past (pdu_of pdu.now) distance self.old }
     {
         self.expected += u64::from(distance) + 1;
@@ -314,7 +307,6 @@ impl<A: Allocator> MachineState<A> {
     /// Keeps the window in the body of a ConnReq or ConnResp.
     fn set_window(&mut self, pdu: &SafePdu<'_>)
         requires { IsBody Kind.ConnReq pdu.now.body.now }
-        // `set_window` changes only the peer's window, to the N_sendmax in the body (`window_of`).
         ensures { self.new ≡ with_window (window_of pdu.now.body.now) self.old }
     {
         self.window = u64::from(read_opening(pdu.body).n_sendmax);
@@ -325,8 +317,6 @@ impl<A: Allocator> MachineState<A> {
         requires few { self.old.made < 2 ^ 40 }
         requires number { cs_step self.old (pdu_of pdu.now) < self.old.made - self.old.confirmed }
         requires time { cts_step self.old (pdu_of pdu.now) ≤ now - self.old.confirmed_at }
-        // `confirm_both` moves the confirmed index and the confirmed time on, and drops the units up to that index
-        // (`both_confirmed`).
         ensures { self.new ≡ both_confirmed (pdu_of pdu.now) self.old }
     {
         self.confirm_units(pdu);
@@ -337,8 +327,6 @@ impl<A: Allocator> MachineState<A> {
     fn confirm_units(&mut self, pdu: &SafePdu<'_>)
         requires few { self.old.made < 2 ^ 40 }
         requires fits { cs_step self.old (pdu_of pdu.now) < self.old.made - self.old.confirmed }
-        // `confirm_units` moves the confirmed index on, and drops the units up to it from the ring
-        // (`units_confirmed`).
         ensures { self.new ≡ units_confirmed (pdu_of pdu.now) self.old }
     {
         let step = self.cs_step(pdu);
@@ -380,7 +368,6 @@ impl<A: Allocator> MachineState<A> {
 
 /// Returns whether a PDU of this type carries a unit.
 fn carries(kind: Kind) -> bool
-    // Only Data and RetrData carry a unit (`carries`).
     ensures { result ≡ is_carrier_kind kind }
 {
     matches!(kind, Kind::Data | Kind::RetrData)

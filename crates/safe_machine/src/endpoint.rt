@@ -183,7 +183,6 @@ impl<A: Allocator> MachineState<A> {
         out: &mut O,
     )
         requires body { IsBody kind body.now }
-        // `hand_out` hands out the encoding of the next PDU, with this type, body and time (`next_made`).
         ensures { O.makes out.old (text_of self.now.settings.rule (next_made self.now kind body.now now)) out.new }
     {
         if SAFE_HEADER + body.len() + self.config.rule.length.octets() <= SHORT_PDU {
@@ -207,7 +206,6 @@ impl<A: Allocator> MachineState<A> {
     )
         requires body { IsBody kind body.now }
         requires room { SAFE_HEADER + length body.now + code_octets self.now.settings.rule.length ≤ length buffer.old }
-        // `write_out` hands out the encoding of the next PDU for any earlier content of the buffer (`next_made`).
         ensures { O.makes out.old (text_of self.now.settings.rule (next_made self.now kind body.now now)) out.new }
     {
         let pdu = SafePdu {
@@ -227,7 +225,6 @@ impl<A: Allocator> MachineState<A> {
     /// Returns the sequence number of the next PDU.
     #[tactic(auto, unfolding(crate::specs::Numbers::sn_of))]
     fn next_sn(&self) -> u32
-        // The sequence number of the next PDU is the first one plus the count of PDUs made, modulo 2^32 (`sn_of`).
         ensures { result ≡ sn_of self.now.first self.now.made }
     {
         self.first.wrapping_add(low(self.made))
@@ -236,8 +233,6 @@ impl<A: Allocator> MachineState<A> {
     /// Counts a PDU that was handed out.
     pub(crate) fn count(&mut self, now: Milliseconds)
         requires few { self.old.made < 2 ^ 40 }
-        // `count` adds 1 to the PDUs made, sets the time of the last one, and resets the units taken since to 0
-        // (`count_pdu`).
         ensures { self.new ≡ count_pdu now self.old }
     {
         self.made += 1;
@@ -247,7 +242,6 @@ impl<A: Allocator> MachineState<A> {
 
     /// Changes the state of the connection.
     pub(crate) fn move_to(&mut self, connection: ConnectionState)
-        // `move_to` changes only the state of the connection.
         ensures { self.new ≡ record self.old { connection = connection } }
     {
         self.connection = connection;
@@ -257,7 +251,6 @@ impl<A: Allocator> MachineState<A> {
 impl ConnectionState {
     /// Returns whether the timeout check applies in this state.
     pub(crate) fn is_live(self) -> bool
-        // `is_live` is `false` in Closed and Down, and `true` in the other four states.
         ensures { result ≡ is_live self }
     {
         !matches!(self, ConnectionState::Closed | ConnectionState::Down)
@@ -265,7 +258,6 @@ impl ConnectionState {
 
     /// Returns whether heartbeats are due in this state.
     pub(crate) fn is_connected(self) -> bool
-        // `is_connected` is `true` in Up, RetrReq and RetrRun only.
         ensures { result ≡ is_connected self }
     {
         matches!(
@@ -276,7 +268,6 @@ impl ConnectionState {
 
     /// Returns whether units are sent and taken in this state.
     pub(crate) fn in_turn(self) -> bool
-        // `in_turn` is `true` in Up and RetrRun only.
         ensures { result ≡ in_turn self }
     {
         matches!(self, ConnectionState::Up | ConnectionState::RetrRun)
@@ -285,7 +276,6 @@ impl ConnectionState {
 
 /// Returns the low 32 bits of a count.
 pub(crate) fn low(count: u64) -> u32
-    // The result is the `count` modulo 2^32.
     ensures { result ≡ count % 2 ^ 32 }
 {
     (count % (1 << 32)) as u32
@@ -293,7 +283,6 @@ pub(crate) fn low(count: u64) -> u32
 
 /// Returns the body of a DiscReq.
 fn leaving_octets(reason: Reason, detail: Detail) -> [u8; 4]
-    // The body is the numbers of detail and reason, two bytes each, least significant byte first (`leaving_body`).
     ensures { result ≡ leaving_body reason detail }
 {
     let mut body = [0; 4];
@@ -304,7 +293,6 @@ fn leaving_octets(reason: Reason, detail: Detail) -> [u8; 4]
 
 /// Returns the body of a ConnReq or ConnResp.
 pub(crate) fn opening_octets(n_sendmax: u16) -> [u8; 14]
-    // The body is the version, N_sendmax in two bytes, and eight zeros (`opening_body`).
     ensures { result ≡ opening_body n_sendmax }
 {
     let [a, b, c, d] = VERSION;

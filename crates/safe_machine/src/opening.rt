@@ -56,7 +56,6 @@ fn blank<A: Allocator>(
     ring: Unconfirmed<A>,
 ) -> MachineState<A>
     requires room { ring ≡ record { room = WINDOW_MAX; units = [] } }
-    // Every counter of the new end is 0, its ring is empty, and the time last confirmed is `now` (`new_view`).
     ensures { result ≡ new_view (settings_of role config) first now connection }
 {
     MachineState {
@@ -100,7 +99,6 @@ impl<A: Allocator> MachineState<A> {
     /// Forgets all that happened since the opening, except the settings.
     fn forget(&mut self, first: u32, now: Milliseconds, connection: ConnectionState)
         requires room { self.old.room ≡ WINDOW_MAX }
-        // Every counter is 0 again, the ring is empty, and the time last confirmed is `now` (`new_view`).
         ensures { self.new ≡ new_view self.old.settings first now connection }
     {
         self.first = first;
@@ -132,8 +130,6 @@ impl MachineConfig {
 
     /// Returns whether the two identifiers differ.
     fn are_two(&self) -> bool
-        // `are_two` holds if and only if the two identifiers differ. Settings are taken in the role `Client`; the
-        // role makes no difference.
         ensures { result ≡ are_two (settings_of Client self.now) }
     {
         self.own != self.peer
@@ -141,8 +137,6 @@ impl MachineConfig {
 
     /// Returns whether each number is within its range.
     fn in_range(&self) -> bool
-        // `in_range` holds if and only if window, T_max, T_h, mwa and PDU limit are within their ranges. It is the
-        // same in either role.
         ensures { result ≡ in_range (settings_of Client self.now) }
     {
         1 <= self.n_sendmax
@@ -160,7 +154,6 @@ impl MachineConfig {
 
 /// Returns whether an end may use a safety code of this length.
 fn is_coded(length: CodeLength) -> bool
-    // Only a safety code of 8 or 16 bytes is accepted, not one of 0.
     ensures { result ≡ is_coded length }
 {
     !matches!(length, CodeLength::Zero)

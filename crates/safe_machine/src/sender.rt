@@ -20,8 +20,6 @@ use std::cmp::min;
 impl<A: Allocator> MachineState<A> {
     /// Returns whether a unit may be sent.
     pub(crate) fn may_send(&self) -> bool
-        // A unit may be sent if and only if the state is Up or RetrRun, and fewer units are unconfirmed than the
-        // peer's window (`has_room`).
         ensures { result ≡ has_room self.now }
     {
         self.connection.in_turn() && (self.ring.len() as u64) < self.window
@@ -67,7 +65,6 @@ impl<A: Allocator> MachineState<A> {
         requires size { length unit.now ≤ UNIT_MAX }
         requires room { length self.old.ring < self.old.room }
         requires above { AllBelow number self.old.ring }
-        // `keep` changes only the ring: it grows at its end by a copy of the unit, under this number.
         ensures { self.new
             ≡ record self.old { ring = self.old.ring ++ record { number = number; octets = unit.now } ∷ [] } }
     {
@@ -117,8 +114,6 @@ impl<A: Allocator> MachineState<A> {
 
     /// Returns why the timeout check disconnects, or `None`.
     pub(crate) fn overdue(&self, now: Milliseconds) -> Option<(Reason, Detail)>
-        // In Closed and Down the result is `None`. Otherwise T_max comes first: the last confirmation is at least
-        // T_max old; then the limit: as many PDUs are made as allowed.
         ensures { result ≡ overdue now self.now }
     {
         if !self.connection.is_live() {
@@ -148,7 +143,6 @@ impl<A: Allocator> MachineState<A> {
 
     /// Returns whether a heartbeat is due.
     fn beat_due(&self, now: Milliseconds) -> bool
-        // A heartbeat is due in Up, RetrReq and RetrRun, T_h and more after the last PDU made (`beat_due`).
         ensures { result ≡ beat_due now self.now }
     {
         self.connection.is_connected()
@@ -158,8 +152,6 @@ impl<A: Allocator> MachineState<A> {
 
     /// Returns the earliest deadline.
     pub(crate) fn deadline(&self) -> Option<Milliseconds>
-        // In Closed and Down there is no deadline. Otherwise it is the time of the timeout check, or that of the
-        // next heartbeat if the end is connected and this is earlier (`deadline_of`).
         ensures { result ≡ deadline_of self.now }
     {
         if !self.connection.is_live() {
@@ -174,8 +166,6 @@ impl<A: Allocator> MachineState<A> {
 
     /// Returns the time at which the timeout check disconnects.
     fn timeout(&self) -> Milliseconds
-        // The time is 0 if the limit of PDUs is reached, otherwise T_max after the last confirmation, and at most
-        // 2^64 - 1 (`timeout_of`).
         ensures { result ≡ timeout_of self.now }
     {
         if self.made >= self.config.pdu_limit {

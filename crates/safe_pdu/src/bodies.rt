@@ -10,8 +10,6 @@ use octets::places::u16_at;
 
 /// Returns whether a body fits a PDU type.
 pub(crate) fn fits_body(kind: Kind, body: &[u8]) -> bool
-    // The result is true if a ConnReq or ConnResp has an opening, a DiscReq 4 bytes, Data and RetrData 45
-    // to 1,206, and others an empty body; else false.
     ensures { result ≡ is_body kind body.now }
 {
     match kind {
@@ -24,8 +22,6 @@ pub(crate) fn fits_body(kind: Kind, body: &[u8]) -> bool
 
 /// Returns whether a body is a version of four digits, an N_sendmax from 1 to 32, and eight zero bytes.
 fn fits_opening(body: &[u8]) -> bool
-    // The result is true for exactly the bodies of 14 bytes with four digits, a number from 1 to 32 and
-    // eight zeros.
     ensures { result ≡ is_opening body.now }
 {
     if body.len() != OPENING_BODY {
@@ -42,7 +38,6 @@ fn fits_opening(body: &[u8]) -> bool
 
 /// Returns whether all bytes are ASCII digits.
 fn are_digits(octets: &[u8]) -> bool
-    // The result is true if and only if each byte is an ASCII digit, 48 to 57.
     ensures { result ≡ list_all is_digit octets.now }
 {
     octets.iter().all(|c| 48 <= *c && *c <= 57)
@@ -50,7 +45,6 @@ fn are_digits(octets: &[u8]) -> bool
 
 /// Returns whether all bytes are zero.
 fn are_zeros(octets: &[u8]) -> bool
-    // The result is true if and only if each byte is zero.
     ensures { result ≡ list_all is_zero octets.now }
 {
     octets.iter().all(|o| *o == 0)

@@ -48,7 +48,6 @@ pub fn decode<'a>(octets: &'a [u8], rule: &CodeRule) -> Result<SafePdu<'a>, Safe
 /// Decodes a safety PDU field by field.
 #[inline(always)]
 fn read_places<'a>(octets: &'a [u8], rule: &CodeRule) -> Result<SafePdu<'a>, SafeFault>
-    // The result is that of `safe_seen`: the fields by their places, or the first fault.
     ensures { seen_of result ≡ safe_seen rule.now octets.now }
 {
     let code_size = rule.length.octets();
@@ -78,7 +77,6 @@ fn read_places<'a>(octets: &'a [u8], rule: &CodeRule) -> Result<SafePdu<'a>, Saf
 #[inline(always)]
 fn view_of<'a>(kind: Kind, octets: &[u8], body: &'a [u8]) -> SafePdu<'a>
     requires { SAFE_HEADER ≤ length octets.now }
-    // Each field is the number at its place, and the body is the one given.
     ensures { pdu_of result ≡ read_as kind octets.now body.entry.now }
 {
     SafePdu {

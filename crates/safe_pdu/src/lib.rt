@@ -188,8 +188,6 @@ impl CodeRule {
 #[inline(always)]
 fn has_words(first: u32, second: u32, octets: &[u8]) -> bool
     requires { 8 ≤ length octets.now }
-    // The result is true if and only if the first 8 bytes are both words, each least significant byte
-    // first.
     ensures { result ≡ bytes_eq (take 8 octets.now) (little_bytes 4 first ++ little_bytes 4 second) }
 {
     (first == u32_at(octets, 0)) & (second == u32_at(octets, 4))

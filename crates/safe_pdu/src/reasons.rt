@@ -119,8 +119,6 @@ impl Detail {
 
 /// Returns the detail with a number beside reason 4.
 fn of_service(number: u16) -> Option<Detail>
-    // The result is `VersionDiffers` for 1, `OutOfOrder` for 2, `NotWellFormed` for 3, and `None` for any
-    // other number.
     ensures { result ≡ service_numbered number }
 {
     match number {
@@ -133,8 +131,6 @@ fn of_service(number: u16) -> Option<Detail>
 
 /// Returns the detail with a number beside reason 7.
 fn of_protocol(number: u16) -> Option<Detail>
-    // The result is `Limit` for 1, `BadUnit` for 2, `ConfirmedNumber` for 3, `ConfirmedTimestamp` for 4,
-    // and `None` for any other number.
     ensures { result ≡ protocol_numbered number }
 {
     match number {

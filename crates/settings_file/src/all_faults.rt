@@ -98,7 +98,6 @@ fn in_file(
     table: Table,
     list: &mut Vec<Finding>,
 ) -> Result<(), AllocError>
-    // If `in_file` succeeds, it has appended all faults of the file's table for the word.
     ensures { OnOk result (map finding_seen list.new.items ≡ map finding_seen list.old.items ++ members_findings word (table_view table)) }
 {
     match word {
@@ -110,8 +109,6 @@ fn in_file(
 
 /// Adds the faults of a file for both ends.
 fn in_pair(alloc: Global, table: Table, list: &mut Vec<Finding>) -> Result<(), AllocError>
-    // If `in_pair` succeeds, it has appended the unknown keys of the file, then the faults of table `il`, then
-    // those of `fe`.
     ensures { OnOk result (map finding_seen list.new.items ≡ map finding_seen list.old.items ++ pair_findings (table_view table)) }
 {
     find_strange(alloc, &table, list)?;
@@ -127,7 +124,6 @@ fn in_named(
     file: &Value,
     list: &mut Vec<Finding>,
 ) -> Result<(), AllocError>
-    // If `in_named` succeeds, it has appended the faults of the side's table, or that the table is missing.
     ensures { OnOk result (map finding_seen list.new.items ≡ map finding_seen list.old.items ++ required_table_findings side (view file.now)) }
 {
     let found = match side {
@@ -148,8 +144,6 @@ fn in_end(
     value: &Value,
     list: &mut Vec<Finding>,
 ) -> Result<(), AllocError>
-    // If `in_end` succeeds, it has appended the unknown keys and the faults of keys, addresses and telegrams in a
-    // table, or that the value is not a table.
     ensures { OnOk result (map finding_seen list.new.items ≡ map finding_seen list.old.items ++ end_findings side named (view value.now)) }
 {
     let Some(table) = value.as_table() else {
@@ -163,7 +157,6 @@ fn in_end(
 
 /// Adds a fault without entry or text.
 fn add(fault: SettingsFault, list: &mut Vec<Finding>) -> Result<(), AllocError>
-    // If `add` succeeds, it has appended the fault, without entry and text.
     ensures { OnOk result (list.new.items ≡ list.old.items ++ record { fault = fault; entry = None; text = None } ∷ []) }
 {
     list.push(Finding {
@@ -181,7 +174,6 @@ fn find_unknown(
     table: &Table,
     list: &mut Vec<Finding>,
 ) -> Result<(), AllocError>
-    // If `find_unknown` succeeds, it has appended each key of the table that no end has, in order.
     ensures { OnOk result (map finding_seen list.new.items ≡ map finding_seen list.old.items ++ unknown_in is_known named (table_view table.now)) }
 {
     for (key, _value) in table {
@@ -194,7 +186,6 @@ fn find_unknown(
 
 /// Adds the keys of a file for both ends that are not tables of ends.
 fn find_strange(alloc: Global, table: &Table, list: &mut Vec<Finding>) -> Result<(), AllocError>
-    // If `find_strange` succeeds, it has appended each key of the table other than `il` and `fe`, in order.
     ensures { OnOk result (map finding_seen list.new.items ≡ map finding_seen list.old.items ++ unknown_in is_end None (table_view table.now)) }
 {
     for (key, _value) in table {
@@ -212,7 +203,6 @@ fn add_unknown(
     key: &str,
     list: &mut Vec<Finding>,
 ) -> Result<(), AllocError>
-    // If `add_unknown` succeeds, it has appended that the key is unknown in this table.
     ensures { OnOk result (map finding_seen list.new.items ≡ map finding_seen list.old.items ++ plain_finding (unknown named key.now) ∷ []) }
 {
     match unknown_fault(alloc, named, key) {
@@ -230,7 +220,6 @@ fn find_plain(
     keys: &[Key],
     list: &mut Vec<Finding>,
 ) -> Result<(), AllocError>
-    // If `find_plain` succeeds, it has appended the fault of each of these `keys` that has one, in order.
     ensures { OnOk result (map finding_seen list.new.items ≡ map finding_seen list.old.items ++ faults_at side named (view table.now) keys.now) }
 {
     let [key, others @ ..] = keys else {
@@ -249,7 +238,6 @@ fn find_at(
     key: Key,
     list: &mut Vec<Finding>,
 ) -> Result<(), AllocError>
-    // If `find_at` succeeds, it has appended the fault at the key with its text, or nothing if the key is valid.
     ensures { OnOk result (map finding_seen list.new.items
         ≡ map finding_seen list.old.items ++ if_any (at_its_key named (view table.now)) (fault_at side (view table.now) key)) }
 {
@@ -261,8 +249,6 @@ fn find_at(
 
 /// Returns the fault at a key that is not a list.
 fn fault_of(side: Side, table: &Value, key: Key) -> Option<KeyFault>
-    // `fault_of` returns the fault at the key of an end of this side, or `None`; if the key depends on another
-    // one, that must be valid.
     ensures { result ≡ fault_at side (view table.now) key }
 {
     match key {
@@ -282,7 +268,6 @@ fn fault_of(side: Side, table: &Value, key: Key) -> Option<KeyFault>
 
 /// Returns the fault at `peer_id`.
 fn peer_fault(table: &Value) -> Option<KeyFault>
-    // `peer_fault` returns the fault of `PeerId`: its own, or that it equals a valid own identifier.
     ensures { result ≡ fault_at side_of.Interlocking (view table.now) key_of.PeerId }
 {
     match (identifier(table, Key::Id), identifier(table, Key::PeerId)) {
@@ -296,7 +281,6 @@ fn peer_fault(table: &Value) -> Option<KeyFault>
 
 /// Returns the fault at `t_h`.
 fn heartbeat_fault(table: &Value) -> Option<KeyFault>
-    // `heartbeat_fault` returns the fault of T_h below a valid T_max, and `None` if T_max is not valid.
     ensures { result ≡ heartbeat_fault (view table.now) (limit_at (view table.now) 0 key_of.TMax) }
 {
     match limit(table, 0, Key::TMax) {
@@ -313,7 +297,6 @@ fn add_at(
     fault: KeyFault,
     list: &mut Vec<Finding>,
 ) -> Result<(), AllocError>
-    // If `add_at` succeeds, it has appended the fault with the short text at its key.
     ensures { OnOk result (map finding_seen list.new.items ≡ map finding_seen list.old.items ++ at_its_key named (view table.now) fault ∷ []) }
 {
     let text = match table.get(fault.key.text()) {
@@ -330,7 +313,6 @@ fn add_at(
 
 /// Copies a value that is a text and not too long to be quoted.
 fn short_text(alloc: Global, value: &Value) -> Result<Option<String>, AllocError>
-    // If `short_text` succeeds, it returns the text of the value if it has at most 80 bytes, and else `None`.
     ensures { IfOk result (λ t. option_map string_bytes t ≡ text_in (view value.now)) }
 {
     match value.as_str() {
@@ -346,8 +328,6 @@ fn find_addresses(
     table: &Value,
     list: &mut Vec<Finding>,
 ) -> Result<(), AllocError>
-    // If `find_addresses` succeeds, it has appended the fault of `local`, then that of `remote`, which must have
-    // as many texts as a valid `local`.
     ensures { OnOk result (map finding_seen list.new.items ≡ map finding_seen list.old.items ++ address_faults named (view table.now)) }
 {
     let local = match addresses(alloc, table, Key::Local) {
@@ -373,8 +353,6 @@ fn find_puts(
     table: &Value,
     list: &mut Vec<Finding>,
 ) -> Result<(), AllocError>
-    // If `find_puts` succeeds, it has appended each entry of `puts` that is not a telegram, or that the value is
-    // not a list.
     ensures { OnOk result (map finding_seen list.new.items ≡ map finding_seen list.old.items ++ put_faults named (view table.now)) }
 {
     let Some(value) = table.get(Key::Puts.text()) else {
@@ -399,7 +377,6 @@ fn find_entries(
     items: &[Value],
     list: &mut Vec<Finding>,
 ) -> Result<(), AllocError>
-    // If `find_entries` succeeds, it has appended each item that is not a telegram, with its number from 1.
     ensures { OnOk result (map finding_seen list.new.items ≡ map finding_seen list.old.items ++ entry_faults named 1 (items_view items.now)) }
 {
     let mut place = 1;
@@ -418,8 +395,6 @@ fn find_entry(
     item: &Value,
     list: &mut Vec<Finding>,
 ) -> Result<(), AllocError>
-    // If `find_entry` succeeds, it has appended the item with its number and short text, or nothing if the item is
-    // a telegram.
     ensures { OnOk result (map finding_seen list.new.items
         ≡ map finding_seen list.old.items ++ (if is_put (view item.now) then [] else at_entry named place (view item.now) ∷ [])) }
 {
@@ -444,7 +419,6 @@ const NO_TELEGRAM: KeyFault = KeyFault {
 
 /// Returns whether an item is a telegram.
 fn is_telegram(alloc: Global, item: &Value) -> Result<bool, AllocError>
-    // If `is_telegram` succeeds, it returns whether the item is a text that spells a telegram.
     ensures { IfOk result (λ is. is ≡ is_put (view item.now)) }
 {
     match item.as_str() {

@@ -25,7 +25,6 @@ use toml::{Table, Value};
 /// Returns the remote addresses, if there are as many as local ones.
 #[tactic(auto, using(crate::proofs::Lengths::length_texts))]
 fn match_addresses(local: &[String], remote: Vec<String>) -> Result<Vec<String>, KeyFault>
-    // `match_addresses` returns the remote addresses if both lists have the same length, and else the fault of `remote`.
     ensures { read_as (λ v. map string_bytes v.items) result
         ≡ as_many (map string_bytes local.now) (map string_bytes remote.items) }
 {
@@ -73,7 +72,6 @@ fn configure(
     limits: &Limits,
     channels: usize,
 ) -> EndConfig
-    // `configure` puts each value of `identity`, `beginning` and `limits` and the number of channels in its place.
     ensures { settings_of result
         ≡ config_of (identity_seen identity.now) (beginning_seen beginning.now) limits.now channels }
 {
@@ -101,7 +99,6 @@ fn configure(
 
 /// Returns whether a key belongs to the identity of an end.
 fn is_identity(key: &str) -> bool
-    // `is_identity` is true for `id`, `peer_id`, `name`, `peer_name` and `protocol`, and for no other key.
     ensures { result ≡ names_identity key.now }
 {
     key == "id" || key == "peer_id" || key == "name" || key == "peer_name" || key == "protocol"
@@ -109,8 +106,6 @@ fn is_identity(key: &str) -> bool
 
 /// Returns whether a key belongs to the values that an end uses to connect.
 fn is_beginning(key: &str) -> bool
-    // `is_beginning` is true for `version`, `versions`, `code`, `checksum`, `iv` and `first_sn`, and for no other
-    // key.
     ensures { result ≡ names_beginning key.now }
 {
     key == "version"
@@ -123,8 +118,6 @@ fn is_beginning(key: &str) -> bool
 
 /// Returns whether a key is a limit.
 fn is_limit(key: &str) -> bool
-    // `is_limit` is true for `n_sendmax`, `n_maxpacket`, `q`, `t_max`, `t_h`, `t_seq`, `mwa` and `pdu_limit`, and
-    // for no other key.
     ensures { result ≡ names_limit key.now }
 {
     key == "n_sendmax"
@@ -139,7 +132,6 @@ fn is_limit(key: &str) -> bool
 
 /// Returns whether a key is a list.
 fn is_list(key: &str) -> bool
-    // `is_list` is true for `local`, `remote` and `puts`, and for no other key.
     ensures { result ≡ names_list key.now }
 {
     key == "local" || key == "remote" || key == "puts"
@@ -163,7 +155,6 @@ pub fn names_end(key: &str) -> bool
 
 /// Returns the first key that no end has.
 fn unknown_key(table: &Table) -> Option<&str>
-    // `unknown_key` returns the first key of the table that no end has, or `None`.
     ensures { option_copied result ≡ first_unknown (table_view table.now) }
 {
     for (key, _value) in table {
@@ -176,7 +167,6 @@ fn unknown_key(table: &Table) -> Option<&str>
 
 /// Returns the first key that is not the table of an end.
 fn strange_key(table: &Table) -> Option<&str>
-    // `strange_key` returns the first key of the table other than `il` and `fe`, or `None`.
     ensures { option_copied result ≡ first_strange (table_view table.now) }
 {
     for (key, _value) in table {
@@ -256,7 +246,6 @@ fn document_fault(text: &str, fault: &toml::de::Error) -> SettingsFault
 /// Returns the line, from 1, of a byte of the text.
 #[tactic(auto, using(std::proofs::lemmas::List::take_all))]
 fn line_of(text: &str, place: usize) -> usize
-    // `line_of` returns 1 plus the number of line feeds before `place`.
     ensures { result ≡ line_at place text.now }
 {
     match text.as_bytes().split_at_checked(place) {
@@ -295,8 +284,6 @@ pub fn word_of(alloc: Global, text: &str) -> Result<Subcommand, SettingsFault>
 
 /// Returns the word that the keys of a table show.
 fn word_shown(file: &Value) -> Subcommand
-    // `word_shown` returns `Pair` for a table with `il` or `fe`, else `Fe` for one with `versions` or `checksum`,
-    // and else `Il`.
     ensures { result ≡ word_in (view file.now) }
 {
     if file.get("il").is_some() || file.get("fe").is_some() {

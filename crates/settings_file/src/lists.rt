@@ -16,7 +16,6 @@ use toml::Value;
 
 /// Copies the texts of a list; `None` if an item is not a text.
 fn texts(alloc: Global, items: &[Value]) -> Result<Option<Vec<String>>, AllocError>
-    // If `texts` succeeds, it returns the texts of all items in order, or `None` if one of them is not a text.
     ensures { IfOk result (λ r. option_map (λ v. map string_bytes v.items) r ≡ texts_of (items_view items.now)) }
 {
     let mut all = Vec::new(alloc);
@@ -32,8 +31,6 @@ fn texts(alloc: Global, items: &[Value]) -> Result<Option<Vec<String>>, AllocErr
 /// Copies one to four texts. It allocates nothing for other lists.
 #[tactic(auto, using(crate::proofs::Lengths::items_length_view))]
 fn read_texts(alloc: Global, items: &[Value]) -> Result<Option<Vec<String>>, AllocError>
-    // If `read_texts` succeeds, it returns the texts of a list of one to four texts, and `None` for any other
-    // list.
     ensures { IfOk result (λ r. option_map (λ v. map string_bytes v.items) r ≡ few_texts (items_view items.now)) }
 {
     if items.is_empty() || items.len() > CHANNELS_MAX {
@@ -98,7 +95,6 @@ pub fn put(alloc: Global, octets: &[u8]) -> Result<Option<PutEntry>, AllocError>
 
 /// Returns the number of two bytes, the most significant one first.
 fn number_of(high: u8, low: u8) -> u16
-    // `number_of` returns 256 times the first byte plus the second.
     ensures { result ≡ high * 256 + low }
 {
     u16::from(high) * 256 + u16::from(low)
@@ -106,8 +102,6 @@ fn number_of(high: u8, low: u8) -> u16
 
 /// Reads the telegrams of a list; `None` if an item is not one.
 fn put_list(alloc: Global, items: &[Value]) -> Result<Option<Vec<PutEntry>>, AllocError>
-    // If `put_list` succeeds, it returns the telegrams of all items in order, or `None` if one of them is not a
-    // telegram.
     ensures { IfOk result (λ r. option_map (λ v. map put_seen v.items) r ≡ puts_of (items_view items.now)) }
 {
     let mut all = Vec::new(alloc);

@@ -97,8 +97,6 @@ pub fn warnings(
 
 /// Adds the warnings of limits.
 fn find_limits(config: &EndConfig, list: &mut Vec<Warning>) -> Result<(), AllocError>
-    // If `find_limits` succeeds, it has appended a warning each for T_seq, `mwa`, the window and T_max, if they
-    // are unwise.
     ensures { OnOk result (list.new.items ≡ list.old.items
         ++ limit_warnings config.now.t_seq config.now.t_max config.now.t_h config.now.mwa config.now.n_sendmax config.now.q) }
 {
@@ -124,7 +122,6 @@ fn find_limits(config: &EndConfig, list: &mut Vec<Warning>) -> Result<(), AllocE
 
 /// Returns whether what can come after one lost datagram is more than the deferral queue holds.
 fn overruns(window: u64, mwa: u64, q: u64) -> bool
-    // `exceeds_q` is true if and only if the other units of the window and its heartbeats are more than `q`.
     ensures { result ≡ exceeds_q window mwa q }
 {
     let others = window.saturating_sub(1);
@@ -136,7 +133,6 @@ fn overruns(window: u64, mwa: u64, q: u64) -> bool
 
 /// Returns how many heartbeats confirm the units of a full window.
 fn heartbeats(window: u64, mwa: u64) -> u64
-    // `heartbeats` returns the window divided by `mwa`, rounded down, and 0 if `mwa` is 0.
     ensures { result ≡ heartbeats_of window mwa }
 {
     if mwa == 0 { 0 } else { window / mwa }
@@ -144,7 +140,6 @@ fn heartbeats(window: u64, mwa: u64) -> u64
 
 /// Returns whether a single loss can end the connection.
 fn ends_early(t_max: Milliseconds, t_h: Milliseconds, t_seq: Milliseconds) -> bool
-    // `is_t_max_short` is true if and only if T_max is below three T_h and T_seq.
     ensures { result ≡ is_t_max_short t_max t_h t_seq }
 {
     let Some(beats) = t_h.checked_mul(3) else {
@@ -163,8 +158,6 @@ fn find_identity(
     settings: &Settings,
     list: &mut Vec<Warning>,
 ) -> Result<(), AllocError>
-    // If `find_identity` succeeds, it has appended a warning each for equal names, a checksum of an interlocking,
-    // and a fixed first sequence number of an end that is opened again.
     ensures { OnOk result (list.new.items ≡ list.old.items ++ identity_warnings side keep (owned_characters settings.now.config.name)
         (owned_characters settings.now.config.peer_name) (checksum_in settings.now.config.checksum) settings.now.first_sn) }
 {
@@ -184,7 +177,6 @@ fn find_identity(
 
 /// Returns whether a checksum is never sent.
 fn is_unsent(side: Side, checksum: &[u8]) -> bool
-    // `is_unsent` is true if and only if an interlocking has a checksum that is not empty.
     ensures { result ≡ is_unsent side checksum.now }
 {
     match side {
@@ -195,7 +187,6 @@ fn is_unsent(side: Side, checksum: &[u8]) -> bool
 
 /// Adds the warning of a fixed first sequence number.
 fn find_number(keep: bool, first_sn: Option<u32>, list: &mut Vec<Warning>) -> Result<(), AllocError>
-    // If `find_number` succeeds, it has appended a warning if the number is fixed and the end is opened again.
     ensures { OnOk result (list.new.items ≡ list.old.items ++ number_warnings keep first_sn) }
 {
     match first_sn {
@@ -211,7 +202,6 @@ fn find_addresses(
     list: &mut Vec<Warning>,
 ) -> Result<(), AllocError>
     requires { (1 + length local.now < 2 ^ 64) × (1 + length remote.now < 2 ^ 64) }
-    // If `find_addresses` succeeds, it has appended the warnings of ports, of repeated addresses and of channels.
     ensures { OnOk result (list.new.items ≡ list.old.items
         ++ address_warnings (map string_bytes local.now) (map string_bytes remote.now)) }
 {
@@ -225,8 +215,6 @@ fn find_addresses(
 /// Adds a warning for each telegram with a payload that is too long. A loop, since there may be as many as a file has
 /// room for.
 fn find_long(puts: &[PutEntry], list: &mut Vec<Warning>) -> Result<(), AllocError>
-    // If `find_long` succeeds, it has appended a warning for each telegram with more than 357 bytes of payload,
-    // with its number from 1.
     ensures { OnOk result (list.new.items ≡ list.old.items ++ long_payloads 1 (map put_seen puts.now)) }
 {
     let mut entry = 1;
@@ -244,7 +232,6 @@ fn find_long(puts: &[PutEntry], list: &mut Vec<Warning>) -> Result<(), AllocErro
 
 /// Adds a warning to a list, if the condition holds.
 fn add_if(is_so: bool, warning: Warning, list: &mut Vec<Warning>) -> Result<(), AllocError>
-    // If `add_if` succeeds, it has appended the warning, or nothing if the condition is false.
     ensures { OnOk result (list.new.items ≡ list.old.items ++ if_so is_so warning) }
 {
     if is_so {
@@ -261,8 +248,6 @@ fn find_ports(
     list: &mut Vec<Warning>,
 ) -> Result<(), AllocError>
     requires { place + length texts.now < 2 ^ 64 }
-    // If `find_ports` succeeds, it has appended a warning for each text that ends in port 0, numbered from
-    // `place`.
     ensures { OnOk result (list.new.items ≡ list.old.items ++ port_warnings key place (map string_bytes texts.now)) }
 {
     let [text, others @ ..] = texts else {
@@ -278,7 +263,6 @@ fn find_ports(
 
 /// Returns whether an address has the port 0.
 fn has_no_port(text: &[u8]) -> bool
-    // `has_no_port` is true if and only if the text ends in `:0`.
     ensures { result ≡ names_no_port text.now }
 {
     let size = text.len();
@@ -293,8 +277,6 @@ fn find_repeats(
     list: &mut Vec<Warning>,
 ) -> Result<(), AllocError>
     requires { place + length texts.now < 2 ^ 64 }
-    // If `find_repeats` succeeds, it has appended a warning for each text that occurs again later in the list,
-    // numbered from `place`.
     ensures { OnOk result (list.new.items ≡ list.old.items ++ repeat_warnings key place (map string_bytes texts.now)) }
 {
     let [text, others @ ..] = texts else {
@@ -310,7 +292,6 @@ fn find_repeats(
 
 /// Returns whether a text is in a list.
 fn is_listed(text: &str, others: &[String]) -> bool
-    // `is_listed` is true if and only if one of the other texts has the same bytes.
     ensures { result ≡ contains_text text.now (map string_bytes others.now) }
 {
     match others {
@@ -327,8 +308,6 @@ fn find_channels(
     list: &mut Vec<Warning>,
 ) -> Result<(), AllocError>
     requires { channel + length local.now < 2 ^ 64 }
-    // If `find_channels` succeeds, it has appended, for each channel with both addresses, a warning if they are
-    // equal and one if they are of two kinds.
     ensures { OnOk result (list.new.items ≡ list.old.items
         ++ channel_warnings channel (map string_bytes local.now) (map string_bytes remote.now)) }
 {
@@ -353,7 +332,6 @@ fn find_channels(
 
 /// Returns whether one address is of IPv4 and one of IPv6.
 fn are_two_kinds(own: &[u8], peer: &[u8]) -> bool
-    // `are_two_kinds` is true if and only if exactly one of the two texts begins with a bracket.
     ensures { result ≡ are_two_kinds own.now peer.now }
 {
     if is_in_brackets(own) {
@@ -365,7 +343,6 @@ fn are_two_kinds(own: &[u8], peer: &[u8]) -> bool
 
 /// Returns whether an address is in brackets, as addresses of IPv6 are.
 fn is_in_brackets(text: &[u8]) -> bool
-    // `is_in_brackets` is true if and only if the text begins with `[`.
     ensures { result ≡ is_v6 text.now }
 {
     0 < text.len() && text[0] == b'['

@@ -188,7 +188,6 @@ pub fn initial_value(table: &Value) -> Result<[u32; 4], KeyFault>
 
 /// Reads at most 16 bytes of hex digits.
 fn short(text: &str) -> Option<Checksum>
-    // `short` returns the bytes that the text spells in hex digits, at most 16, and else `None`.
     ensures { option_map checksum_in result ≡ short_octets text.now }
 {
     let mut room = [0u8; CHECKSUM_MAX];
@@ -226,7 +225,6 @@ pub fn checksum(table: &Value) -> Result<Checksum, KeyFault>
 
 /// Returns whether a number is among others.
 fn is_among(number: u8, others: &[u8]) -> bool
-    // `is_among` is true if and only if one of the others equals the number.
     ensures { result ≡ contains_number number others.now }
 {
     match others {
@@ -237,7 +235,6 @@ fn is_among(number: u8, others: &[u8]) -> bool
 
 /// Returns whether no two numbers are equal.
 fn all_differ(numbers: &[u8]) -> bool
-    // `all_differ` is true if and only if no number occurs again later in the list.
     ensures { result ≡ are_different numbers.now }
 {
     match numbers {
@@ -249,7 +246,6 @@ fn all_differ(numbers: &[u8]) -> bool
 /// Reads a list of numbers of one byte.
 fn octet_list(items: &[Value]) -> Option<ArrayVec<u8, VERSIONS_MAX>>
     requires { length items.now ≤ VERSIONS_MAX }
-    // `octet_list` returns the numbers of all items in order, or `None` if one is not a number from 0 to 255.
     ensures { option_map (λ v. v.items) result ≡ octets_of (items_view items.now) }
 {
     let mut list = ArrayVec::new();
@@ -266,8 +262,6 @@ fn octet_list(items: &[Value]) -> Option<ArrayVec<u8, VERSIONS_MAX>>
 /// Reads one to four numbers of one byte.
 #[tactic(auto, using(crate::proofs::Lengths::items_length_view))]
 fn collect_versions(items: &[Value]) -> Option<ArrayVec<u8, VERSIONS_MAX>>
-    // `collect_versions` returns the numbers of a list of one to four items, each from 0 to 255, and `None` for
-    // any other list.
     ensures { option_map (λ v. v.items) result ≡ few_octets (items_view items.now) }
 {
     if items.is_empty() || items.len() > VERSIONS_MAX {
@@ -279,7 +273,6 @@ fn collect_versions(items: &[Value]) -> Option<ArrayVec<u8, VERSIONS_MAX>>
 /// Returns the versions, if no two are equal.
 fn if_differing(list: &[u8]) -> Option<Versions>
     requires { length list.now ≤ VERSIONS_MAX }
-    // `if_differing` returns the versions of the list if no two are equal, and else `None`.
     ensures { option_map versions_in result ≡ if_different list.now }
 {
     if all_differ(list) {
@@ -291,8 +284,6 @@ fn if_differing(list: &[u8]) -> Option<Versions>
 
 /// Reads one to four different numbers of one byte.
 fn different(value: &Value) -> Option<Versions>
-    // `different` returns the versions of an array of one to four different numbers from 0 to 255, and `None` for
-    // any other value.
     ensures { option_map versions_in result ≡ option_and_then different_octets (as_array (view value.now)) }
 {
     let items = value.as_array()?;
@@ -302,7 +293,6 @@ fn different(value: &Value) -> Option<Versions>
 
 /// Reads `version`; 1 if the key is missing.
 fn one(table: &Value) -> Result<Versions, KeyFault>
-    // `one` returns the one version at `version`, 1 without the key, or the fault of its range.
     ensures { read_as versions_in result ≡ one_version (view table.now) }
 {
     let number = octet(table, Key::Version, 1)?;
@@ -311,8 +301,6 @@ fn one(table: &Value) -> Result<Versions, KeyFault>
 
 /// Reads the version of an interlocking.
 fn for_interlocking(table: &Value) -> Result<Versions, KeyFault>
-    // `for_interlocking` returns the one version, or the fault that an interlocking must not have the key
-    // `versions`.
     ensures { read_as versions_in result ≡ il_versions (view table.now) }
 {
     if table.get(Key::Versions.text()).is_some() {
@@ -323,8 +311,6 @@ fn for_interlocking(table: &Value) -> Result<Versions, KeyFault>
 
 /// Reads the versions of a field element, from one of the two keys.
 fn for_field_element(table: &Value) -> Result<Versions, KeyFault>
-    // `for_field_element` returns the list at `versions`, beside which `version` must be absent; without that key
-    // the one version.
     ensures { read_as versions_in result ≡ fe_versions (view table.now) }
 {
     let Some(value) = table.get(Key::Versions.text()) else {

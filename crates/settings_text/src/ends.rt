@@ -34,7 +34,6 @@ pub fn write_settings<W: Write>(writer: &mut W, ends: &Ends) -> io::Result<()>
 /// Writes the words of the program that take such a file.
 #[tactic(auto, unfolding(crate::specs::InForce::head_text))]
 fn write_head<W: Write>(writer: &mut W, ends: &Ends) -> io::Result<()>
-    // If it succeeds, `write_head` has appended the comment with the words that take a file for these ends.
     ensures { OnOk result (Appends (W.contents writer.old) (W.contents writer.new) (head_text (ends_seen ends.now))) }
 {
     match ends {
@@ -47,7 +46,6 @@ fn write_head<W: Write>(writer: &mut W, ends: &Ends) -> io::Result<()>
 /// Writes the lines of all ends.
 #[tactic(auto, unfolding(crate::specs::InForce::all_lines))]
 fn write_ends<W: Write>(writer: &mut W, ends: &Ends) -> io::Result<()>
-    // If it succeeds, `write_ends` has appended the lines of the end or of both ends.
     ensures { OnOk result (Appends (W.contents writer.old) (W.contents writer.new) (all_lines (ends_seen ends.now))) }
 {
     match ends {
@@ -63,7 +61,6 @@ fn write_ends<W: Write>(writer: &mut W, ends: &Ends) -> io::Result<()>
 /// Writes the lines of an end.
 #[tactic(auto, unfolding(crate::specs::InForce::end_lines))]
 fn write_end<W: Write>(writer: &mut W, named: Option<Side>, settings: &Settings) -> io::Result<()>
-    // If it succeeds, `write_end` has appended the lines of the end's keys.
     ensures { OnOk result (Appends (W.contents writer.old) (W.contents writer.new) (end_lines named (settings_seen settings.now))) }
 {
     write_identity(writer, named, &settings.config)?;
@@ -100,7 +97,6 @@ fn write_identity<W: Write>(
     named: Option<Side>,
     config: &EndConfig,
 ) -> io::Result<()>
-    // If it succeeds, `write_identity` has appended the lines from `id` to `protocol`.
     ensures { OnOk result (Appends (W.contents writer.old) (W.contents writer.new) (identity_lines named (settings_of config.now))) }
 {
     write_number(writer, named, Key::Id, u64::from(config.id))?;
@@ -123,7 +119,6 @@ fn write_beginning<W: Write>(
     config: &EndConfig,
     first_sn: Option<u32>,
 ) -> io::Result<()>
-    // If it succeeds, `write_beginning` has appended the lines from the versions to `first_sn`.
     ensures { OnOk result (Appends (W.contents writer.old) (W.contents writer.new)
         (beginning_lines named (settings_of config.now) first_sn)) }
 {
@@ -136,7 +131,6 @@ fn write_beginning<W: Write>(
 
 /// Returns the size of the safety code that an end has with this setting.
 fn code_size(code: u64) -> u64
-    // `code_size` returns 8 or 16 for these numbers, and 0 for any other: no code.
     ensures { result ≡ code_octets (code_of code) }
 {
     match code {
@@ -154,7 +148,6 @@ fn write_channels<W: Write>(
     local: &[String],
     remote: &[String],
 ) -> io::Result<()>
-    // If it succeeds, `write_channels` has appended the lines of `local` and `remote`.
     ensures { OnOk result (Appends (W.contents writer.old) (W.contents writer.new)
         (address_lines named (map string_bytes local.now) (map string_bytes remote.now))) }
 {
@@ -165,7 +158,6 @@ fn write_channels<W: Write>(
 /// Writes the lines of limits.
 #[tactic(auto, unfolding(crate::specs::InForce::limit_lines))]
 fn write_limits<W: Write>(writer: &mut W, named: Option<Side>, config: &EndConfig) -> io::Result<()>
-    // If it succeeds, `write_limits` has appended the lines of the eight limits.
     ensures { OnOk result (Appends (W.contents writer.old) (W.contents writer.new) (limit_lines named (settings_of config.now))) }
 {
     write_counts(writer, named, config)?;
@@ -177,7 +169,6 @@ fn write_limits<W: Write>(writer: &mut W, named: Option<Side>, config: &EndConfi
 /// Writes the lines of limits that count.
 #[tactic(auto, unfolding(crate::specs::InForce::count_lines))]
 fn write_counts<W: Write>(writer: &mut W, named: Option<Side>, config: &EndConfig) -> io::Result<()>
-    // If it succeeds, `write_counts` has appended the lines of `n_sendmax`, `n_maxpacket` and `q`.
     ensures { OnOk result (Appends (W.contents writer.old) (W.contents writer.new) (count_lines named (settings_of config.now))) }
 {
     write_number(writer, named, Key::NSendmax, config.n_sendmax)?;
@@ -188,7 +179,6 @@ fn write_counts<W: Write>(writer: &mut W, named: Option<Side>, config: &EndConfi
 /// Writes the lines of times.
 #[tactic(auto, unfolding(crate::specs::InForce::time_lines))]
 fn write_times<W: Write>(writer: &mut W, named: Option<Side>, config: &EndConfig) -> io::Result<()>
-    // If it succeeds, `write_times` has appended the lines of `t_max`, `t_h` and `t_seq`.
     ensures { OnOk result (Appends (W.contents writer.old) (W.contents writer.new) (time_lines named (settings_of config.now))) }
 {
     write_number(writer, named, Key::TMax, config.t_max)?;

@@ -35,7 +35,6 @@ pub fn write_versions<W: Write>(
 
 /// Writes numbers with commas between them.
 fn write_numbers<W: Write>(writer: &mut W, numbers: &[u8]) -> io::Result<()>
-    // If it succeeds, `write_numbers` has appended the numbers in decimal, with commas between them.
     ensures { OnOk result (Appends (W.contents writer.old) (W.contents writer.new) (numbers_text numbers.now)) }
 {
     let [first, others @ ..] = numbers else {
@@ -47,7 +46,6 @@ fn write_numbers<W: Write>(writer: &mut W, numbers: &[u8]) -> io::Result<()>
 
 /// Writes numbers, each after a comma.
 fn write_later_numbers<W: Write>(writer: &mut W, numbers: &[u8]) -> io::Result<()>
-    // If it succeeds, `write_later_numbers` has appended each number after a comma.
     ensures { OnOk result (Appends (W.contents writer.old) (W.contents writer.new) (all_texts later_number numbers.now)) }
 {
     for number in numbers {
@@ -58,7 +56,6 @@ fn write_later_numbers<W: Write>(writer: &mut W, numbers: &[u8]) -> io::Result<(
 
 /// Writes a number after a comma.
 fn write_later_number<W: Write>(writer: &mut W, number: u8) -> io::Result<()>
-    // If it succeeds, `write_later_number` has appended a comma and the number.
     ensures { OnOk result (Appends (W.contents writer.old) (W.contents writer.new) (later_number number)) }
 {
     write!(writer, ", {number}")
@@ -84,7 +81,6 @@ pub fn write_addresses<W: Write>(
 
 /// Writes texts in quotes, with commas between them.
 fn write_texts<W: Write>(writer: &mut W, texts: &[String]) -> io::Result<()>
-    // If it succeeds, `write_texts` has appended the texts in quotes, with commas between them.
     ensures { OnOk result (Appends (W.contents writer.old) (W.contents writer.new) (addresses_text (map string_bytes texts.now))) }
 {
     let [first, others @ ..] = texts else {
@@ -97,7 +93,6 @@ fn write_texts<W: Write>(writer: &mut W, texts: &[String]) -> io::Result<()>
 
 /// Writes texts in quotes, each after a comma.
 fn write_later_texts<W: Write>(writer: &mut W, texts: &[String]) -> io::Result<()>
-    // If it succeeds, `write_later_texts` has appended each text in quotes, after a comma.
     ensures { OnOk result (Appends (W.contents writer.old) (W.contents writer.new)
         (all_texts later_address (map string_bytes texts.now))) }
 {
@@ -109,7 +104,6 @@ fn write_later_texts<W: Write>(writer: &mut W, texts: &[String]) -> io::Result<(
 
 /// Writes a text in quotes, after a comma.
 fn write_later_text<W: Write>(writer: &mut W, text: &String) -> io::Result<()>
-    // If it succeeds, `write_later_text` has appended a comma and the text in quotes.
     ensures { OnOk result (Appends (W.contents writer.old) (W.contents writer.new) (later_address (string_bytes text.now))) }
 {
     let text = text.as_str();
@@ -135,7 +129,6 @@ pub fn write_puts<W: Write>(
 
 /// Writes telegrams with commas between them.
 fn write_telegrams<W: Write>(writer: &mut W, puts: &[PutEntry]) -> io::Result<()>
-    // If it succeeds, `write_telegrams` has appended the telegrams with commas between them.
     ensures { OnOk result (Appends (W.contents writer.old) (W.contents writer.new) (puts_text (map put_seen puts.now))) }
 {
     let [first, others @ ..] = puts else {
@@ -147,7 +140,6 @@ fn write_telegrams<W: Write>(writer: &mut W, puts: &[PutEntry]) -> io::Result<()
 
 /// Writes telegrams, each after a comma. A loop, since there may be as many as a file has room for.
 fn write_later_puts<W: Write>(writer: &mut W, puts: &[PutEntry]) -> io::Result<()>
-    // If it succeeds, `write_later_puts` has appended each telegram after a comma.
     ensures { OnOk result (Appends (W.contents writer.old) (W.contents writer.new)
         (all_texts later_put (map put_seen puts.now))) }
 {
@@ -159,7 +151,6 @@ fn write_later_puts<W: Write>(writer: &mut W, puts: &[PutEntry]) -> io::Result<(
 
 /// Writes a telegram after a comma.
 fn write_later_put<W: Write>(writer: &mut W, put: &PutEntry) -> io::Result<()>
-    // If it succeeds, `write_later_put` has appended a comma and the telegram.
     ensures { OnOk result (Appends (W.contents writer.old) (W.contents writer.new) (later_put (put_seen put.now))) }
 {
     write_text(writer, ", ")?;
@@ -169,8 +160,6 @@ fn write_later_put<W: Write>(writer: &mut W, put: &PutEntry) -> io::Result<()>
 /// Writes a telegram in quotes.
 #[tactic(auto, unfolding(crate::specs::InForce::put_text))]
 fn write_put<W: Write>(writer: &mut W, put: &PutEntry) -> io::Result<()>
-    // If it succeeds, `write_put` has appended the message type and the payload in hex digits, with a colon
-    // between them, in quotes.
     ensures { OnOk result (Appends (W.contents writer.old) (W.contents writer.new) (put_text (put_seen put.now))) }
 {
     write_text(writer, "\"")?;

@@ -14,7 +14,6 @@ use std::io::Write;
 
 /// Returns what is before a key of this table.
 fn table_name(named: Option<Side>) -> &'static str
-    // `table_name` returns the table with a dot, and nothing without a table.
     ensures { result.now ≡ table_text named }
 {
     match named {
@@ -102,7 +101,6 @@ pub fn write_initial_value<W: Write>(
 
 /// Writes words in hex digits.
 fn write_words<W: Write>(writer: &mut W, words: &[u32]) -> io::Result<()>
-    // If it succeeds, `write_words` has appended the words in hex digits, the least significant byte of each first.
     ensures { OnOk result (Appends (W.contents writer.old) (W.contents writer.new) (all_texts word_text words.now)) }
 {
     for word in words {
@@ -113,7 +111,6 @@ fn write_words<W: Write>(writer: &mut W, words: &[u32]) -> io::Result<()>
 
 /// Writes a word in hex digits.
 fn write_word<W: Write>(writer: &mut W, word: u32) -> io::Result<()>
-    // If it succeeds, `write_word` has appended the word in hex digits, the least significant byte first.
     ensures { OnOk result (Appends (W.contents writer.old) (W.contents writer.new) (word_text word)) }
 {
     write_hex(writer, &word.to_le_bytes())

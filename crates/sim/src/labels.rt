@@ -169,7 +169,6 @@ fn first_from<A: Allocator>(
 
 /// Returns `true` if a line has named a PDU.
 fn is_named<A: Allocator>(il: &MadePdus<A>, fe: &MadePdus<A>, label: Label) -> bool
-    // The result is that of the PDU with this `label` among those of its end (`is_named_among`).
     ensures { result ≡ is_named_among il.now fe.now label }
 {
     match label.side {

@@ -319,7 +319,6 @@ impl<W: Write + Drop, A: Allocator + Copy> Trace<W, A> {
 
 /// Returns `Output` if a writer failed.
 fn check_written(answer: io::Result<()>) -> Result<(), ScriptLineFault>
-    // The result is an error exactly if the `answer` of the writer is one, and then it is `Output`.
     ensures { MatchResult result (λ _. IsOk answer) (λ fault. (fault ≡ ScriptLineFault.Output) × IsErr answer) }
 {
     match answer {

@@ -175,7 +175,6 @@ fn label_place(digits: &str) -> usize {
 
 /// Returns `true` if a word has only decimal digits.
 fn is_digits(word: &str) -> bool
-    // The result is true exactly if each byte of the `word` is an ASCII digit; an empty word counts.
     ensures { result ≡ list_all is_ascii_digit word.now }
 {
     word.as_bytes().iter().all(|octet| is_digit(*octet))
@@ -183,7 +182,6 @@ fn is_digits(word: &str) -> bool
 
 /// Returns `true` for a decimal digit.
 fn is_digit(octet: u8) -> bool
-    // The result is true exactly for the bytes of the digits 0 to 9.
     ensures { result ≡ is_ascii_digit octet }
 {
     octet.is_ascii_digit()

@@ -41,8 +41,6 @@ const VERSION: usize = SAFE_HEADER + MESSAGE_LENGTH + MESSAGE_MIN + 1;
 
 /// Returns the departure of an end that disconnects by itself, or `None` if it does not.
 pub(crate) fn own_departure(why: Option<(Reason, Detail)>, now: Milliseconds) -> Option<Departure>
-    // If there is a reason, the result is a departure by this end, at `now`, with the numbers of that reason and
-    // detail.
     ensures { result ≡ own_departure why now }
 {
     match why {
@@ -53,7 +51,6 @@ pub(crate) fn own_departure(why: Option<(Reason, Detail)>, now: Milliseconds) ->
 
 /// Returns the departure of an end that disconnects by itself for a reason.
 fn own_leaving(reason: Reason, detail: Detail, now: Milliseconds) -> Departure
-    // The departure is by this end, at the given time, and has the numbers of `reason` and `detail`.
     ensures { result ≡ own_leaving (reason, detail) now }
 {
     Departure {
@@ -67,8 +64,6 @@ fn own_leaving(reason: Reason, detail: Detail, now: Milliseconds) -> Departure
 
 /// Returns the departure of an end that disconnects since its session has ended, or a message could not be read.
 fn asked_leaving(reason: Reason, detail: Detail, octets: &[u8], now: Milliseconds) -> Departure
-    // The departure is by this end, at the given time, with the numbers of `reason` and `detail`. Only if the versions
-    // differ does it have the version from the part's first message.
     ensures { result ≡ asked_leaving (reason, detail) octets.now now }
 {
     let mut departure = own_leaving(reason, detail, now);
@@ -81,7 +76,6 @@ fn asked_leaving(reason: Reason, detail: Detail, octets: &[u8], now: Millisecond
 
 /// Returns the version in a part whose unit begins with the reply to a version check.
 fn version_in(octets: &[u8]) -> Option<u8>
-    // The result is the byte at the version's place, or `None` if the part ends before it.
     ensures { result ≡ version_in octets.now }
 {
     if octets.len() <= VERSION {
@@ -93,8 +87,6 @@ fn version_in(octets: &[u8]) -> Option<u8>
 
 /// Returns the departure of an end whose peer has disconnected, from the bytes of the peer's DiscReq.
 fn peer_leaving(octets: &[u8], now: Milliseconds) -> Departure
-    // The departure is by the peer. Its detail is in the two bytes after the PDU's header, and its reason in the next
-    // two.
     ensures { result ≡ peer_leaving octets.now now }
 {
     Departure {
@@ -109,7 +101,6 @@ fn peer_leaving(octets: &[u8], now: Milliseconds) -> Departure
 /// Returns the little-endian number in the two bytes from a place on.
 pub(crate) fn number_at(octets: &[u8], place: usize) -> u16
     requires { place ≤ 1000 }
-    // The result is the number in the bytes at `place` and `place + 1`, or 0 if the bytes end before.
     ensures { result ≡ number_at place octets.now }
 {
     if octets.len() < place + 2 {
@@ -121,7 +112,6 @@ pub(crate) fn number_at(octets: &[u8], place: usize) -> u16
 
 /// Returns why an end disconnects that its user closes, or `None` if it is closed already.
 pub(crate) fn user_leaves(state: ConnectionState) -> Option<(Reason, Detail)>
-    // In every state but Closed the reason is 0 (closed by the user), without a detail.
     ensures { result ≡ (if is_closed state then None else Some (ClosedByUser, Unspecified)) }
 {
     match state {
@@ -132,7 +122,6 @@ pub(crate) fn user_leaves(state: ConnectionState) -> Option<(Reason, Detail)>
 
 /// Returns true if a connection has been closed between two states.
 pub(crate) fn closes(before: ConnectionState, after: ConnectionState) -> bool
-    // True if and only if the state was not Closed before and is Closed after.
     ensures { result ≡ (not (is_closed before) && is_closed after) }
 {
     match (before, after) {
@@ -151,8 +140,6 @@ pub(crate) fn part_departure(
     octets: &[u8],
     now: Milliseconds,
 ) -> Option<Departure>
-    // If the machine disconnects, its reason counts; if not, that of the session, with the peer's version if the
-    // versions differ. If neither does and the part has closed the machine (`shut`), the peer's DiscReq counts.
     ensures { result ≡ part_departure step asked shut octets.now now }
 {
     match (step, asked) {

@@ -601,7 +601,6 @@ impl<C: Channels, A: Allocator> End<C, A> {
 
 /// Returns the earlier of two deadlines.
 fn earliest(one: Option<Milliseconds>, other: Option<Milliseconds>) -> Option<Milliseconds>
-    // The result is the smaller of both deadlines, or the only one.
     ensures { result ≡ earliest one other }
 {
     match (one, other) {

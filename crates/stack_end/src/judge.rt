@@ -238,8 +238,6 @@ fn judge_other<A: Allocator, T: Taker>(
 
 /// Returns the reason and detail with which an end disconnects when its session ends.
 fn for_session(detail: SessionDetail) -> (Reason, Detail)
-    // The reason is 4 (service not allowed), with the detail of the session; a telegram of another pair counts as not
-    // well formed.
     ensures { result ≡ for_session detail }
 {
     match detail {

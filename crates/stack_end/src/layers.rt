@@ -88,7 +88,6 @@ impl<C: Channels, A: Allocator> Layers<C, A> {
 
     /// Returns whether parts are deferred and T_seq has passed for them.
     pub(crate) fn is_due(&self, now: Milliseconds) -> bool
-        // The result is true if and only if parts are deferred and their deadline is `now` or earlier.
         ensures { result ≡ is_due now self.now.red }
     {
         match self.red.deadline() {

@@ -21,7 +21,6 @@ pub(crate) struct EndMoment {
 
 /// Notes the state of an end that was opened.
 pub(crate) fn report_opened<C: Channels>(channels: &mut C, state: ConnectionState)
-    // The note of an opening changes nothing that `told` shows of the channels.
     ensures { C.told channels.new ≡ C.told channels.old }
 {
     channels.note(&Note::State(state));
@@ -29,7 +28,6 @@ pub(crate) fn report_opened<C: Channels>(channels: &mut C, state: ConnectionStat
 
 /// Notes what the redundancy layer did with a datagram.
 pub(crate) fn report_event<C: Channels>(channels: &mut C, octets: &[u8], event: RedEvent)
-    // The note of a datagram changes nothing that `told` shows of the channels.
     ensures { C.told channels.new ≡ C.told channels.old }
 {
     if !channels.hears_notes() {
@@ -53,7 +51,6 @@ pub(crate) fn report_step<C: Channels>(
     phase: Phase,
     judged: &JudgedMessages,
 )
-    // The notes of a part and its messages change nothing that `told` shows of the channels.
     ensures { C.told channels.new ≡ C.told channels.old }
 {
     if !channels.hears_notes() {
@@ -84,7 +81,6 @@ pub(crate) fn report_step<C: Channels>(
 
 /// Notes a telegram that was taken.
 fn report_take<C: Channels>(channels: &mut C, message: &[u8])
-    // The note of a taken telegram changes nothing that `told` shows of the channels.
     ensures { C.told channels.new ≡ C.told channels.old }
 {
     if let Ok(telegram) = pdi_session::telegram::decode(message) {
@@ -94,7 +90,6 @@ fn report_take<C: Channels>(channels: &mut C, message: &[u8])
 
 /// Notes state and phase, each if it has changed.
 pub(crate) fn report_change<C: Channels>(channels: &mut C, before: EndMoment, after: EndMoment)
-    // The notes of a new state and phase change nothing that `told` shows of the channels.
     ensures { C.told channels.new ≡ C.told channels.old }
 {
     if !channels.hears_notes() {

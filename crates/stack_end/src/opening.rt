@@ -155,7 +155,6 @@ fn open_machine<C: Channels, A: Allocator>(
 /// Creates the session of an end with these settings.
 fn session(config: &EndConfig, side: Side) -> Session
     requires { has_versions (side_of side) (settings_of config.now) ≡ true }
-    // The session is in its first phase, for the names, protocol type, versions and checksum of the settings.
     ensures { result ≡ session_opened (settings_of config.now).addressing
         (session_of (side_of side) (settings_of config.now)) }
 {
@@ -176,7 +175,6 @@ fn session(config: &EndConfig, side: Side) -> Session
 
 /// Creates the session of an interlocking, which uses the first of its versions.
 fn interlocking(parties: Parties, versions: &[u8]) -> Session
-    // The session is that of an interlocking with these names that asks for the first of `versions`.
     ensures { result ≡ session_opened (addressing_of parties) (Interlocking (first_version versions.now)) }
 {
     let version = match versions {
@@ -191,7 +189,6 @@ fn field(parties: Parties, versions: &[u8], checksum: &[u8]) -> Session
     requires versions { AreVersions versions.now }
     requires few { length versions.now ≤ VERSIONS_MAX }
     requires short { length checksum.now ≤ CHECKSUM_MAX }
-    // The session is that of a field element with these names, which accepts `versions` and has this `checksum`.
     ensures { result ≡ session_opened (addressing_of parties) (Field versions.now checksum.now) }
 {
     Session::field(FieldConfig {

@@ -57,8 +57,6 @@ impl<'a, 'b, 'c, C: Channels> PduOut for ToChannels<'a, 'b, 'c, C> {
 fn send_by<C: Channels>(channels: &mut C, count: usize, number: u32, pdu: &[u8], buffer: &mut [u8])
     requires fits { length pdu.now ≤ SAFE_PDU_MAX }
     requires room { RED_HEADER + length pdu.now ≤ length buffer.old }
-    // The PDU goes out under its redundancy number on channels 1 to `count`, in this order; a send that fails is
-    // counted.
     ensures { FoldsTo SendsOne (C.told channels.old) (on_channels count (red_text number pdu.now)) (C.told channels.new) }
 {
     let size = red_layer::pdu::encode(number, pdu, buffer);
@@ -67,7 +65,6 @@ fn send_by<C: Channels>(channels: &mut C, count: usize, number: u32, pdu: &[u8],
 
 /// Sends a datagram on every channel in order. A failed send is a lost copy, and sending goes on.
 fn send_on_all<C: Channels>(channels: &mut C, count: usize, datagram: &[u8])
-    // Exactly this datagram is sent on channels 1 to `count`, in this order, also after a send that failed.
     ensures { FoldsTo SendsOne (C.told channels.old) (on_channels count datagram.now) (C.told channels.new) }
 {
     for channel in 0..count {

@@ -55,7 +55,6 @@ impl MadeCounts {
 
     /// Counts one PDU more in place. Those that open or end a connection are not counted.
     fn count_kind(&mut self, kind: Kind)
-        // In place: the count of this type grows by 1, modulo 2^64, and the others stay.
         ensures { self.new ≡ statistics.with_kind kind self.old }
     {
         match kind {
@@ -70,7 +69,6 @@ impl MadeCounts {
 
     /// Counts the PDU of these bytes by the type in its header.
     pub(crate) fn count_pdu(&mut self, octets: &[u8])
-        // The PDU is counted by the type in its header; bytes without a type count nothing.
         ensures { self.new ≡ statistics.with_pdu octets.now self.old }
     {
         if let Some(kind) = Kind::of(number_at(octets, KIND)) {
@@ -123,7 +121,6 @@ impl SafeFaultCounts {
 
     /// Counts a fault.
     fn count_fault(&mut self, fault: SafeFault)
-        // Of the parts with this fault there is one more, modulo 2^64; the other counts stay.
         ensures { self.new ≡ statistics.with_safe_fault fault self.old }
     {
         match fault {
@@ -200,8 +197,6 @@ impl PartCounts {
     /// Counts a part in place by the machine's step. `waited` is how long before it nothing was confirmed, and `age` how
     /// old the last confirmed timestamp is after it, both in milliseconds.
     pub(crate) fn count_step(&mut self, step: Step, waited: Milliseconds, age: Milliseconds)
-        // In place: the count of this step grows by 1, modulo 2^64, and if the PDU was taken, both times become those of
-        // this part if these are greater. All else stays.
         ensures { self.new ≡ statistics.with_step step waited age self.old }
     {
         match step {
@@ -218,7 +213,6 @@ impl PartCounts {
 
     /// Counts a dropped part.
     fn count_dropped(&mut self, cause: DropCause)
-        // The count of this cause grows by 1, modulo 2^64; all else stays.
         ensures { self.new ≡ statistics.with_dropped cause self.old }
     {
         match cause {
@@ -269,7 +263,6 @@ impl RedFaultCounts {
 
     /// Counts a fault.
     fn count_fault(&mut self, fault: RedFault)
-        // Of the datagrams with this fault there is one more, modulo 2^64; the other counts stay.
         ensures { self.new ≡ statistics.with_red_fault fault self.old }
     {
         match fault {
@@ -335,8 +328,6 @@ impl ReceptionCounts {
 
     /// Counts in place a datagram that came at `now`, by the redundancy layer's event, which is `None` at a closed end.
     fn count_event(&mut self, event: Option<RedEvent>, now: Milliseconds)
-        // In place: `received` and the count of this event grow by 1, modulo 2^64, and the time becomes `now` if the
-        // datagram is a redundancy PDU that is not too far ahead. All else stays.
         ensures { self.exit.now ≡ statistics.with_event event now self.entry.now }
     {
         self.received = self.received.wrapping_add(1);
@@ -348,7 +339,6 @@ impl ReceptionCounts {
 
     /// Keeps the time of a redundancy PDU that is not too far ahead.
     fn keep_time(&mut self, event: RedEvent, now: Milliseconds)
-        // The time becomes `now` unless the event is too far ahead or damaged; all else stays.
         ensures { self.exit.now ≡ statistics.with_time event now self.entry.now }
     {
         match event {
@@ -360,7 +350,6 @@ impl ReceptionCounts {
 
     /// Counts an event of the redundancy layer.
     fn count_answer(&mut self, event: RedEvent)
-        // The count of this event grows by 1, modulo 2^64; all else stays.
         ensures { self.exit.now ≡ statistics.with_answer event self.entry.now }
     {
         match event {
@@ -382,7 +371,6 @@ pub(crate) fn count_reception(
     event: Option<RedEvent>,
     now: Milliseconds,
 )
-    // The datagram is counted at its channel; the counts of the other channels stay.
     ensures { channels.new ≡ statistics.count_reception channel event now channels.old }
 {
     if channel == 0 || channel > CHANNELS_MAX {
@@ -403,7 +391,6 @@ pub(crate) struct DatagramCounts {
 impl DatagramCounts {
     /// Returns the counts of an end to which nothing has come.
     pub(crate) fn none() -> Self
-        // No channel has counted anything, and no deadline has passed.
         ensures { result ≡ statistics.no_datagram_counts }
     {
         DatagramCounts {
@@ -421,8 +408,6 @@ impl DatagramCounts {
         due: bool,
         now: Milliseconds,
     )
-        // The datagram is counted at its channel. If the redundancy layer processed it and was due, one deadline more
-        // has passed. All else stays.
         ensures { self.new ≡ statistics.count_datagram channel event due now self.old }
     {
         count_reception(&mut self.channels, channel, event, now);
@@ -431,7 +416,6 @@ impl DatagramCounts {
 
     /// Counts a deferral deadline if it has passed.
     pub(crate) fn count_expired(&mut self, expired: bool)
-        // If the deadline has passed, its count grows by 1, modulo 2^64. All else stays.
         ensures { self.new ≡ statistics.count_expired expired self.old }
     {
         if expired {

@@ -188,7 +188,6 @@ impl<C: Channels, A: Allocator> UpperLayers<C, A> {
 
     /// Returns for how long nothing was confirmed, in milliseconds, or 0 without a connection.
     fn waiting_time(&self, now: Milliseconds) -> Milliseconds
-        // The result is the time since the last confirmed timestamp; it is 0 in Down and Closed.
         ensures { result ≡ waiting_time now (fields_of self.now) }
     {
         match self.machine.state() {
@@ -199,8 +198,6 @@ impl<C: Channels, A: Allocator> UpperLayers<C, A> {
 
     /// Returns the margin to T_max: how long it is until it ends the connection, in milliseconds.
     pub(crate) fn margin(&self, now: Milliseconds) -> Option<Milliseconds>
-        // With a connection, the result is T_max less the time since the last confirmed timestamp, and at least 0; without
-        // one it is `None`.
         ensures { result ≡ margin_of now (fields_of self.now) }
     {
         match self.machine.state() {
@@ -479,7 +476,6 @@ impl<C: Channels, A: Allocator> UpperLayers<C, A> {
 
     /// Returns how many of the telegrams put are confirmed: neither waiting nor in an unconfirmed unit.
     pub(crate) fn confirmed(&self) -> u64
-        // The result is the number of accepted telegrams, less those that wait and those in unconfirmed units.
         ensures { result ≡ confirmed_in (fields_of self.now) }
     {
         let outstanding = self.waiting.items() + self.items_unconfirmed();

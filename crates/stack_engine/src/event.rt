@@ -62,7 +62,6 @@ pub enum Call<'a> {
 impl<'a> Event<'a> {
     /// Shows from the types that bytes are below 256 and a message type is below 65,536.
     pub(crate) fn is_typed(&self)
-        // An event of the code meets the condition on values that the laws ask for.
         ensures { IsTyped (event_of self.now) }
     {
         match &self.doing {
@@ -75,13 +74,11 @@ impl<'a> Event<'a> {
 
 /// Shows that a message type has two bytes.
 fn is_kind(kind: MessageType)
-    // A message type is below 65,536.
     ensures { kind < 256 ^ 2 }
 {}
 
 /// Shows that bytes are below 256.
 fn are_octets(octets: &[u8])
-    // Each element is below 256.
     ensures { AllByRecursion (λ o. o < 256) octets.now }
 {}
 

@@ -71,7 +71,6 @@ impl<A: Allocator> Model for History<A> {
 impl<A: Allocator + Copy> History<A> {
     /// Creates an empty history without room.
     pub(crate) fn new(alloc: A) -> Self
-        // No event has happened.
         ensures { result.events ≡ [] }
     {
         History {
@@ -100,7 +99,6 @@ impl<A: Allocator + Copy> History<A> {
     /// Adds an event after the others. The caller has made room for it.
     pub(crate) fn add(&mut self, event: &Event<'_>)
         requires room { HasPlace event.now self.old }
-        // The event becomes the last one; all before it stay.
         ensures added { self.new.events ≡ self.old.events ++ event_of event.now ∷ [] }
     {
         let side = event.side;
@@ -171,7 +169,6 @@ impl<A: Allocator> History<A> {
 
 /// Returns the bytes of a call: of the payload that is put, or of the datagram that comes.
 fn octets_of<'a>(call: &Call<'a>) -> &'a [u8]
-    // A put has the bytes of its payload, a delivery those of its datagram, and any other call has no bytes.
     ensures { result.now ≡ call_octets call.now }
 {
     match call {
@@ -183,7 +180,6 @@ fn octets_of<'a>(call: &Call<'a>) -> &'a [u8]
 
 /// Returns what is kept of a call apart from its bytes.
 fn deed_of(call: &Call<'_>) -> Deed
-    // The kind of the call is kept, with the message type of a put and the channel of a delivery.
     ensures { result ≡ deed_in call.now }
 {
     match call {

@@ -311,7 +311,6 @@ impl<A: Allocator + Copy> Incarnation<A> {
 
     /// Returns its report entry.
     pub(crate) fn entry(&self) -> Entry<'_, A>
-        // The entry is that of what would be kept of it without its end.
         ensures { seen_entry result ≡ joined_entry (past_of self.now) }
     {
         report_on(&self.put, &self.taken, self.joined)
@@ -319,7 +318,6 @@ impl<A: Allocator + Copy> Incarnation<A> {
 
     /// Returns the notes of the last accepted event.
     pub(crate) fn notes(&self) -> Notes<'_, A>
-        // The datagrams and telegrams that the notes are about are those of the represented state (`AreOf`).
         ensures { (x : EndState) → IncarnationRepresents self.now x → AreOf result x }
     {
         self.end.channels_seen().notes(self.told, &self.taken)
@@ -327,7 +325,6 @@ impl<A: Allocator + Copy> Incarnation<A> {
 
     /// Returns the bytes of the ConnReq that it accepted.
     pub(crate) fn request(&self) -> Option<&[u8]>
-        // The result is the `request` of the represented state.
         ensures { (x : EndState) → IncarnationRepresents self.now x → option_map (λ octets. octets.now) result ≡ x.request }
     {
         self.end.request()
@@ -335,7 +332,6 @@ impl<A: Allocator + Copy> Incarnation<A> {
 
     /// Returns the number of PDUs that it made.
     pub(crate) fn made_count(&self) -> usize
-        // The result is the number of PDUs in the represented state.
         ensures { (x : EndState) → IncarnationRepresents self.now x → result ≡ length x.machine.made }
     {
         self.end.channels_seen().len()
@@ -343,8 +339,6 @@ impl<A: Allocator + Copy> Incarnation<A> {
 
     /// Returns true if it made a PDU of these bytes, not counting its first `dead` ones.
     pub(crate) fn has_made(&self, dead: usize, part: &[u8]) -> bool
-        // True if and only if one of the PDUs after the first `dead` ones, encoded under the settings' rule, has the
-        // bytes of `part`.
         ensures { (x : EndState) → IncarnationRepresents self.now x
             → result ≡ has_made (rule_of x.settings) part.now (drop dead x.machine.made) }
     {
@@ -353,7 +347,6 @@ impl<A: Allocator + Copy> Incarnation<A> {
 
     /// Returns true if it is open and the premise speaks of this part.
     pub(crate) fn is_asked(&self, part: &[u8]) -> bool
-        // True if and only if the represented state is not closed, and the part has its identifiers and a valid code.
         ensures { (x : EndState) → IncarnationRepresents self.now x → result ≡ not (is_shut x) && is_asked_of x part.now }
     {
         let rule = CodeRule {
@@ -366,7 +359,6 @@ impl<A: Allocator + Copy> Incarnation<A> {
 
     /// Returns the length of its safety code in bytes.
     pub(crate) fn code_octets(&self) -> usize
-        // The result is the code length, 8 or 16, of the settings' rule.
         ensures { (x : EndState) → IncarnationRepresents self.now x → result ≡ code_octets (rule_of x.settings).length }
     {
         self.config.code_length().octets()

@@ -95,7 +95,6 @@ impl<A: Allocator + Copy> Keeper<A> {
 
     /// Drops all notes, and gives back the room for more datagrams and notes, as far as the allocator takes it.
     pub(crate) fn shrink(&mut self)
-        // Giving room back leaves the kept datagrams as they are.
         ensures { self.new.datagrams ≡ self.old.datagrams }
     {
         self.remarks.clear();
@@ -161,7 +160,6 @@ impl<A: Allocator> Keeper<A> {
     /// Returns the only place at which a datagram can have this part, by the sequence number in the part. Returns
     /// `None` if there may be several.
     fn only_place(&self, part: &[u8]) -> Option<usize>
-        // No datagram at another place has this part. There may be no datagram at the place.
         ensures { IfSome result (λ only. IsOnlyPlace part.now self.now.datagrams only) }
     {
         let first = self.first_number?;
@@ -172,7 +170,6 @@ impl<A: Allocator> Keeper<A> {
     /// Returns true if a datagram with this part was kept after the first `dead` ones. Tests each of them, the newest
     /// first.
     fn finds_part(&self, dead: usize, part: &[u8]) -> bool
-        // The result is true if and only if one of the `datagrams` after the first `dead` ones has this part.
         ensures { result ≡ has_part part.now (drop dead self.now.datagrams) }
     {
         let mut place = self.len();
@@ -188,7 +185,6 @@ impl<A: Allocator> Keeper<A> {
     /// Returns true if the datagram at a place has this part.
     fn is_part(&self, place: usize, part: &[u8]) -> bool
         requires { place < length self.now.datagrams }
-        // True if and only if the bytes after the header of the datagram at `place` are those of `part`.
         ensures { result ≡ bytes_eq part.now (drop RED_HEADER (slice_index_or self.now.datagrams place [])) }
     {
         let Some((_, datagram)) = self.datagrams.get(place) else {
@@ -200,7 +196,6 @@ impl<A: Allocator> Keeper<A> {
     /// Returns the sequence number of the first datagram if this one is kept too. Returns `None` if the sequence
     /// numbers do not follow one another then.
     fn first_number_with(&self, datagram: &[u8]) -> Option<u32>
-        // With `datagram` after the others, the sequence numbers of all follow one another from the result on.
         ensures { IfSome result (λ first. AreNumbered first (self.now.datagrams ++ datagram.now ∷ [])) }
     {
         let number = sequence_number(upper_part(datagram))?;
@@ -222,7 +217,6 @@ impl<A: Allocator> Keeper<A> {
 
 /// Returns the sequence number of a part, or `None` if the part is too short for a header.
 fn sequence_number(part: &[u8]) -> Option<u32>
-    // The result is the number in the four bytes from place 12 on, if `part` is long enough for a header.
     ensures { result ≡ number_in part.now }
 {
     if part.len() < SAFE_HEADER {
@@ -233,7 +227,6 @@ fn sequence_number(part: &[u8]) -> Option<u32>
 
 /// Returns the part of a datagram: what is after its header.
 fn upper_part(datagram: &[u8]) -> &[u8]
-    // The result is the datagram without its first 8 bytes; of a shorter one it is empty.
     ensures { result.now ≡ drop RED_HEADER datagram.now }
 {
     match datagram.split_at_checked(RED_HEADER) {

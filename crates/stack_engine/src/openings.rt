@@ -194,7 +194,6 @@ impl<A: Allocator + Copy> Openings<A> {
 
     /// Returns the bytes of the ConnReq that the present incarnation accepted.
     pub(crate) fn request(&self) -> Option<&[u8]>
-        // The result is the `request` of the present state, and `None` if the end was never opened.
         ensures { (xs : List EndState) → SideRepresents self.now xs
             → option_map (λ octets. octets.now) result ≡ request_in (latest xs) }
     {
@@ -218,7 +217,6 @@ impl<A: Allocator + Copy> Openings<A> {
 
     /// Returns the number, from 1, of the latest incarnation that made a PDU of these bytes.
     pub(crate) fn latest_maker(&self, octets: &[u8]) -> Option<usize>
-        // The result is the greatest number of an incarnation that made these bytes, or `None` if no incarnation did.
         ensures { (xs : List EndState) → SideRepresents self.now xs → result ≡ latest_maker octets.now xs }
     {
         match &self.present {
@@ -230,8 +228,6 @@ impl<A: Allocator + Copy> Openings<A> {
 
     /// Returns the report entry of the incarnation at a place, from 0, as one that is joined to no other.
     pub(crate) fn entry(&self, place: usize) -> Option<Entry<'_, A>>
-        // The entry has what the incarnation at this `place` put and took, without a join; it is `None` after the
-        // last one.
         ensures { option_map seen_entry result
             ≡ option_map (entry_of None) (slice_get (incarnations_of self.now) place) }
     {
@@ -248,8 +244,6 @@ impl<A: Allocator + Copy> Openings<A> {
     /// Returns the report entry of the incarnation at a place, from 0, with the place of the one that it is joined
     /// to.
     pub(crate) fn joined_entry(&self, place: usize) -> Option<Entry<'_, A>>
-        // The entry has what the incarnation at this `place` put and took, and its join; it is `None` after the last
-        // one.
         ensures { option_map seen_entry result ≡ option_map joined_entry (slice_get (incarnations_of self.now) place) }
     {
         if place == self.before.len() {
@@ -260,8 +254,6 @@ impl<A: Allocator + Copy> Openings<A> {
 
     /// Returns the report entry of the incarnation at a place among the earlier ones.
     fn earlier_entry(&self, place: usize) -> Option<Entry<'_, A>>
-        // The entry has what the earlier incarnation at this `place` put and took, and its join; it is `None` after the
-        // last.
         ensures { option_map seen_entry result ≡ option_map joined_entry (slice_get self.now.before.items place) }
     {
         match self.earlier(place) {
@@ -272,8 +264,6 @@ impl<A: Allocator + Copy> Openings<A> {
 
     /// Returns the report entry of the present incarnation.
     fn present_entry(&self) -> Option<Entry<'_, A>>
-        // The entry has what the present incarnation put and took, and its join; it is `None` if the end was never
-        // opened.
         ensures { option_map seen_entry result ≡ option_map joined_entry (option_map past_of self.now.present) }
     {
         match &self.present {
@@ -284,7 +274,6 @@ impl<A: Allocator + Copy> Openings<A> {
 
     /// Returns the incarnation at a place among the earlier ones.
     fn earlier(&self, place: usize) -> Option<&Past<A>>
-        // The result is the earlier incarnation at this `place`, or `None` after the last.
         ensures { option_map (λ i. i.now) result ≡ slice_get self.now.before.items place }
     {
         if place < self.before.len() {
@@ -295,7 +284,6 @@ impl<A: Allocator + Copy> Openings<A> {
 
     /// Returns the number of incarnations.
     pub(crate) fn len(&self) -> usize
-        // The present one, if there is one, is counted with the earlier ones.
         ensures { result ≡ length (incarnations_of self.now) }
     {
         match &self.present {
@@ -306,7 +294,6 @@ impl<A: Allocator + Copy> Openings<A> {
 
     /// Returns the notes of the last accepted event of the present incarnation.
     pub(crate) fn notes(&self) -> Option<Notes<'_, A>>
-        // The notes are of the present state; `None` is returned only if the end was never opened.
         ensures { (xs : List EndState) → SideRepresents self.now xs → AreNotes result (latest xs) }
     {
         match &self.present {
@@ -317,7 +304,6 @@ impl<A: Allocator + Copy> Openings<A> {
 
     /// Returns the number of PDUs that the present incarnation made.
     pub(crate) fn made_count(&self) -> usize
-        // The result is the number of PDUs of the present state, and 0 if the end was never opened.
         ensures { (xs : List EndState) → SideRepresents self.now xs → result ≡ length (made_of (latest xs)) }
     {
         match &self.present {
@@ -329,8 +315,6 @@ impl<A: Allocator + Copy> Openings<A> {
     /// Returns true if the present incarnation made this part under a code of `code` bytes, not counting its first
     /// `dead` PDUs.
     fn has_live(&self, code: usize, dead: usize, part: &[u8]) -> bool
-        // True if and only if the present state has a code of this length and made these bytes as a PDU after the
-        // first `dead` ones.
         ensures { (xs : List EndState) → SideRepresents self.now xs → result ≡ live_in code (latest xs) dead part.now }
     {
         match &self.present {
@@ -342,8 +326,6 @@ impl<A: Allocator + Copy> Openings<A> {
     /// Returns true if this part would break the premise: the present incarnation is asked about it, and it is not a
     /// live PDU of the peer.
     fn breaks_by(&self, peer: &Openings<A>, dead: usize, part: &[u8]) -> bool
-        // True if and only if the present state is open, the part has its identifiers and a valid code, and the peer
-        // has made no such live PDU under a code of the same length.
         ensures { (xs ys : List EndState) → SideRepresents self.now xs → SideRepresents peer.now ys
             → result ≡ breaks_with (latest xs) (latest ys) dead part.now }
     {
@@ -357,7 +339,6 @@ impl<A: Allocator + Copy> Openings<A> {
 
     /// Returns true if delivering a datagram would break the premise at once. The peer's first `dead` PDUs are dead.
     pub(crate) fn breaks(&self, peer: &Openings<A>, dead: usize, datagram: &[u8]) -> bool
-        // A redundancy PDU breaks the premise if its part does; bytes that do not decode as one never break it.
         ensures { (xs ys : List EndState) → SideRepresents self.now xs → SideRepresents peer.now ys
             → result ≡ breaks_at (latest xs) (latest ys) dead datagram.now }
     {
@@ -384,7 +365,6 @@ impl<A: Allocator + Copy> Openings<A> {
 /// Returns the number, from 1, of the latest of these incarnations that made a PDU of these bytes. The first opened
 /// one comes first.
 fn latest_maker_of<A: Allocator + Copy>(incarnations: &[Past<A>], octets: &[u8]) -> Option<usize>
-    // The result is the greatest number among these incarnations of one that made the bytes, or `None` if no one did.
     ensures { (xs : List EndState) → EarlierRepresent (reverse incarnations.now) xs → result ≡ latest_maker octets.now xs }
 {
     let mut number = incarnations.len();

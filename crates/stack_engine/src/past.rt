@@ -53,7 +53,6 @@ impl<A: Allocator + Copy> Past<A> {
 
     /// Returns true if it made a PDU of these bytes.
     pub(crate) fn has_made(&self, part: &[u8]) -> bool
-        // True if and only if one of its PDUs, encoded under the settings' rule, has the bytes of `part`.
         ensures { (x : EndState) → PastRepresents self.now x → result ≡ has_made (rule_of x.settings) part.now x.machine.made }
     {
         self.keeper.has_part(0, part)
@@ -61,7 +60,6 @@ impl<A: Allocator + Copy> Past<A> {
 
     /// Returns its report entry.
     pub(crate) fn entry(&self) -> Entry<'_, A>
-        // The entry has what it put and took, and the place of the incarnation that it is joined to.
         ensures { seen_entry result ≡ joined_entry self.now }
     {
         report_on(&self.put, &self.taken, self.joined)

@@ -15,8 +15,6 @@ pub(crate) fn is_asked_about(
     peer: Identifier,
     part: &[u8],
 ) -> bool
-    // True if and only if the part has a header and a code, `own` as its receiver and `peer` as its sender, and a
-    // safety code that is valid under `rule`.
     ensures { result ≡ is_asked rule.now own peer part.now }
 {
     let code_size = rule.length.octets();

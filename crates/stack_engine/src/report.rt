@@ -25,7 +25,6 @@ pub(crate) fn report_on<'a, A: Allocator>(
     taken: &'a Telegrams<A>,
     joined: Option<usize>,
 ) -> Entry<'a, A>
-    // The entry has both lists, and the number less 1 as its place.
     ensures { seen_entry result ≡ record { put = put.now.texts; taken = taken.now.texts; joined = place_of joined } }
 {
     Entry {

@@ -43,7 +43,6 @@ impl<A: Allocator + Copy> Sides<A> {
 
     /// Creates both ends, neither of which has been opened.
     pub(crate) fn new(alloc: A) -> Self
-        // Both ends are as in the start world: without incarnations and without dead PDUs.
         ensures { SidesRepresent result start }
     {
         Sides {
@@ -79,7 +78,6 @@ impl<A: Allocator + Copy> Sides<A> {
 
     /// Returns an end with all its incarnations.
     fn openings(&self, side: Side) -> &Openings<A>
-        // The result is the incarnations of this `side`.
         ensures { (w : World) → SidesRepresent self.now w → SideRepresents result.now (ends_at (side_of side) w) }
     {
         match side {
@@ -206,7 +204,6 @@ impl<A: Allocator + Copy> Sides<A> {
 
     /// Returns true if delivering a datagram to an end would break the premise at once.
     pub(crate) fn breaks_premise(&self, side: Side, datagram: &[u8]) -> bool
-        // The result is that of the definition for this side, datagram and world.
         ensures { (w : World) → SidesRepresent self.now w → result ≡ breaks_premise (side_of side) datagram.now w }
     {
         match side {
@@ -231,7 +228,6 @@ impl<A: Allocator + Copy> Sides<A> {
 
     /// Returns the number of incarnations of an end.
     pub(crate) fn incarnations(&self, side: Side) -> usize
-        // The result is the number of entries in the report of this side.
         ensures { (w : World) → SidesRepresent self.now w → result ≡ length (report_of (side_of side) w) }
     {
         match side {
@@ -242,7 +238,6 @@ impl<A: Allocator + Copy> Sides<A> {
 
     /// Returns the entry at a place, from 0, in the report of an end.
     pub(crate) fn entry(&self, side: Side, place: usize) -> Option<Entry<'_, A>>
-        // The entry is the one at this `place` of the side's report, or `None` after the last.
         ensures { (w : World) → SidesRepresent self.now w
             → option_map seen_entry result ≡ slice_get (report_of (side_of side) w) place }
     {
@@ -254,7 +249,6 @@ impl<A: Allocator + Copy> Sides<A> {
 
     /// Returns the notes of the last accepted event of an end's present incarnation.
     pub(crate) fn notes(&self, side: Side) -> Option<Notes<'_, A>>
-        // The notes are of this side's present incarnation; `None` is returned only if the side was never opened.
         ensures { (w : World) → SidesRepresent self.now w → AreNotes result (present (side_of side) w) }
     {
         match side {

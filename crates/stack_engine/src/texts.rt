@@ -74,7 +74,6 @@ impl<T: Drop, A: Allocator + Copy> Texts<T, A> {
 
     /// Gives back the room for more texts, as far as the allocator takes it.
     pub(crate) fn shrink(&mut self)
-        // Giving room back changes none of the `texts`.
         ensures { self.new.texts ≡ self.old.texts }
     {
         self.kept.shrink_to_fit();

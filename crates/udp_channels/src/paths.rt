@@ -136,7 +136,6 @@ impl<T: UdpCalls> Socket for UdpPath<T> {
 
 /// Returns whether the system took a whole datagram of this size, by what it gave.
 fn result_of_send(given: io::Result<usize>, whole: usize) -> Result<(), CallFault>
-    // `result_of_send` succeeds if and only if the system took so many bytes; the fault has the number of the system's error.
     ensures { result ≡ whole_send_result given whole }
 {
     match given {
@@ -148,7 +147,6 @@ fn result_of_send(given: io::Result<usize>, whole: usize) -> Result<(), CallFaul
 
 /// Returns the fault of a call with this error.
 fn fault_of(error: &io::Error) -> CallFault
-    // `fault_of` returns the system's number for the error, if it has one.
     ensures { result ≡ fault_of error.now }
 {
     CallFault {
@@ -158,8 +156,6 @@ fn fault_of(error: &io::Error) -> CallFault
 
 /// Returns what came, by what the system gave.
 fn reception(given: io::Result<(usize, SocketAddr)>) -> Reception
-    // The reception is a datagram of any sender; nothing if the call would have waited; else a refusal, with the
-    // number of the system's error.
     ensures { IsReception given result }
 {
     match given {

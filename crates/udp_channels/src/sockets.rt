@@ -71,7 +71,6 @@ pub struct FailedCalls {
 impl FailedCalls {
     /// Counts a call that failed, and records why.
     fn add(&mut self, why: CallFault)
-        // `add` adds 1 to the count, modulo 2^64, and its cause is then the last one.
         ensures { self.new ≡ one_more why self.old }
     {
         *self = FailedCalls {
@@ -140,7 +139,6 @@ impl<S> SocketChannel<S> {
 impl<S: Socket> SocketChannel<S> {
     /// Sends a datagram once, and counts a failure with its cause.
     fn send(&mut self, datagram: &[u8]) -> Result<(), CallFault>
-        // The socket makes one send of the datagram, and this channel counts a failure with its cause.
         ensures { IsSent S.sends datagram.now result self.old self.new }
     {
         let sent = self.socket.send(datagram);
@@ -388,7 +386,6 @@ fn receive_in_order<S: Socket>(
 fn or_nothing(
     others: Result<Option<(usize, usize)>, ChannelFault>,
 ) -> Result<Option<(usize, usize)>, ChannelFault>
-    // The result is that of the others, but `None` if they fail.
     ensures { result ≡ unless_failed others }
 {
     match others {

@@ -167,7 +167,6 @@ impl<A: Allocator> Watch<A> {
 
     /// Watches the sockets of these channels in addition.
     fn add_all(&self, channels: &mut [SocketChannel<UdpPath>]) -> io::Result<()>
-        // The channels do not change when `add_all` watches their sockets.
         ensures { channels.new ≡ channels.old }
     {
         let Some((channel, others)) = channels.split_first_mut() else {
@@ -242,8 +241,6 @@ pub fn is_address(text: &str) -> bool
 
 /// Returns the address with a port that a text spells.
 fn address(text: &str) -> Option<SocketAddr>
-    // If `address` returns an address, the text spells it; if it returns `None`, the text spells no
-    // address.
     ensures { MatchOption result ((a : SocketAddr) → ¬ IsSocketText text.now a) (IsSocketText text.now) }
 {
     text.parse::<SocketAddr>().ok()

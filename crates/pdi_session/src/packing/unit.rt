@@ -34,8 +34,6 @@ fn first_piece(octets: &[u8]) -> Option<(&[u8], &[u8])>
 
 /// Splits bytes into messages. Empty input has no messages.
 fn messages_in(octets: &[u8]) -> Result<Messages<'_>, PackFault>
-    // The result is the messages read from the left, or the first fault: at most three, without bytes left over
-    // (`pieces_seen`).
     ensures { seen_of result ≡ pieces_seen UNIT_MESSAGES octets.now }
 {
     let mut messages = Messages::new();
@@ -86,7 +84,6 @@ pub fn unpack(octets: &[u8]) -> Result<Messages<'_>, PackFault>
 pub(crate) fn put_message(unit: &mut Unit, message: &[u8])
     requires sized { IsMessage message.now }
     requires room { array_vec_len unit.old + MESSAGE_LENGTH + length message.now ≤ UNIT_MAX }
-    // The unit grows by the length of the message (2 bytes) and the message.
     ensures { unit.new.items ≡ unit.old.items ++ piece message.now }
 {
     let mut size = [0; MESSAGE_LENGTH];

@@ -140,7 +140,6 @@ impl<A: Allocator> Waiting<A> {
     fn put_first(&mut self, unit: &mut Unit)
         requires some { 0 < length self.old }
         requires room { array_vec_len unit.old + MESSAGE_LENGTH + MESSAGE_MAX ≤ UNIT_MAX }
-        // The oldest message leaves the queue, and the unit grows by its length and the message.
         ensures { IsMoved self.old unit.old.items self.new unit.new.items }
     {
         let oldest = self.places.front().unwrap();
@@ -156,7 +155,6 @@ impl<A: Allocator> Waiting<A> {
 /// Replaces the content of a place by a message.
 fn write_message(place: &mut Message, message: &[u8])
     requires { length message.now ≤ MESSAGE_MAX }
-    // The place then has exactly the message, and nothing of its previous content.
     ensures { place.new.items ≡ message.now }
 {
     place.clear();

@@ -15,7 +15,6 @@ const UNNAMED: [u8; NAME_LENGTH] = [FILLING; NAME_LENGTH];
 
 /// Returns how many bytes are not filling.
 fn characters_in(field: &[u8]) -> usize
-    // The result counts every byte other than 0x5f, also one after filling.
     ensures { result ≡ count_by (λ octet. not (octet == FILLING)) field.now }
 {
     let mut count = 0;
@@ -30,8 +29,6 @@ fn characters_in(field: &[u8]) -> usize
 /// Decodes a name from its place of 20 bytes.
 fn name_in(field: &[u8]) -> Option<Name<'_>>
     requires { length field.now ≡ NAME_LENGTH }
-    // The name ends at the first filling. The result is `None` if its characters are not valid, or anything but
-    // filling follows.
     ensures { name_found result ≡ name_seen field.now }
 {
     // If all bytes other than filling come first, only filling follows them.

@@ -97,7 +97,6 @@ impl KnownPair {
     #[inline(always)]
     fn has(&self, names: &[u8]) -> bool
         requires { length names.now ≡ NAMES }
-        // If the result is true, the 40 bytes are those of the pair.
         ensures { IsTrue result → names.now ≡ self.now.octets }
     {
         has_eight(names, &self.octets, 0)
@@ -113,7 +112,6 @@ impl KnownPair {
 fn has_eight(one: &[u8], other: &[u8], place: usize) -> bool
     requires one { place + 8 ≤ length one.now }
     requires other { place + 8 ≤ length other.now }
-    // If the result is true, the eight bytes at `place` are equal.
     ensures { IsTrue result → take 8 (drop place one.now) ≡ take 8 (drop place other.now) }
 {
     LittleEndian::read_u64(&one[place..]) == LittleEndian::read_u64(&other[place..])

@@ -12,7 +12,6 @@ use arrayvec::ArrayString;
 
 /// Returns true if a byte is allowed in a name.
 fn fits_name(octet: u8) -> bool
-    // The bytes allowed are 0x21 to 0x7e except the filling 0x5f (`is_character`).
     ensures { result ≡ is_character octet }
 {
     0x21 <= octet && octet <= 0x7e && octet != FILLING
@@ -20,7 +19,6 @@ fn fits_name(octet: u8) -> bool
 
 /// Returns true if every byte is allowed in a name.
 fn fit_name(octets: &[u8]) -> bool
-    // The result is true if and only if `is_character` is true for every byte.
     ensures { result ≡ list_all is_character octets.now }
 {
     octets.iter().all(|octet| fits_name(*octet))
@@ -63,7 +61,6 @@ impl<'a> Name<'a> {
 
     /// Creates a name from bytes, or returns `None` if they are not a valid name.
     pub(super) fn of_octets(octets: &'a [u8]) -> Option<Self>
-        // The result has exactly these bytes as characters if they are a valid name, and is `None` otherwise.
         ensures { name_found result ≡ result_ok (name_read octets.now) }
     {
         if octets.is_empty() || octets.len() > NAME_LENGTH || !fit_name(octets) {
@@ -78,7 +75,6 @@ impl<'a> Name<'a> {
     /// Creates a name from bytes that the caller knows to be valid.
     pub(super) fn of_valid(octets: &'a [u8]) -> Self
         requires { IsName octets.now }
-        // The characters of the name are exactly the given bytes.
         ensures { characters_of result ≡ octets.now }
     {
         // Valid names are ASCII, as in `of_octets`.

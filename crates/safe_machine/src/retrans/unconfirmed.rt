@@ -144,7 +144,6 @@ impl<A: Allocator> Unconfirmed<A> {
     /// Drops the first units. If all are dropped, the next ones use the same places again.
     fn free(&mut self, dropped: usize)
         requires { dropped ≤ length self.old.units }
-        // The other units and the room stay.
         ensures { self.new ≡ record { room = self.old.room; units = drop dropped self.old.units } }
     {
         self.count -= dropped;
