@@ -507,11 +507,7 @@ pub extern "C" fn bekr_departure(
 
 /// Returns what the two ends agreed on in the version check.
 #[unsafe(no_mangle)]
-pub extern "C" fn bekr_agreed(
-    alloc: Global,
-    slot: &mut Slot,
-    agreement: &mut PlainAgreement,
-) -> i32
+pub extern "C" fn bekr_agreed(alloc: Global, slot: &mut Slot, agreement: &mut PlainAgreement) -> i32
     // A slot that holds an end keeps it. OK writes the version and the checksum that its session has agreed on; `NOTHING`
     // means that it has agreed on none yet, and writes nothing. The end does not change.
     ensures open { slot.old.is_open ≡ 1 → StaysOpen (AnswersAgreed agreement.old agreement.new result) slot.old slot.new }

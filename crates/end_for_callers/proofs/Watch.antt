@@ -73,8 +73,7 @@ closes-with t cause now i v shut =
     let after = (upper_turn (λ f. turn_then (turn_then (machine_turn t f) end_session_turn) (departure_turn cause)) v).left
     in
     let over : is_over after ≡ true = ends.0 in
-    let rest = stays-over now i after over in
-    (
+    let rest = stays-over now i after over in (
       rest.0,
       nil-both (end_session_turn (machine_turn t v.upper).left).taken (input_and_send_turn now i after).taken ends.1 rest.1,
     )
@@ -98,8 +97,7 @@ watch_law_holds channel now octets v some same expired =
     ap (λ (t : MachineTurn). is_closed t.left.connection) guarded in
     let ticked : is_closed (machine_tick_turn now m).left.connection ≡ true =
     ap (λ (t : MachineTurn). is_closed (goes_on t (heartbeat_turn now)).left.connection) guarded in
-    let cause = own_departure (overdue now m) now in
-    (
+    let cause = own_departure (overdue now m) now in (
       opened-takes v (turn_then (upper_turn (λ f. turn_then (turn_then (machine_turn (machine_tick_turn now m) f)
           end_session_turn) (departure_turn cause)) v) (input_and_send_turn now (RedTick now))) opened
           (closes-with (machine_tick_turn now m) cause now (RedTick now) v ticked),

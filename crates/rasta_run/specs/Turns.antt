@@ -90,6 +90,6 @@ abbrev pub gap_notice : (gap : ℕ) → Option Notice
 gap_notice gap = if nat_lt gap_most gap then Some (NoTurn gap) else None
 
 -- the notice of a connection that is found closed with telegrams that are not confirmed
-abbrev pub loss_notice : (before now : Bool) → (open unsent : ℕ) → Option Notice
-loss_notice before now open unsent =
-    if now && (not before && nat_lt 0 open) then Some (InDoubt (open - unsent) unsent) else None
+abbrev pub loss_notice : (before now : Bool) → (kept unsent : ℕ) → Option Notice
+loss_notice before now kept unsent =
+    if now && (not before && nat_lt 0 kept) then Some (InDoubt (kept - unsent) unsent) else None

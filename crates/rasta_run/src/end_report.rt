@@ -71,7 +71,10 @@ impl<C: Channels, A: Allocator + Copy> Actor<'_, C, A> {
         Leftovers {
             lines: lines.saturating_add(self.refused_lines),
             entries: left.saturating_add(self.refused_entries),
-            doubt: self.lost.saturating_add(self.doubt()).saturating_sub(unsent),
+            doubt: self
+                .lost
+                .saturating_add(self.doubt())
+                .saturating_sub(unsent),
             unsent,
         }
     }

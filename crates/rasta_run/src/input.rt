@@ -285,10 +285,7 @@ fn write_open<W: Write>(writer: &mut W, number: u64) -> io::Result<()>
 fn write_long<W: Write>(writer: &mut W, number: u64) -> io::Result<()>
     ensures { OnOk result (Appends (W.contents writer.old) (W.contents writer.new) (long_text number)) }
 {
-    write!(
-        writer,
-        "line {number}: not put: longer than 65534 bytes\n"
-    )
+    write!(writer, "line {number}: not put: longer than 65534 bytes\n")
 }
 
 /// Writes why a line of standard input is not put.

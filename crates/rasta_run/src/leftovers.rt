@@ -110,7 +110,10 @@ fn write_entries<W: Write>(writer: &mut W, entries: u64) -> io::Result<()>
 fn write_doubt<W: Write>(writer: &mut W, doubt: u64) -> io::Result<()>
     ensures { OnOk result (Appends (W.contents writer.old) (W.contents writer.new) (undone.doubt_text doubt)) }
 {
-    write!(writer, "in doubt: {doubt} telegrams sent and not confirmed; ")
+    write!(
+        writer,
+        "in doubt: {doubt} telegrams sent and not confirmed; "
+    )
 }
 
 /// Writes how many telegrams were not sent.

@@ -142,7 +142,9 @@ impl Runner<'_> {
         ensures time { (self.new.first.end.time ≤ clock.new.last) × IfSome self.new.second (λ a. a.end.time ≤ clock.new.last)
             × (clock.new.last ≤ TIME_MAX) }
     {
-        let _ = self.first.tell(Notice::Ending, clock.last, &mut streams.err);
+        let _ = self
+            .first
+            .tell(Notice::Ending, clock.last, &mut streams.err);
         let until = clock.last.saturating_add(streams.patience);
         'turns: for _ in 0..TURNS_MOST {
             let now = clock.read(rt)?;
@@ -206,7 +208,9 @@ impl Runner<'_> {
             ReaderState::Known => Ok(()),
             ReaderState::Behind => {
                 let lines = streams.out.waiting_count();
-                let _ = self.first.tell(Notice::Behind(lines), now, &mut streams.err);
+                let _ = self
+                    .first
+                    .tell(Notice::Behind(lines), now, &mut streams.err);
                 Ok(())
             }
             ReaderState::Stale => Err(Fault::Output),
@@ -512,7 +516,9 @@ impl Runner<'_> {
         }
         let printed = self.print_report(streams);
         if let Some(fault) = streams.out.failure {
-            let _ = self.first.tell(Notice::OutputFails(fault.error), now, &mut streams.err);
+            let _ = self
+                .first
+                .tell(Notice::OutputFails(fault.error), now, &mut streams.err);
         }
         printed
     }

@@ -134,7 +134,9 @@ impl<O: Write, E: Write, G: Gate> Streams<O, E, G> {
         // `look_at_reader` returns `Stale` if and only if bytes wait that may be as old as the `patience`.
         ensures stale { result ≡ late.state_of self.old.lateness.is_told self.new.lateness.boundary self.old.patience now }
     {
-        let state = self.lateness.look(self.out.gone, self.out.octets.len(), self.patience, now);
+        let state = self
+            .lateness
+            .look(self.out.gone, self.out.octets.len(), self.patience, now);
         if state == ReaderState::Stale {
             self.is_stale = true;
         }

@@ -7,7 +7,7 @@ use Rattle.safe_machine.specs.declared.DropCause.TheVariants.{Fault}
 use Rattle.safe_machine.specs.declared.Step.{Step as Outcome}
 use Rattle.safe_machine.specs.declared.Step.TheVariants.{Dropped, Nothing as NoAnswer}
 use Rattle.safe_machine.specs.State.{State}
-use Rattle.safe_machine.specs.View.{View, StandsFor, kept_of}
+use Rattle.safe_machine.specs.View.{View, StandsFor}
 use Rattle.safe_machine.specs.Turns.{Turn, arrive_answer, unless_guarded}
 use Rattle.safe_machine.specs.TurnLaws.{LeadsByTurn, turn, units_of_move}
 use Rattle.safe_machine.specs.Moves.{Move, move}
@@ -33,10 +33,6 @@ seen_by s octets = safe_seen s.settings.rule octets
 -- The state after the arrival of bytes.
 abbrev pub arrive_octets : List ℕ → ℕ → State → State
 arrive_octets octets now s = move (move_of (seen_by s octets) now) s
-
--- The step that is reported for these bytes.
-abbrev pub octets_answer : List ℕ → ℕ → State → Outcome
-octets_answer octets now s = decoded_answer (seen_by s octets) now (kept_of s)
 
 -- The turn of received bytes, by what is kept.
 abbrev pub octets_turn : List ℕ → ℕ → View → Turn

@@ -1,5 +1,5 @@
 -- The datagrams that an end sends: each PDU made, under its index, on every channel in order.
-use Rattle.std.specs.Prelude.{ℕ, zero, suc, ◌+◌, List, [], ◌∷◌, ◌++◌, drop, length}
+use Rattle.std.specs.Prelude.{ℕ, zero, suc, ◌+◌, List, [], ◌∷◌, ◌++◌}
 use Rattle.red_layer.specs.pdu.RedText.{red_text}
 use Rattle.safe_pdu.specs.declared.CodeRule.{CodeRule}
 use Rattle.safe_pdu.specs.SafeText.{safe_text}
@@ -22,11 +22,6 @@ abbrev pub sendings : EndSettings → ℕ → List Made → List SentDatagram
 sendings s index [] = []
 sendings s index (m ∷ ms) =
     on_channels s.channels (red_text index (upper_of (rule_of s) m)) ++ sendings s (index + 1) ms
-
--- the datagrams that an end sends while it changes from one state to another
-abbrev pub sent_between : EndState → EndState → List SentDatagram
-sent_between before after =
-    sendings before.settings (length before.machine.made) (drop (length before.machine.made) after.machine.made)
 
 -- the datagrams that an end sends when it is opened
 abbrev pub sent_at_opening : EndState → List SentDatagram

@@ -40,11 +40,6 @@ JudgesDialogue takes judge s t asked =
     (d : Dialogue) → RepresentsDialogue s.session s.waiting d → LeadsToDialogue takes d (judge d).left s t
     × (asked ≡ (judge d).leaving)
 
--- of any dialogue that they represented, they now represent its step
-abbrev pub StepsDialogue : {T : Type 0} → (T → Item → T → Type 0) → (Dialogue → Dialogue) → Talk T → Talk T → Type 0
-StepsDialogue takes step s t = (d : Dialogue) → RepresentsDialogue s.session s.waiting d
-    → LeadsToDialogue takes d (step d) s t
-
 -- a unit is judged only if the end did not have to disconnect before
 abbrev pub judge_next : Option Leaving → List ℕ → Dialogue → Judgement
 judge_next (Some why) unit d = judge_as why d

@@ -157,7 +157,10 @@ impl<C: Channels, A: Allocator> End<C, A> {
         // `arrive` sets the end's time to `now`.
         ensures time { self.new.time ≡ now }
     {
-        self.take_datagram(channel, octets, now, taker);
+        let due = self.layers.is_due(now);
+        let event = self.layers.arrive(octets, now, taker);
+        self.receptions.count_datagram(channel, event, due, now);
+        self.time = now;
     }
 
     /// Lets time pass: closes the end if T_max or the PDU limit is reached, sends a heartbeat if T_h has
@@ -228,7 +231,9 @@ impl<C: Channels, A: Allocator> End<C, A> {
         // `put` counts no datagram.
         ensures received { self.new.receptions ≡ self.old.receptions }
     {
-        self.put_behind(kind, payload, now)
+        self.layers.put(kind, payload, now)?;
+        self.time = now;
+        Ok(())
     }
 
     /// Ends the initialisation: the application of a field element has put its initial status. The end sends

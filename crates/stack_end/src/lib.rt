@@ -3,7 +3,6 @@
 //! RaSTA after DIN VDE V 0831-200:2015 with an SCI session above it, in this project's profile.
 #![tactic(auto)]
 
-mod calls;
 mod departure;
 mod end;
 mod judge;

@@ -7,7 +7,7 @@ octets-preserved g c =
       added = (
         c.octets.invariant.added.0 ++ c.read_octet.ensures.added.0,
         c.read_octet.ensures.added.1 ∙ ap (λ l. l ++ c.read_octet.ensures.added.0) c.octets.invariant.added.1
-        ∙ append_assoc c.args.self.now.lines.octets.items c.octets.invariant.added.0 c.read_octet.ensures.added.0,
+            ∙ append_assoc c.args.self.now.lines.octets.items c.octets.invariant.added.0 c.read_octet.ensures.added.0,
       );
       kept = search rules;
     }

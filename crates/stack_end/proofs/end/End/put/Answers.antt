@@ -1,6 +1,6 @@
 use Rattle.stack_end.proofs.Words.{can_pack, false, fields_of, Inside, inside, PutOut, subst, sym, ◌≡◌}
 use Rattle.stack_end.proofs.Deliveries.{puts-empties, puts-out}
-use Rattle.stack_end.proofs.end.End.put_behind.Goals as goal
+use Rattle.stack_end.proofs.end.End.put.Goals as goal
 
 pub returns-clause-packs : goal.returns-clause-packs
 returns-clause-packs g c =

@@ -2,7 +2,7 @@ use Rattle.stack_end.proofs.Words.{arrival_turn, can_pack, DatagramRecent, false
 use Rattle.stack_end.proofs.Words.{◌≡◌}
 use Rattle.stack_end.proofs.Deliveries.{arrives-empties, datagram-recent, has-heard, takes-part}
 use Rattle.stack_end.proofs.TurnOfCall.{layers-turn}
-use Rattle.stack_end.proofs.end.End.take_datagram.Goals as goal
+use Rattle.stack_end.proofs.end.End.arrive.Goals as goal
 
 pub returns-clause-turns : goal.returns-clause-turns
 returns-clause-turns g c =
