@@ -198,19 +198,11 @@ HasTaken-behind next words part iv fed piece behind at size taken edge fits shor
     ∙ ap (λ (x : List ℕ). fed ++ x) (take-append-drop at piece) in
     rw (← whole) taken_all
 
--- the digest, after the filling and the number of bits are fed
-pub digest-padded : (md4 : Md4) (iv fed zeros bits : List ℕ) → StandsFor md4 iv ((fed ++ zeros) ++ bits)
-    → zeros ≡ padding_octets (length fed)
-    → bits ≡ bit_count (length fed) → octets_of_words md4.words ≡ digest iv fed
-unfolding digest
-digest-padded md4 iv fed zeros bits stands ez eb =
-    let all : (fed ++ zeros) ++ bits ≡ pad fed = ap (λ (z : List ℕ). (fed ++ z) ++ bits) ez
-    ∙ ap (λ (b : List ℕ). (fed ++ padding_octets (length fed)) ++ b) eb in
-    ap octets_of_words ((StandsFor-taken md4 iv ((fed ++ zeros) ++ bits) stands).blocks
-    ∙ ap (λ (octets : List ℕ). fold after_block iv (blocks_of octets)) all)
-
--- the first bytes of the longest filling
-pub take-filling : (x y z : ℕ) → z ≤ 63 → take (z + 1) (x ∷ replicate 63 y) ≡ x ∷ replicate z y
-take-filling x y z h =
-    let zeros : take z (replicate 63 y) ≡ replicate z y = take-replicate z 63 y h in
-    rw (add-one, zeros) refl
+-- the bytes of the incomplete block that count
+pub HasTaken-front : (words part iv fed : List ℕ) (used : ℕ) → used ≡ length fed % 64 → HasTaken words part iv fed
+    → HasTaken words (take used part) iv fed
+HasTaken-front words part iv fed used same taken =
+    record {
+      blocks = taken.blocks;
+      behind = take-take (length fed % 64) used part (omega (arith, same)) ∙ taken.behind;
+    }

@@ -1,4 +1,4 @@
--- The digest of a whole message: its complete blocks in order, and then one or two blocks that the padding fills.
+-- The digest of a message: the words after its complete blocks, and then one or two blocks that the padding fills.
 use Rattle.std.proofs.Common.{◌≡◌, ℕ, suc, ◌+◌, ◌-◌, ◌*◌, ◌/◌, ◌%◌, ◌<◌, ◌≤◌, List, [], ◌∷◌, ◌++◌, length, take, drop, replicate, slice_set, refl, sym, ap, ◌∙◌, arith, length-append, length-drop}
 use Rattle.std.specs.Prelude.{fold}
 use Rattle.std.proofs.Math.Seq.{set-append_seam}
@@ -38,7 +38,7 @@ take-begun behind short =
     ap (take 56) whole ∙ take_at front (replicate 8 0) 56 (omega (arith, size))
 
 -- the words after the complete blocks, with the bytes after these as incomplete block
-all_taken : (iv octets words behind : List ℕ) → words ≡ words_after iv (length octets / 64) octets
+pub all_taken : (iv octets words behind : List ℕ) → words ≡ words_after iv (length octets / 64) octets
     → behind ≡ drop (length octets / 64 * 64) octets
     → HasTaken words behind iv octets
 all_taken iv octets words behind taken rest =
@@ -47,17 +47,12 @@ all_taken iv octets words behind taken rest =
     record { blocks = taken; behind = take_all (length octets % 64) behind size ∙ rest }
 
 -- if the last bytes and the number of bits fit into one block, one more block gives the digest
-pub digest_by_one : (iv octets words behind block : List ℕ) → words ≡ words_after iv (length octets / 64) octets
-    → behind ≡ drop (length octets / 64 * 64) octets
+pub digest_by_one : (iv octets words behind block : List ℕ) → HasTaken words behind iv octets
+    → length behind ≡ length octets % 64
     → length behind < 56 → block ≡ take 56 (begun behind) ++ bit_count (length octets)
     → octets_of_words (after_block words block) ≡ digest iv octets
 unfolding digest
-digest_by_one iv octets words behind block taken rest short last =
-    let many : length behind ≡ length octets % 64 = omega (
-      arith,
-      length-drop (length octets / 64 * 64) octets,
-      ap length rest,
-    ) in
+digest_by_one iv octets words behind block taken many short last =
     let zeros : (119 - length octets % 64) % 64 ≡ 55 - length behind = omega arith in
     let fill : List ℕ = 0x80 ∷ replicate (55 - length behind) 0 in
     let tail : List ℕ = fill ++ bit_count (length octets) in
@@ -77,21 +72,16 @@ digest_by_one iv octets words behind block taken rest short last =
     ap (λ (n : ℕ). (octets ++ 0x80 ∷ replicate n 0) ++ bit_count (length octets)) zeros
     ∙ append_assoc octets fill (bit_count (length octets)) in
     let all : HasTaken (after_block words block) [] iv (octets ++ tail) =
-    HasTaken-full words behind [] iv octets tail block (all_taken iv octets words behind taken rest) size parts in
+    HasTaken-full words behind [] iv octets tail block taken size parts in
     ap octets_of_words (all.blocks ∙ ap (λ (xs : List ℕ). fold after_block iv (blocks_of xs)) (sym whole))
 
 -- if they do not, two more blocks give the digest
-pub digest_by_two : (iv octets words behind block last : List ℕ) → words ≡ words_after iv (length octets / 64) octets
-    → behind ≡ drop (length octets / 64 * 64) octets → 56 ≤ length behind → block ≡ begun behind
+pub digest_by_two : (iv octets words behind block last : List ℕ) → HasTaken words behind iv octets
+    → length behind ≡ length octets % 64 → 56 ≤ length behind → block ≡ begun behind
     → last ≡ replicate 56 0 ++ bit_count (length octets)
     → octets_of_words (after_block (after_block words block) last) ≡ digest iv octets
 unfolding digest
-digest_by_two iv octets words behind block last taken rest long first second =
-    let many : length behind ≡ length octets % 64 = omega (
-      arith,
-      length-drop (length octets / 64 * 64) octets,
-      ap length rest,
-    ) in
+digest_by_two iv octets words behind block last taken many long first second =
     let zeros : 63 - length behind + 56 ≡ (119 - length octets % 64) % 64 = omega arith in
     let head : List ℕ = 0x80 ∷ replicate (63 - length behind) 0 in
     let fill : padding_octets (length octets) ≡ head ++ replicate 56 0 =
@@ -102,7 +92,7 @@ digest_by_two iv octets words behind block last taken rest long first second =
     let size : length octets % 64 + length head
     ≡ 64 = omega (arith, many, length-replicate {A = ℕ} (63 - length behind) 0) in
     let one : HasTaken (after_block words block) [] iv (octets ++ head) =
-    HasTaken-full words behind [] iv octets head block (all_taken iv octets words behind taken rest) size parts in
+    HasTaken-full words behind [] iv octets head block taken size parts in
     let edge : length (octets ++ head) % 64 ≡ 0 = omega (arith, size, length-append octets head) in
     let wide : length last ≡ 64 = ap length second in
     let two : HasTaken (after_block (after_block words block) last) [] iv ((octets ++ head) ++ last) =

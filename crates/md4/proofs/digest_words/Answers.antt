@@ -1,7 +1,7 @@
-use Rattle.std.proofs.Common.{◌≡◌, ℕ, ◌+◌, ◌-◌, ◌*◌, ◌/◌, length, drop, arith, sym, ap, ◌∙◌}
+use Rattle.std.proofs.Common.{◌≡◌, ℕ, ◌+◌, ◌-◌, ◌*◌, ◌/◌, length, drop, arith, sym, ap, ◌∙◌, refl, length-drop}
 use Rattle.std.proofs.lemmas.List.{take_rest}
 use Rattle.md4.proofs.Pieces.{words_after, words_after-next}
-use Rattle.md4.proofs.Whole.{digest_by_one, digest_by_two}
+use Rattle.md4.proofs.Whole.{all_taken}
 use Rattle.md4.proofs.digest_words.Goals as goal
 
 pub blocks-2-preserved : goal.blocks-2-preserved
@@ -11,26 +11,13 @@ blocks-2-preserved c =
     c.take_in.ensures ∙ rw (width, at, c.blocks-2.invariant)
     (sym (words_after-next c.args.iv c.blocks-2.i c.args.octets.now))
 
-pub returns-then-behind : goal.returns-then-behind
-returns-then-behind c =
+pub returns : goal.returns
+returns c =
     let whole : c.blocks-2.i ≡ length c.args.octets.now / 64 = omega arith in
     let at : 64 * (length c.args.octets.now / 64) ≡ length c.args.octets.now / 64 * 64 = omega arith in
     let taken : c.blocks-2.words ≡ words_after c.args.iv (length c.args.octets.now / 64) c.args.octets.now = rw
     (← whole) c.blocks-2.invariant in
-    rw c.take_in-then-behind.ensures
-    (digest_by_one c.args.iv c.args.octets.now c.blocks-2.words _ _ taken
-    (take_rest c.args.octets.now (64 * (length c.args.octets.now / 64)) ∙ ap (λ (n : ℕ). drop n c.args.octets.now) at)
-    c.if-behind.true
-    (rw (← c.begun.ensures) c.with_bit_count.ensures))
-
-pub returns-else-behind : goal.returns-else-behind
-returns-else-behind c =
-    let whole : c.blocks-2.i ≡ length c.args.octets.now / 64 = omega arith in
-    let at : 64 * (length c.args.octets.now / 64) ≡ length c.args.octets.now / 64 * 64 = omega arith in
-    let taken : c.blocks-2.words ≡ words_after c.args.iv (length c.args.octets.now / 64) c.args.octets.now = rw
-    (← whole) c.blocks-2.invariant in
-    rw (c.take_in-else-behind-2.ensures, c.take_in-else-behind.ensures)
-    (digest_by_two c.args.iv c.args.octets.now c.blocks-2.words _ _ _ taken
-    (take_rest c.args.octets.now (64 * (length c.args.octets.now / 64)) ∙ ap (λ (n : ℕ). drop n c.args.octets.now) at)
-    c.if-behind.false
-    c.begun-else-behind.ensures c.with_bit_count-else-behind.ensures)
+    c.after_last_blocks.ensures c.args.iv c.args.octets.now
+    (all_taken c.args.iv c.args.octets.now c.blocks-2.words _ taken
+    (take_rest c.args.octets.now (64 * (length c.args.octets.now / 64)) ∙ ap (λ (n : ℕ). drop n c.args.octets.now) at))
+    (omega arith) (omega arith)
