@@ -160,12 +160,6 @@ class Definitions:
             self.of_files.setdefault(os.path.basename(path)[:-5], set()).update(names)
         self.meanings = {}
 
-    def line_of(self, path, name):
-        """Returns the line of a file on which a definition begins."""
-        text = read(path)
-        found = re.search(rf'^(?:pub (?:record|data)|\w+ pub) {name}\b', text, re.M)
-        return text.count('\n', 0, found.start()) + 1
-
     def named_by(self, item):
         """Returns spec file and name of each, in the order of the clauses."""
         if item.file not in self.meanings:

@@ -61,8 +61,8 @@ def listed(*pattern):
 
 
 def has_edits(crate):
-    """Whether a crate must have edits. Crates of tests have none, nor has the program, which is only `main`."""
-    return not crate.endswith('_tests') and crate != 'rasta_cli'
+    """Whether a crate must have edits. Crates of tests have none, nor have the users of promises and the program, which is only `main`."""
+    return not crate.endswith('_tests') and crate not in ('promise_users', 'rasta_cli')
 
 
 def words_of(text):

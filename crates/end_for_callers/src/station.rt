@@ -513,7 +513,7 @@ impl Station {
     pub fn agreed(&self) -> Option<Agreed<'_>>
         // `agreed` is what the session of the station's end keeps of the version check.
         ensures agreed { option_map agreement_of result ≡ (inside self.now.end).upper.session.agreed }
-        // The checksum has at most 16 bytes.
+        // The checksum of a station has at most 16 bytes.
         ensures short { IfSome result (λ a. length a.checksum.now ≤ CHECKSUM_MAX) }
     {
         self.end.agreed()

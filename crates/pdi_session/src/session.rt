@@ -134,7 +134,7 @@ impl Session {
     /// Returns what the two ends agreed on in the version check, or `None` before that. It is known from Requesting
     /// (interlocking) or AwaitRequest (field element) on, and stays until the session is reopened.
     pub fn agreed(&self) -> Option<Agreed<'_>>
-        // `agreed` returns the version and checksum that the arrivals have recorded (`agreed_by`).
+        // `agreed` returns the version and checksum that the arrivals have recorded.
         ensures agreed { option_map agreement_of result ≡ self.now.agreed }
         // The checksum has at most 16 bytes.
         ensures short { IfSome result (λ a. length a.checksum.now ≤ CHECKSUM_MAX) }

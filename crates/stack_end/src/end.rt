@@ -555,7 +555,7 @@ impl<C: Channels, A: Allocator> End<C, A> {
     pub fn agreed(&self) -> Option<Agreed<'_>>
         // The result is the agreement that the session keeps.
         ensures agreed { option_map agreement_of result ≡ (inside self.now).upper.session.agreed }
-        // The checksum has at most 16 bytes.
+        // The checksum that an end returns has at most 16 bytes.
         ensures short { IfSome result (λ a. length a.checksum.now ≤ CHECKSUM_MAX) }
     {
         self.layers.upper.session.agreed()
