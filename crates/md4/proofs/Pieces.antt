@@ -1,12 +1,12 @@
 -- How the words and the incomplete block change as a message is fed piece by piece.
-use Rattle.std.proofs.Common.{◌≡◌, ℕ, zero, suc, ◌+◌, ◌-◌, ◌*◌, ◌/◌, ◌%◌, ◌^◌, ◌<◌, ◌≤◌, List, [], ◌∷◌, ◌++◌, length, take, drop, replicate, refl, sym, ap, ◌∙◌, arith, length-append, length-drop, add-one, add-zero}
+use Rattle.std.proofs.Common.{◌≡◌, ℕ, zero, suc, ◌+◌, ◌-◌, ◌*◌, ◌/◌, ◌%◌, ◌^◌, ◌<◌, ◌≤◌, List, [], ◌∷◌, ◌++◌, length, take, drop, refl, sym, ap, ◌∙◌, arith, length-append, length-drop, add-one}
 use Rattle.std.specs.Prelude.{fold}
 use Rattle.std.specs.Simd.{first_chunks}
 use Rattle.std.proofs.Math.Nat.{suc-mul}
-use Rattle.std.proofs.lemmas.List.{take-append-le, drop-append-le, take_all, drop_all, drop-drop, append_assoc, append-nil, drop-take, take-take, take-append-drop, length-take-le, take_at, take-replicate}
+use Rattle.std.proofs.lemmas.List.{take-append-le, drop-append-le, take_all, drop_all, drop-drop, append_assoc, append-nil, drop-take, take-take, take-append-drop, length-take-le, take_at}
 use Rattle.std.proofs.lemmas.List.Sums.{fold-append}
 use Rattle.std.proofs.lemmas.Slice.{take-put_mid}
-use Rattle.md4.specs.Digest.{after_block, blocks_of, pad, padding_octets, bit_count, digest, octets_of_words}
+use Rattle.md4.specs.Digest.{after_block, blocks_of}
 use Rattle.md4.specs.Md4.{HasTaken, StandsFor}
 use Rattle.md4.specs.declared.Md4.{Md4}
 use borrow.Rule.Slice.PartMut.{put_mid, post_of}
@@ -43,7 +43,7 @@ first_chunks-append (suc k) xs ys fits =
       first_chunks-append k (drop 64 xs) ys rest,
     ) refl
 
-words_after-append : (iv : List ℕ) (n : ℕ) (xs ys : List ℕ) → n * 64 ≤ length xs
+pub words_after-append : (iv : List ℕ) (n : ℕ) (xs ys : List ℕ) → n * 64 ≤ length xs
     → words_after iv n (xs ++ ys) ≡ words_after iv n xs
 words_after-append iv n xs ys fits = ap (fold after_block iv) (first_chunks-append n xs ys fits)
 
@@ -120,36 +120,70 @@ StandsFor-short old new iv fed piece copied at size stands full place short same
     (rw words (HasTaken-short old.words old.part new.part iv fed piece (StandsFor-taken old iv fed stands) (omega arith)
     (rw (← ends) front)))
 
--- 64 more bytes of a piece
-take-block : (piece : List ℕ) (at : ℕ) → take (at + 64) piece ≡ take at piece ++ take 64 (drop at piece)
-take-block piece at =
-    let whole : take at (take (at + 64) piece) ++ drop at (take (at + 64) piece)
-    ≡ take (at + 64) piece = take-append-drop at (take (at + 64) piece) in
-    sym (rw (take-take at (at + 64) piece (omega arith), drop-take at 64 piece) at whole)
+-- more bytes of a piece
+take-more : (piece : List ℕ) (at size : ℕ) → take (at + size) piece ≡ take at piece ++ take size (drop at piece)
+take-more piece at size =
+    let whole : take at (take (at + size) piece) ++ drop at (take (at + size) piece)
+    ≡ take (at + size) piece = take-append-drop at (take (at + size) piece) in
+    sym (rw (take-take at (at + size) piece (omega arith), drop-take at size piece) at whole)
 
--- the next block of a piece, if the bytes fed before end with a complete block
-pub HasTaken-block : (words part iv fed piece block : List ℕ) (at : ℕ) → HasTaken words part iv (fed ++ take at piece)
-    → (length fed + at) % 64 ≡ 0
-    → at + 64 ≤ length piece → block ≡ take 64 (drop at piece)
-    → HasTaken (after_block words block) part iv (fed ++ take (at + 64) piece)
-HasTaken-block words part iv fed piece block at taken edge fits e =
-    let size : length (fed ++ take at piece) ≡ length fed + at = length-append fed (take at piece)
+-- the chunks of complete blocks with more bytes at the end
+first_chunks-both : (k n : ℕ) (xs ys : List ℕ) → length xs ≡ k * 64
+    → first_chunks 64 (k + n) (xs ++ ys) ≡ first_chunks 64 k xs ++ first_chunks 64 n ys
+first_chunks-both zero n [] ys size = ap (λ (m : ℕ). first_chunks 64 m ys) (omega arith)
+first_chunks-both zero n (x ∷ xs) ys size = absurd (omega arith)
+first_chunks-both (suc k) n xs ys size =
+    let rest : length (drop 64 xs) ≡ k * 64 = omega (arith, length-drop 64 xs) in
+    let count : suc k + n ≡ suc (k + n) = omega arith in
+    ap (λ (m : ℕ). first_chunks 64 m (xs ++ ys)) count
+    ∙ rw (
+      take-append-le 64 xs ys (omega arith),
+      drop-append-le 64 xs ys (omega arith),
+      first_chunks-both k n (drop 64 xs) ys rest,
+    ) refl
+
+-- complete blocks after complete blocks
+HasTaken-all : (words part iv fed piece : List ℕ) → HasTaken words part iv fed → length fed % 64 ≡ 0
+    → length piece % 64 ≡ 0 → HasTaken (fold after_block words (blocks_of piece)) part iv (fed ++ piece)
+HasTaken-all words part iv fed piece taken edge all =
+    let size : length (fed ++ piece) ≡ length fed + length piece = length-append fed piece in
+    let count : length (fed ++ piece) / 64 ≡ length fed / 64 + length piece / 64 = omega arith in
+    let left : length (fed ++ piece) % 64 ≡ 0 = omega arith in
+    let parts : blocks_of (fed ++ piece) ≡ blocks_of fed ++ blocks_of piece =
+    ap (λ (n : ℕ). first_chunks 64 n (fed ++ piece)) count
+    ∙ first_chunks-both (length fed / 64) (length piece / 64) fed piece (omega arith) in
+    record {
+      blocks = ap (λ (v : List ℕ). fold after_block v (blocks_of piece)) taken.blocks
+          ∙ sym (ap (fold after_block iv) parts ∙ fold-append after_block iv (blocks_of fed) (blocks_of piece));
+      behind = rw left (sym (drop_all (length (fed ++ piece) / 64 * 64) (fed ++ piece) (omega arith)));
+    }
+
+-- the complete blocks of a piece, if the bytes fed before end with a complete block
+pub HasTaken-blocks : (next words part iv fed piece : List ℕ) (at size : ℕ)
+    → HasTaken words part iv (fed ++ take at piece)
+    → (length fed + at) % 64 ≡ 0 → size % 64 ≡ 0 → at + size ≤ length piece
+    → next ≡ fold after_block words (blocks_of (take (at + size - at) (drop at piece)))
+    → HasTaken next part iv (fed ++ take (at + size) piece)
+HasTaken-blocks next words part iv fed piece at size taken edge many fits e =
+    let before : length (fed ++ take at piece) ≡ length fed + at = length-append fed (take at piece)
     ∙ ap (λ (k : ℕ). length fed + k) (length-take-le at piece (omega arith)) in
-    let block_size : length block ≡ 64 = ap length e
-    ∙ length-take-le 64 (drop at piece) (omega (arith, length-drop at piece)) in
-    let start : length (fed ++ take at piece) % 64 ≡ 0 = omega arith in
-    let filled : HasTaken (after_block words block) part iv ((fed ++ take at piece) ++ block) =
-    HasTaken-full words part part iv (fed ++ take at piece) block block taken (omega arith) (rw start refl) in
-    let grown : take (at + 64) piece ≡ take at piece ++ block = rw e (take-block piece at) in
-    rw (grown, ← append_assoc) filled
+    let blocks : List ℕ = take size (drop at piece) in
+    let width : at + size - at ≡ size = omega arith in
+    let same : next ≡ fold after_block words (blocks_of blocks) =
+    e ∙ ap (λ (k : ℕ). fold after_block words (blocks_of (take k (drop at piece)))) width in
+    let wide : length blocks ≡ size = length-take-le size (drop at piece) (omega (arith, length-drop at piece)) in
+    let all : HasTaken (fold after_block words (blocks_of blocks)) part iv ((fed ++ take at piece) ++ blocks) =
+    HasTaken-all words part iv (fed ++ take at piece) blocks taken (omega arith) (omega (arith, wide)) in
+    let grown : take (at + size) piece ≡ take at piece ++ blocks = take-more piece at size in
+    rw (same, grown, ← append_assoc) all
 
--- the state before the loop of `update` if the incomplete block held bytes and is now full
+-- the state before the complete blocks of a piece if the incomplete block held bytes and is now full
 pub start-filled : (old new : Md4) (iv fed piece copied words : List ℕ) (at size start total : ℕ) → StandsFor old iv fed
     → length old.part ≡ 64
     → at ≡ old.total % 64 → start ≡ 64 - at → start ≤ length piece → size ≡ start → copied ≡ take start piece
     → words ≡ after_block old.words (put_mid at size old.part copied)
     → new ≡ record { words = words; part = put_mid at size old.part copied; total = total }
-    → HasTaken new.words new.part iv (fed ++ take (start + 0) piece) × ((length fed + start) % 64 ≡ 0)
+    → HasTaken new.words new.part iv (fed ++ take start piece) × ((length fed + start) % 64 ≡ 0)
 start-filled old new iv fed piece copied words at size start total stands full place room fits ej ey eh en =
     let counted : old.total ≡ length fed % 2 ^ 64 = StandsFor-total old iv fed stands in
     let ends : at ≡ length fed % 64 = omega arith in
@@ -163,13 +197,13 @@ start-filled old new iv fed piece copied words at size start total stands full p
     HasTaken-full old.words old.part new.part iv fed head (put_mid at size old.part copied)
     (StandsFor-taken old iv fed stands) (omega arith) parts in
     let hn : new.words ≡ words = ap (λ (r : Md4). r.words) en in
-    (rw (add-zero, hn, eh) taken, omega arith)
+    (rw (hn, eh) taken, omega arith)
 
 -- the same if the incomplete block held no bytes
 pub start-empty : (old new : Md4) (iv fed piece : List ℕ) (start total : ℕ) → StandsFor old iv fed → old.total % 64 ≤ 0
     → start ≡ 0
     → new ≡ record { words = old.words; part = old.part; total = total }
-    → HasTaken new.words new.part iv (fed ++ take (start + 0) piece) × ((length fed + start) % 64 ≡ 0)
+    → HasTaken new.words new.part iv (fed ++ take start piece) × ((length fed + start) % 64 ≡ 0)
 start-empty old new iv fed piece start total stands empty es en =
     let counted : old.total ≡ length fed % 2 ^ 64 = StandsFor-total old iv fed stands in
     let hn : new.words ≡ old.words = ap (λ (r : Md4). r.words) en in

@@ -2,10 +2,10 @@
 use Rattle.std.proofs.Common.{◌≡◌, ℕ, suc, ◌+◌, ◌-◌, ◌*◌, ◌/◌, ◌%◌, ◌<◌, ◌≤◌, List, [], ◌∷◌, ◌++◌, length, take, drop, replicate, slice_set, refl, sym, ap, ◌∙◌, arith, length-append, length-drop}
 use Rattle.std.specs.Prelude.{fold}
 use Rattle.std.proofs.Math.Seq.{set-append_seam}
-use Rattle.std.proofs.lemmas.List.{take_all, append_assoc, take_at, drop-replicate, length-replicate, replicate-append-replicate}
+use Rattle.std.proofs.lemmas.List.{take_all, take-append-drop, length-take-le, append_assoc, take_at, drop-replicate, length-replicate, replicate-append-replicate}
 use Rattle.md4.specs.Digest.{after_block, blocks_of, pad, padding_octets, bit_count, digest, octets_of_words}
 use Rattle.md4.specs.Md4.{HasTaken}
-use Rattle.md4.proofs.Pieces.{words_after, HasTaken-full}
+use Rattle.md4.proofs.Pieces.{words_after, words_after-append, HasTaken-full}
 
 -- the last bytes, the byte 0x80 and zeros
 abbrev pub begun : List ℕ → List ℕ
@@ -38,13 +38,22 @@ take-begun behind short =
     ap (take 56) whole ∙ take_at front (replicate 8 0) 56 (omega (arith, size))
 
 -- the words after the complete blocks, with the bytes after these as incomplete block
-pub all_taken : (iv octets words behind : List ℕ) → words ≡ words_after iv (length octets / 64) octets
-    → behind ≡ drop (length octets / 64 * 64) octets
+pub all_taken : (iv octets words behind : List ℕ) (size : ℕ) → size ≡ length octets / 64 * 64
+    → words ≡ fold after_block iv (blocks_of (take size octets)) → behind ≡ drop size octets
     → HasTaken words behind iv octets
-all_taken iv octets words behind taken rest =
-    let many = length-drop (length octets / 64 * 64) octets in
-    let size : length behind ≤ length octets % 64 = omega (arith, many, ap length rest) in
-    record { blocks = taken; behind = take_all (length octets % 64) behind size ∙ rest }
+all_taken iv octets words behind size whole taken rest =
+    let many = length-drop size octets in
+    let short : length behind ≤ length octets % 64 = omega (arith, many, ap length rest) in
+    let front : length (take size octets) / 64 ≡ length octets / 64 =
+    omega (arith, length-take-le size octets (omega arith)) in
+    let same : words_after iv (length octets / 64) octets ≡ words_after iv (length octets / 64) (take size octets) =
+    ap (words_after iv (length octets / 64)) (sym (take-append-drop size octets))
+    ∙ words_after-append iv (length octets / 64) (take size octets) (drop size octets)
+    (omega (arith, length-take-le size octets (omega arith))) in
+    record {
+      blocks = taken ∙ ap (λ (n : ℕ). words_after iv n (take size octets)) front ∙ sym same;
+      behind = take_all (length octets % 64) behind short ∙ rest ∙ ap (λ (n : ℕ). drop n octets) whole;
+    }
 
 -- if the last bytes and the number of bits fit into one block, one more block gives the digest
 pub digest_by_one : (iv octets words behind block : List ℕ) → HasTaken words behind iv octets

@@ -3,10 +3,11 @@
 //! The rounds are twelve rows of four inlined steps, not a loop over tables, so that the four words stay in
 //! registers.
 
-ghost use Rattle.std.specs.Prelude.{◌≡◌, ℕ, ◌+◌, ◌%◌, ◌^◌, ◌<◌, List, [], ◌∷◌, length, slice_index};
-ghost use Rattle.md4.specs.Digest.{conditional, majority, parity, rotate_sum, first_round, second_round, third_round, four_steps, after_round, after_block, octets_of_words};
+ghost use Rattle.std.specs.Prelude.{◌≡◌, ℕ, ◌+◌, ◌%◌, ◌^◌, ◌<◌, List, [], ◌∷◌, length, fold, slice_index};
+ghost use Rattle.md4.specs.Digest.{conditional, majority, parity, rotate_sum, first_round, second_round, third_round, four_steps, after_round, after_block, blocks_of, octets_of_words};
 ghost use Rattle.md4.specs.Rows.{HasAdded};
 
+use crate::BLOCK_SIZE;
 use byteorder::{ByteOrder, LittleEndian};
 use octets::places::put_u32;
 
@@ -153,6 +154,19 @@ pub fn take_in(words: &mut [u32; 4], block: &[u8])
         words[2].wrapping_add(v[2]),
         words[3].wrapping_add(v[3]),
     ];
+}
+
+/// Updates the four words with complete blocks, one after another.
+#[inline(always)]
+pub fn take_in_all(words: &mut [u32; 4], blocks: &[u8])
+    requires { length blocks.now % 64 ≡ 0 }
+    // The new words are the old ones after each block in order.
+    ensures { words.new ≡ fold after_block words.old (blocks_of blocks.now) }
+{
+    'blocks: for i in 0..blocks.len() / BLOCK_SIZE {
+        let at = BLOCK_SIZE * i;
+        take_in(words, &blocks[at..at + BLOCK_SIZE]);
+    }
 }
 
 /// Returns the four words as bytes.

@@ -34,10 +34,8 @@ fn with_bit_count(mut block: [u8; BLOCK_SIZE], bits: u64) -> [u8; BLOCK_SIZE]
 pub fn after_last_blocks(mut words: [u32; 4], behind: &[u8], bits: u64) -> [u32; 4]
     requires { length behind.now < 64 }
     // The result is the digest of each message whose complete blocks gave the words, and which ends so.
-    ensures {
-        (iv octets : List ℕ) → HasTaken words behind.now iv octets → length behind.now ≡ length octets % 64 →
-        bits ≡ length octets * 8 % 2 ^ 64 → octets_of_words result ≡ digest iv octets
-    }
+    ensures { (iv octets : List ℕ) → HasTaken words behind.now iv octets → length behind.now ≡ length octets % 64 →
+        bits ≡ length octets * 8 % 2 ^ 64 → octets_of_words result ≡ digest iv octets }
 {
     let block = begun(behind);
     if behind.len() < BLOCK_SIZE - 8 {

@@ -1,4 +1,4 @@
-use Rattle.std.proofs.Common.{◌≡◌, ◌*◌, ◌%◌, ◌^◌, length, arith, ◌∙◌}
+use Rattle.std.proofs.Common.{◌≡◌, ◌%◌, length, arith, ◌∙◌}
 use Rattle.md4.proofs.Pieces.{StandsFor-total, StandsFor-taken, HasTaken-front}
 use Rattle.md4.proofs.Md4.finish.Goals as goal
 

@@ -1,4 +1,3 @@
-use Rattle.std.proofs.Common.{◌≡◌, arith, ◌∙◌}
 use Rattle.md4.proofs.Whole.{digest_by_one, digest_by_two}
 use Rattle.md4.proofs.padding.after_last_blocks.Goals as goal
 
