@@ -162,8 +162,8 @@ fn stop<E: Write>(stopped: StopCause, ends: &Ends, file: &str, err: &mut E) -> S
     status
 }
 
-/// Runs an end of this side, and the field element beside it if there is a second one. Returns how they were at the
-/// end.
+/// Runs an end of this side, and the field element beside it if there is a second one. The channels of the first are bound
+/// before the addresses of the second are read. Returns how they were at the end.
 fn run_sides<R: Net + Clock + Input + Files, O: Write, E: Write>(
     rt: &R,
     alloc: Global,
@@ -178,8 +178,9 @@ fn run_sides<R: Net + Clock + Input + Files, O: Write, E: Write>(
     let mut watch = watch(rt, alloc)?;
     let mut clock = RunClock::start(rt)?;
     let now = clock.read(rt)?;
+    let channels = bind_channels(rt, alloc, side, first, &watch)?;
     let second = open_second(rt, alloc, &watch, second, run, now, &mut streams.err)?;
-    let first = open_side(rt, alloc, &watch, side, first, run, now, &mut streams.err)?;
+    let first = open_side(rt, alloc, channels, side, first, run, now, &mut streams.err)?;
     let mut running = Runner {
         first,
         second,
@@ -217,8 +218,8 @@ fn watch<R: Net>(rt: &R, alloc: Global) -> Result<Watch, Fault> {
     Watch::open(alloc, rt).map_err(fault_of)
 }
 
-/// Opens the field element beside an interlocking, if there is one. It is opened first, so that it receives the
-/// request of the interlocking.
+/// Binds the channels of the field element beside an interlocking, if there is one, and opens it. It is opened first, so
+/// that it receives the request of the interlocking.
 fn open_second<'a, R: Net + Clock + Files, E: Write>(
     rt: &R,
     alloc: Global,
@@ -240,17 +241,18 @@ fn open_second<'a, R: Net + Clock + Files, E: Write>(
         None => Ok(None),
         Some(settings) => {
             let side = Side::FieldElement;
-            let actor = open_side(rt, alloc, watch, side, settings, run, now, err)?;
+            let channels = bind_channels(rt, alloc, side, settings, watch)?;
+            let actor = open_side(rt, alloc, channels, side, settings, run, now, err)?;
             Ok(Some(actor))
         }
     }
 }
 
-/// Opens an end on the channels of its settings, which end a wait when something comes, and logs that.
+/// Opens an end on the channels that were bound for it, and logs that.
 fn open_side<'a, R: Net + Clock + Files, E: Write>(
     rt: &R,
     alloc: Global,
-    watch: &Watch,
+    channels: UdpChannels,
     side: Side,
     settings: &'a Settings,
     run: &RunRequest<'_>,
@@ -267,7 +269,6 @@ fn open_side<'a, R: Net + Clock + Files, E: Write>(
     // The end that `open_side` returns is opened again if the run keeps it, with the settings of the file.
     ensures kept { IfOk result (λ actor. (actor.is_kept ≡ run.now.keep) × (actor.keeper.config ≡ settings.now.config)) }
 {
-    let channels = bind_channels(rt, alloc, side, settings, watch)?;
     let mut source = Random { system: rt };
     let mut actor = open_end(&mut source, alloc, channels, side, settings, run, now)?;
     actor.look_at_clock(rt, now);
@@ -275,7 +276,7 @@ fn open_side<'a, R: Net + Clock + Files, E: Write>(
     Ok(actor)
 }
 
-/// Opens the channels of an end, and watches them.
+/// Binds the channels of an end, which end a wait when something comes.
 fn bind_channels<R: Net>(
     rt: &R,
     alloc: Global,

@@ -461,12 +461,7 @@ impl<'a, C: Channels, A: Allocator + Copy> Actor<'a, C, A> {
             (E.contents err.old) (E.contents err.new)) }
     {
         let is_closed = is_closed(self.end.state());
-        let notice = loss_notice(
-            self.was_closed,
-            is_closed,
-            self.doubt(),
-            self.end.unsent(),
-        );
+        let notice = loss_notice(self.was_closed, is_closed, self.doubt(), self.end.unsent());
         self.was_closed = is_closed;
         self.log.notice(notice, now, err)
     }
@@ -539,11 +534,11 @@ fn deaf_after(works: bool, count: u64) -> u64
 }
 
 /// Returns the notice of a connection that was just found closed.
-fn loss_notice(was_closed: bool, is_closed: bool, open: u64, unsent: u64) -> Option<Notice>
-    ensures { result ≡ turning.loss_notice was_closed is_closed open unsent }
+fn loss_notice(was_closed: bool, is_closed: bool, unconfirmed: u64, unsent: u64) -> Option<Notice>
+    ensures { result ≡ turning.loss_notice was_closed is_closed unconfirmed unsent }
 {
-    if is_closed && !was_closed && open > 0 {
-        return Some(Notice::InDoubt(open.saturating_sub(unsent), unsent));
+    if is_closed && !was_closed && unconfirmed > 0 {
+        return Some(Notice::InDoubt(unconfirmed.saturating_sub(unsent), unsent));
     }
     None
 }
