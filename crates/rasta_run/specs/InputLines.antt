@@ -13,9 +13,10 @@ use Rattle.rasta_run.specs.declared.input.Line.TheVariants as line
 use Rattle.rasta_run.specs.declared.input.LineFlaw.{LineFlaw}
 use Rattle.rasta_run.specs.declared.input.LineFlaw.TheVariants as flaw
 
--- the number of bytes up to which a line is read
-abbrev pub ahead_most : ℕ
-ahead_most = 65_536
+-- the number of bytes up to which input is read: more if no line feed is there
+abbrev pub room_of : (feed : Option ℕ) → ℕ
+room_of None = 65_536
+room_of (Some place) = 4_096
 
 -- the place of the first line feed
 abbrev pub feed_place : List ℕ → Option ℕ
@@ -163,6 +164,6 @@ unput_count s = min (min (s.unread + count_of s.next) (2 ^ 64 - 1) + lines_left 
 abbrev pub is_done : Option ℕ → Input → Bool
 is_done ended s = is_some ended && (is_none s.next && nat_eq (length s.octets) 0)
 
--- input is read: it is not at its end, no whole line waits, and there is room
+-- input is read: it is not at its end, and there is room
 abbrev pub is_wanted : Option ℕ → List ℕ → Bool
-is_wanted ended octets = is_none ended && (is_none (feed_place octets) && nat_lt (length octets) ahead_most)
+is_wanted ended octets = is_none ended && nat_lt (length octets) (room_of (feed_place octets))

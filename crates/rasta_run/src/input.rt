@@ -5,7 +5,7 @@
 ghost use Rattle.std.specs.Prelude.{◌≡◌, ◌⊎◌, ◌≤◌, ◌<◌, ◌++◌, [], Bool, List, ℕ, None, Some, false, true, is_none, is_some, length, option_map, take, ◌&&◌, nat_eq, nat_lt, IfErr, IfOk, OnErr, OnOk, IfSome};
 ghost use Rattle.std.specs.Io.KnownBytes.{Appends, Consumes, IsAtEnd};
 ghost use Rattle.settings_file.specs.Groups.{put_seen};
-ghost use Rattle.rasta_run.specs.InputLines.{ReadsNextTelegram, ReadsLine, ahead_most, flaw_of, flaw_text, line_count_after, line_most, long_text, feed_place, input_of, is_done, is_open, is_wanted, is_whole, IsNumbered, open_text, rest_after_line, line_read, line_seen, lines_left, next_line, none_text, one_more, telegram_of, unfed_line, unput_count};
+ghost use Rattle.rasta_run.specs.InputLines.{ReadsNextTelegram, ReadsLine, flaw_of, flaw_text, line_count_after, line_most, long_text, feed_place, input_of, is_done, is_open, is_wanted, is_whole, IsNumbered, open_text, rest_after_line, room_of, line_read, line_seen, lines_left, next_line, none_text, one_more, telegram_of, unfed_line, unput_count};
 
 use crate::readiness::{Gate, Readiness, Stream};
 use octets::Milliseconds;
@@ -16,7 +16,7 @@ use std::io;
 use std::io::{ErrorKind, Read, Write};
 use udp_channels::Watch;
 
-/// The number of bytes up to which a line is read. Nothing is read while a whole line waits.
+/// The number of bytes up to which a line is read. While a whole line waits, less than `READ_MAX` is read ahead.
 const AHEAD_MAX: usize = 65_536;
 
 /// The number of bytes from which on a line is too long. Of such a line no more is kept until its line feed comes.
@@ -81,14 +81,15 @@ impl<I: Read + Drop> Feed<I> {
         })
     }
 
-    /// Reads without waiting, if no whole line waits and there is room, and returns whether anything came.
+    /// Reads without waiting, if there is room, and returns whether anything came. While a whole line waits there is less, so
+    /// that what is not read stays with its writer; but an input of a few lines is read to its end.
     ///
     /// # Errors
     ///
     /// - `File` if standard input cannot be read, for example because it is a folder;
     /// - `Memory` if an allocation fails.
     pub fn read<G: Gate>(&mut self, gate: &mut G, now: Milliseconds) -> Result<bool, Fault>
-        // At its end, while a whole line waits, or without room, `read` changes nothing and asks nothing.
+        // At its end, or without room, `read` changes nothing and asks nothing.
         ensures idle { is_wanted self.old.ended self.old.lines.octets.items ≡ false
             → IfOk result (λ came. (came ≡ false) × (self.new ≡ self.old) × (gate.new ≡ gate.old)) }
         // Else `read` asks the gate once, and reads nothing if the input is not ready.
@@ -367,9 +368,13 @@ impl Lines {
 
     /// Returns whether more is to be read.
     fn has_room(&self) -> bool
-        ensures { result ≡ (is_none (feed_place self.now.octets.items) && nat_lt (length self.now.octets.items) ahead_most) }
+        ensures { result ≡ nat_lt (length self.now.octets.items) (room_of (feed_place self.now.octets.items)) }
     {
-        feed_in(self.octets.as_slice()).is_none() && self.octets.len() < AHEAD_MAX
+        let room = match feed_in(self.octets.as_slice()) {
+            None => AHEAD_MAX,
+            Some(_) => READ_MAX,
+        };
+        self.octets.len() < room
     }
 
     /// Cuts off the next line, and reads it. Without one, only the first bytes are kept of a line that is too long.
