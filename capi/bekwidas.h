@@ -354,7 +354,8 @@ void bek_free(bek_end *end);
  * it. Then take what waits.
  *
  * BEK_OK, also for a datagram that is not of the peer; BEK_UNSENT; or the first that holds: BEK_ERR_NULL, BEK_ERR_LENGTH, BEK_ERR_NOT_OPEN,
- * BEK_ERR_TIME, BEK_ERR_LOST, BEK_ERR_TAKE_FIRST, BEK_ERR_SEND_FIRST. If you drain after each call, it never returns the last two. */
+ * BEK_ERR_TIME, BEK_ERR_LOST, BEK_ERR_TAKE_FIRST, BEK_ERR_SEND_FIRST. If you drain after each call, it never returns the last two. It returns them only
+ * until t_max has passed since the peer last confirmed anything: then the call ends the connection, takes nothing, and needs no room. */
 BEK_MUST_USE int bek_arrive(bek_end *end, uint32_t channel, const uint8_t *octets, size_t length, uint64_t now);
 
 /* Lets time pass: heartbeats, the end of the connection if nothing recent was confirmed, early parts released. Call it at bek_next_deadline or
@@ -363,10 +364,11 @@ BEK_MUST_USE int bek_arrive(bek_end *end, uint32_t channel, const uint8_t *octet
  * The results are those of bek_arrive. */
 BEK_MUST_USE int bek_tick(bek_end *end, uint64_t now);
 
-/* Writes the next time at which bek_tick will do something, if nothing arrives and nothing is put before. It may be in the past.
+/* Writes the next time at which bek_tick will do something, if nothing arrives, nothing is put and nothing is taken before. It may be in the past. If
+ * bek_tick returns BEK_ERR_TAKE_FIRST or BEK_ERR_SEND_FIRST, it is the time at which t_max ends the connection.
  *
- * BEK_OK; BEK_NOTHING if no bek_tick does anything until something arrives: in BEK_CLOSED, and in BEK_DOWN if no early part waits. Then *deadline
- * is not written: wait for a socket without a time limit. BEK_ERR_NULL; BEK_ERR_NOT_OPEN. */
+ * BEK_OK; BEK_NOTHING if no bek_tick does anything until something arrives: in BEK_CLOSED, in BEK_DOWN if no early part waits, and after
+ * BEK_ERR_LOST. Then *deadline is not written: wait for a socket without a time limit. BEK_ERR_NULL; BEK_ERR_NOT_OPEN. */
 BEK_MUST_USE int bek_next_deadline(const bek_end *end, uint64_t *deadline);
 
 /* Puts a command (interlocking) or status (field element) with a kind and 0 to BEK_PAYLOAD_MAX octets. It is copied, and sent after everything
