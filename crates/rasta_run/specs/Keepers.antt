@@ -10,8 +10,12 @@ stale_since (Some at) true now = Some at
 stale_since None true now = Some now
 stale_since before false now = None
 
--- the openings in a row without a session, when an end is seen: a session ends the row
-abbrev pub row_of : (up : Bool) → ℕ → ℕ
+-- a session lasts: it is established three T_max after the opening
+abbrev pub is_lasting : (up : Bool) → ℕ → Keeper → Bool
+is_lasting up now k = up && nat_le k.config.t_max ((now - k.opened) / 3)
+
+-- the openings in a row without a session that lasts, when an end is seen: such a session ends the row
+abbrev pub row_of : (lasts : Bool) → ℕ → ℕ
 row_of true fruitless = 0
 row_of false fruitless = fruitless
 
@@ -21,21 +25,28 @@ see_end stale up now k =
     record k {
       left = stale_since k.left stale now;
       had_session = k.had_session || up;
-      fruitless = row_of up k.fruitless;
+      has_lasted = k.has_lasted || is_lasting up now k;
+      fruitless = row_of (is_lasting up now k) k.fruitless;
     }
 
--- the least time between two openings of an interlocking, in milliseconds: T_max/4, doubled after each opening in a row
--- without a session, up to T_max
+-- the pause of an interlocking, in milliseconds: T_max/4, doubled after each opening in a row without a session that lasts,
+-- up to T_max
 abbrev pub pause_of : (fruitless t_max : ℕ) → ℕ
 pause_of fruitless t_max = if nat_eq fruitless 0 then t_max / 4 else if nat_eq fruitless 1 then t_max / 2 else t_max
 
+-- the least time between a departure of an interlocking and its next opening: the pause, after a session
+abbrev pub least_after : (had_session : Bool) → (pause t_max : ℕ) → ℕ
+least_after true pause t_max = pause
+least_after false pause t_max = t_max / 4
+
 -- how long it is until an end that is stale since `left` is opened again, in milliseconds. A field element is opened at
--- least T_max/8 after its last opening. An interlocking waits T_max/4 after it disconnected: by then its last PDUs have
--- arrived at the field element, so that its request finds that one newly opened. Its openings are also apart by the
--- pause.
+-- least T_max/8 after its last opening. An interlocking waits T_max/4 after it disconnected, or longer after a session: by
+-- then its last PDUs have arrived at the field element, so that its request finds that one newly opened. Its openings are
+-- also apart by the pause.
 abbrev pub rest_of : Side → Keeper → (left now : ℕ) → ℕ
 rest_of Interlocking k left now =
-    max (k.config.t_max / 4 - (now - left)) (pause_of k.fruitless k.config.t_max - (now - k.opened))
+    let pause = pause_of k.fruitless k.config.t_max in
+    max (least_after k.had_session pause k.config.t_max - (now - left)) (pause - (now - k.opened))
 rest_of FieldElement k left now = k.config.t_max / 8 - (now - k.opened)
 
 -- the same since a time, if there is one
@@ -72,17 +83,23 @@ abbrev pub reopening_time_after : (kept : Bool) → Side → Option ℕ → Keep
 reopening_time_after true side before k now = end_of_wait (wait_until_reopening side k now) now
 reopening_time_after false side before k now = before
 
--- the openings in a row without a session, if one more had a session or had none
-abbrev pub row_after : (had_session : Bool) → ℕ → ℕ
+-- the openings in a row without a session that lasted, after one more
+abbrev pub row_after : (has_lasted : Bool) → ℕ → ℕ
 row_after true fruitless = 0
 row_after false fruitless = min (fruitless + 1) (2 ^ 64 - 1)
 
 -- the keeper of an end that is opened again
 abbrev pub reopen_keeper : ℕ → Keeper → Keeper
 reopen_keeper now k =
-    record k { opened = now; left = None; had_session = false; fruitless = row_after k.had_session k.fruitless }
+    record k {
+      opened = now;
+      left = None;
+      had_session = false;
+      has_lasted = false;
+      fruitless = row_after k.has_lasted k.fruitless;
+    }
 
--- from this number of openings in a row without a session, the log only counts them
+-- from this number of openings in a row without a session that lasted, the log only counts them
 abbrev pub row_most : ℕ
 row_most = 2
 

@@ -154,10 +154,10 @@ cause_of_drop (InitRefused fault) = None
 cause_of_drop (Silent channel) = None
 cause_of_drop (Heard channel) = None
 
--- the event is one of an opening that gets no session
+-- the event is one of an opening that is only counted
 abbrev pub is_of_opening : EndEvent → Bool
 is_of_opening (State s) = true
-is_of_opening (Phase p) = true
+is_of_opening (Phase p) = not (is_up p)
 is_of_opening (Anew number) = true
 is_of_opening (Left leaving) = true
 is_of_opening (PeerLeft leaving) = true
@@ -168,25 +168,6 @@ is_of_opening (InitRefused fault) = false
 is_of_opening (Silent channel) = false
 is_of_opening (Heard channel) = false
 is_of_opening (Dropped channel why) = false
-
--- the event is that the session is established
-abbrev pub is_session : EndEvent → Bool
-is_session (Phase p) = is_up p
-is_session (State s) = false
-is_session (Anew number) = false
-is_session (Left leaving) = false
-is_session (PeerLeft leaving) = false
-is_session Asked = false
-is_session Resent = false
-is_session (PutRefused fault) = false
-is_session (InitRefused fault) = false
-is_session (Silent channel) = false
-is_session (Heard channel) = false
-is_session (Dropped channel why) = false
-
--- openings are only counted after this event; a session ends that
-abbrev pub quiet_after : EndEvent → Bool → Bool
-quiet_after h quiet = quiet && not (is_session h)
 
 -- an event is logged at the level of states: a drop if its cause is new, and one of an opening unless openings are only
 -- counted

@@ -8,7 +8,7 @@ use Rattle.pdu_text.specs.Pieces.{three_digits}
 use Rattle.rasta_run.specs.declared.channel_failures.Call.{Call}
 use Rattle.rasta_run.specs.declared.channel_failures.Call.TheVariants.{Send, Receive}
 use Rattle.rasta_run.specs.declared.notices.Notice.{Notice}
-use Rattle.rasta_run.specs.declared.notices.Notice.TheVariants.{CallsFail, CallsSucceed, Unanswered, Drops, WrongRequest, OtherVersion, InDoubt, NoTurn, Fruitless, Session, Unread, Behind, OutputFails, Ending}
+use Rattle.rasta_run.specs.declared.notices.Notice.TheVariants.{CallsFail, CallsSucceed, Unanswered, Paused, Drops, WrongRequest, OtherVersion, InDoubt, NoTurn, Fruitless, Session, Unread, Behind, OutputFails, Ending}
 
 -- the connection is lost; this many telegrams were sent and not confirmed, and this many not sent
 unfoldable pub in_doubt_text : (sent unsent : ℕ) → List ℕ
@@ -22,15 +22,21 @@ no_turn_text milliseconds =
     join_pieces (codes "no turn for " ∷ decimal milliseconds ∷
     codes " ms: the process was stopped, or had no processor" ∷ [])
 
--- this many openings in a row got no session
+-- this many openings in a row got no session that lasted
 unfoldable pub fruitless_text : ℕ → List ℕ
 fruitless_text count =
-    join_pieces (codes "no session in the last " ∷ decimal count ∷
-    codes " openings; openings are only counted until there is one" ∷ [])
+    join_pieces (codes "no session lasted in the last " ∷ decimal count ∷
+    codes " openings; they are only counted, and one a minute is logged" ∷ [])
 
--- a session was established after this many openings in a row without one
+-- a session lasts after this many openings in a row without one
 unfoldable pub session_text : ℕ → List ℕ
-session_text count = join_pieces (codes "a session again, after " ∷ decimal count ∷ codes " openings without one" ∷ [])
+session_text count = join_pieces (codes "a session lasts again, after " ∷ decimal count ∷ codes " openings" ∷ [])
+
+-- nothing recent was confirmed: the time since the peer's last PDU, its longest pause, and T_max
+unfoldable pub paused_text : (ago longest t_max : ℕ) → List ℕ
+paused_text ago longest t_max =
+    join_pieces (codes "the peer's last PDU came " ∷ decimal ago ∷ codes " ms ago, its longest pause was " ∷
+    decimal longest ∷ codes " ms: t_h of both ends must be well below t_max " ∷ decimal t_max ∷ [])
 
 -- the name of calls of a kind
 abbrev pub call_name : Call → List ℕ
@@ -105,6 +111,7 @@ abbrev pub notice_text : Notice → List ℕ
 notice_text (CallsFail call channel error) = calls_fail_text call channel error
 notice_text (CallsSucceed call channel failed) = calls_succeed_text call channel failed
 notice_text (Unanswered milliseconds) = unanswered_text milliseconds
+notice_text (Paused ago longest t_max) = paused_text ago longest t_max
 notice_text (Drops count) = drops_text count
 notice_text WrongRequest = codes "a connection request came, which only an interlocking makes: the peer is one, too"
 notice_text (OtherVersion version) = other_version_text version

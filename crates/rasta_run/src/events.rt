@@ -21,17 +21,14 @@ pub fn dropped_cause(happening: EndEvent) -> Option<Cause>
     }
 }
 
-/// Returns whether an event is one of an opening that gets no session.
+/// Returns whether an event is one of an opening that is only counted.
 pub fn is_of_opening(happening: EndEvent) -> bool
-    // `is_of_opening` is true for a state, a phase, an opening and a departure.
+    // `is_of_opening` is true for a state, a phase other than `Established`, an opening and a departure.
     ensures { result ≡ telling.is_of_opening happening }
 {
     match happening {
-        EndEvent::State(_)
-        | EndEvent::Phase(_)
-        | EndEvent::Anew(_)
-        | EndEvent::Left(_)
-        | EndEvent::PeerLeft(_) => true,
+        EndEvent::Phase(phase) => phase != Phase::Established,
+        EndEvent::State(_) | EndEvent::Anew(_) | EndEvent::Left(_) | EndEvent::PeerLeft(_) => true,
         _ => false,
     }
 }
@@ -44,17 +41,6 @@ pub fn is_session_fault(event: EndEvent) -> bool
     match event {
         EndEvent::Left(leaving) => leaving.reason == 4,
         _ => false,
-    }
-}
-
-/// Returns whether openings are only counted after an event.
-pub fn quiet_after(happening: EndEvent, is_quiet: bool) -> bool
-    // `quiet_after` returns false if the session is established, and else what was before.
-    ensures { result ≡ telling.quiet_after happening is_quiet }
-{
-    match happening {
-        EndEvent::Phase(phase) => is_quiet && phase != Phase::Established,
-        _ => is_quiet,
     }
 }
 

@@ -1,8 +1,8 @@
 //! When an end that is kept is opened again.
 //!
 //! A field element opens again T_max/8 after its last opening, an interlocking T_max/4 after it disconnected. So
-//! the last PDUs of the old connection are gone before the new request. An interlocking whose openings get no
-//! session waits longer between them, up to T_max.
+//! the last PDUs of the old connection are gone before the new request. An interlocking whose openings get no session that
+//! lasts waits longer, up to T_max: between them, or after one that had a session.
 
 ghost use Rattle.std.specs.Prelude.{◌≡◌, None, false};
 ghost use Rattle.rasta_run.specs.Keepers as keeping;
@@ -27,7 +27,9 @@ pub struct Keeper {
     pub left: Option<Milliseconds>,
     /// Whether this opening got a session.
     pub had_session: bool,
-    /// The number of openings in a row before this one that got no session.
+    /// Whether this opening got a session that lasted.
+    pub has_lasted: bool,
+    /// The number of openings in a row before this one that got no session that lasted; 0 once this one got it.
     pub fruitless: u64,
     /// When the log last had that number, in milliseconds.
     pub counted_at: Milliseconds,
@@ -37,13 +39,14 @@ impl Keeper {
     /// Returns the keeper of an end that is opened now.
     pub fn new(config: EndConfig, now: Milliseconds) -> Self
         // A new keeper has these settings, was opened `now`, and is neither stale nor after an opening without a session.
-        ensures { result ≡ record { config = config; opened = now; left = None; had_session = false; fruitless = 0; counted_at = now } }
+        ensures { result ≡ record { config = config; opened = now; left = None; had_session = false; has_lasted = false; fruitless = 0; counted_at = now } }
     {
         Keeper {
             config,
             opened: now,
             left: None,
             had_session: false,
+            has_lasted: false,
             fruitless: 0,
             counted_at: now,
         }
@@ -58,19 +61,28 @@ impl Keeper {
         is_up: bool,
         now: Milliseconds,
     ) -> Option<u64>
-        // `look` records since when the end is stale, and whether it has got a session, which ends a row of openings
-        // without one.
+        // `look` records since when the end is stale, and whether it has got a session. One that has lasted for three T_max
+        // since the opening ends a row of openings without one.
         ensures seen { self.new ≡ keeping.see_end is_stale is_up now self.old }
         // `look` returns the wait until the end is opened again, if it is stale.
         ensures until { result ≡ keeping.wait_until_reopening side self.new now }
     {
         self.left = left_by(self.left, is_stale, now);
         self.had_session = self.had_session || is_up;
-        self.fruitless = row_of(is_up, self.fruitless);
+        let lasts = self.is_lasting(is_up, now);
+        self.has_lasted = self.has_lasted || lasts;
+        self.fruitless = row_of(lasts, self.fruitless);
         match self.left {
             None => None,
             Some(left) => Some(self.rest_of(side, left, now)),
         }
+    }
+
+    /// Returns whether a session lasts: it is established three T_max after the opening.
+    fn is_lasting(&self, is_up: bool, now: Milliseconds) -> bool
+        ensures { result ≡ keeping.is_lasting is_up now self.now }
+    {
+        is_up && self.config.t_max <= now.saturating_sub(self.opened) / 3
     }
 
     /// Returns how long it is until an end that is stale since `left` is opened again, in milliseconds.
@@ -81,9 +93,10 @@ impl Keeper {
         let since_opening = now.saturating_sub(self.opened);
         match side {
             Side::Interlocking => {
-                let after_leaving = (t_max / 4).saturating_sub(now.saturating_sub(left));
-                let apart = pause_of(self.fruitless, t_max).saturating_sub(since_opening);
-                after_leaving.max(apart)
+                let pause = pause_of(self.fruitless, t_max);
+                let least = if self.had_session { pause } else { t_max / 4 };
+                let after_leaving = least.saturating_sub(now.saturating_sub(left));
+                after_leaving.max(pause.saturating_sub(since_opening))
             }
             Side::FieldElement => (t_max / 8).saturating_sub(since_opening),
         }
@@ -97,8 +110,9 @@ impl Keeper {
     {
         self.opened = now;
         self.left = None;
-        self.fruitless = row_after(self.had_session, self.fruitless);
+        self.fruitless = row_after(self.has_lasted, self.fruitless);
         self.had_session = false;
+        self.has_lasted = false;
     }
 
     /// Returns whether the log only counts openings, because some in a row got no session.
@@ -138,20 +152,20 @@ fn left_by(before: Option<Milliseconds>, is_stale: bool, now: Milliseconds) -> O
 }
 
 /// Returns the number of openings in a row without a session, when an end is seen.
-fn row_of(is_up: bool, fruitless: u64) -> u64
-    ensures { result ≡ keeping.row_of is_up fruitless }
+fn row_of(lasts: bool, fruitless: u64) -> u64
+    ensures { result ≡ keeping.row_of lasts fruitless }
 {
-    match is_up {
+    match lasts {
         true => 0,
         false => fruitless,
     }
 }
 
 /// Returns the number of openings in a row without a session, after one more opening.
-fn row_after(had_session: bool, fruitless: u64) -> u64
-    ensures { result ≡ keeping.row_after had_session fruitless }
+fn row_after(has_lasted: bool, fruitless: u64) -> u64
+    ensures { result ≡ keeping.row_after has_lasted fruitless }
 {
-    match had_session {
+    match has_lasted {
         true => 0,
         false => fruitless.saturating_add(1),
     }

@@ -27,6 +27,7 @@ mod net;
 mod notices;
 mod number_source;
 mod opening_faults;
+mod pauses;
 mod printer;
 mod program;
 mod progress;

@@ -15,13 +15,14 @@ ghost use Rattle.rasta_run.specs.Notices.{notice_line};
 ghost use Rattle.rasta_run.specs.ChannelFailures.{all_calls, notice_at, calls_at};
 ghost use Rattle.rasta_run.specs.declared.channel_failures.Call.TheVariants as Call;
 ghost use Rattle.rasta_run.specs.LogEvents as telling;
+ghost use Rattle.rasta_run.specs.Pauses as pausing;
 ghost use Rattle.end_settings.specs.ConfigValue.{settings_of};
 ghost use Rattle.stack_end.specs.EndValue.{inside};
 
 use crate::channel_failures::{Call, CallFailures};
 use crate::events::{
     dropped_cause, drops_after, explanation_of, is_of_opening, is_repeat, is_session_fault,
-    logged_departure_of, quiet_after,
+    logged_departure_of,
 };
 use crate::header::body_of;
 use crate::line_times::{Stamp, write_stamped, zero_of};
@@ -29,6 +30,7 @@ use crate::notices::{
     Notice, are_drops_due, asked_by, drops_notice, is_wrong_request, request_notice,
     version_notice, write_notice, wrong_request_notice,
 };
+use crate::pauses::{PeerPauses, is_timeout, pause_notice, pauses_after};
 use crate::silence::{ChannelSilence, SilenceChange};
 use crate::{Recorder, RunCounts};
 use arrayvec::ArrayVec;
@@ -82,7 +84,7 @@ pub struct Log {
     causes: [Option<Cause>; CAUSES_MAX],
     /// The number of these causes.
     cause_count: usize,
-    /// Whether openings are only counted, because several in a row got no session.
+    /// Whether openings are only counted, because several in a row got no session that lasted.
     is_quiet: bool,
     /// The number of datagrams dropped for these causes since that was last logged.
     drops: u64,
@@ -94,6 +96,8 @@ pub struct Log {
     receptions: [CallFailures; CHANNELS_MAX],
     /// Since when a retransmission is awaited, in milliseconds, if one is.
     asked: Option<u64>,
+    /// When PDUs of the peer came, if the end is connected.
+    pauses: Option<PeerPauses>,
     /// Whether it was logged that a connection request came at an interlocking.
     has_request: bool,
     /// The version of RaSTA of the peer that was last logged.
@@ -141,6 +145,7 @@ impl Log {
             sends: [CallFailures::none(now); CHANNELS_MAX],
             receptions: [CallFailures::none(now); CHANNELS_MAX],
             asked: None,
+            pauses: None,
             has_request: false,
             version: None,
             code: settings.config.code as usize,
@@ -244,7 +249,6 @@ impl Log {
         ensures { self.new ≡ record self.old {
           causes = self.new.causes;
           cause_count = self.new.cause_count;
-          is_quiet = self.new.is_quiet;
           drops = self.new.drops;
         } }
     {
@@ -294,13 +298,10 @@ impl Log {
         // a drop counts only if its cause is `new`.
         ensures told { OnOk result ((new : Bool) × LogsEvent (telling.is_logged self.old.level self.new.is_quiet new happening)
             self.new now happening (E.contents err.old) (E.contents err.new)) }
-        // Once the session is established, `log_event` no longer leaves openings out.
-        ensures quiet { self.new.is_quiet ≡ telling.quiet_after happening self.old.is_quiet }
-        // `log_event` changes only which causes are known, how often they came, and whether openings are only counted.
+        // `log_event` changes only which causes are known, and how often they came.
         ensures kept { self.new ≡ record self.old {
           causes = self.new.causes;
           cause_count = self.new.cause_count;
-          is_quiet = self.new.is_quiet;
           drops = self.new.drops;
         } }
     {
@@ -362,17 +363,13 @@ impl Log {
         // cause is `new`, and else it is counted, unless it is a copy.
         ensures told { (new : Bool) × (result ≡ telling.is_logged self.old.level self.new.is_quiet new happening)
             × (self.new.drops ≡ telling.drops_by self.old.level new happening self.old.drops) }
-        // After `note_event` openings are only counted if they were before and this is not a session.
-        ensures quiet { self.new.is_quiet ≡ telling.quiet_after happening self.old.is_quiet }
-        // `note_event` changes only which causes are known, how often they came, and whether openings are only counted.
+        // `note_event` changes only which causes are known, and how often they came.
         ensures kept { self.new ≡ record self.old {
           causes = self.new.causes;
           cause_count = self.new.cause_count;
-          is_quiet = self.new.is_quiet;
           drops = self.new.drops;
         } }
     {
-        self.is_quiet = quiet_after(happening, self.is_quiet);
         match (self.level, dropped_cause(happening)) {
             (LogLevel::Off, _) => false,
             (LogLevel::All, _) => true,
@@ -422,6 +419,15 @@ impl Log {
         ensures { self.new ≡ record self.old { is_quiet = is_quiet } }
     {
         self.is_quiet = is_quiet;
+    }
+
+    /// Logs each cause for dropping once more.
+    pub fn repeat_causes(&mut self)
+        // After `repeat_causes` no cause is known.
+        ensures { self.new ≡ record self.old { causes = self.new.causes; cause_count = 0 } }
+    {
+        self.causes = [None; CAUSES_MAX];
+        self.cause_count = 0;
     }
 
     /// Records a cause for dropping, and returns whether it is new. One that is known is counted, unless it is a copy.
@@ -626,6 +632,32 @@ impl Log {
     {
         let notice = request_notice(self.asked, state, now);
         self.asked = asked_by(self.asked, state, now);
+        self.notice(notice, now, err)
+    }
+
+    /// Logs when PDUs of the peer came, if the end has now disconnected because nothing recent was confirmed and openings
+    /// are not only counted.
+    ///
+    /// # Errors
+    ///
+    /// - The error of the writer; what it wrote before stays written.
+    pub fn look_at_peer<E: Write>(
+        &mut self,
+        state: ConnectionState,
+        departure: Option<Departure>,
+        came: u64,
+        now: Milliseconds,
+        err: &mut E,
+    ) -> io::Result<()>
+        // `look_at_peer` records when PDUs of the peer came; it changes nothing else.
+        ensures kept { self.new ≡ record self.old { pauses = pausing.pauses_after self.old.pauses state came now } }
+        // If `look_at_peer` succeeds, it has appended the line of the pauses, if that is due, or nothing.
+        ensures told { OnOk result (LogsNotice (pausing.pause_notice (pausing.is_timeout departure && not self.old.is_quiet)
+            self.old.pauses state self.old.t_max now) self.new now (E.contents err.old) (E.contents err.new)) }
+    {
+        let wanted = is_timeout(departure) && !self.is_quiet;
+        let notice = pause_notice(wanted, self.pauses, state, self.t_max, now);
+        self.pauses = pauses_after(self.pauses, state, came, now);
         self.notice(notice, now, err)
     }
 

@@ -26,6 +26,9 @@ pub enum Notice {
     CallsSucceed(Call, usize, u64),
     /// The connection ended this many milliseconds after a retransmission was requested, which did not come.
     Unanswered(u64),
+    /// Nothing recent was confirmed: the peer's last PDU came this many milliseconds ago, its longest pause had so many,
+    /// and T_max has so many.
+    Paused(u64, u64, u64),
     /// This many more datagrams were dropped, for causes that are logged.
     Drops(u64),
     /// A connection request came at an interlocking.
@@ -36,9 +39,9 @@ pub enum Notice {
     InDoubt(u64, u64),
     /// The end took no turn for this many milliseconds.
     NoTurn(u64),
-    /// This many openings in a row got no session, and openings are only counted.
+    /// This many openings in a row got no session that lasted, and openings are only counted.
     Fruitless(u64),
-    /// The session is established, after this many openings in a row without one.
+    /// A session lasts, after this many openings in a row without one.
     Session(u64),
     /// The lines of telegrams taken have no room or are too old, because nobody reads standard output.
     Unread,
@@ -93,6 +96,7 @@ fn write_what<W: Write>(writer: &mut W, notice: Notice) -> io::Result<()>
             write_calls_succeed(writer, call, channel, failed)
         }
         Notice::Unanswered(milliseconds) => write_unanswered(writer, milliseconds),
+        Notice::Paused(ago, longest, t_max) => write_paused(writer, ago, longest, t_max),
         Notice::Drops(count) => write_drops(writer, count),
         Notice::WrongRequest => write_text(
             writer,
@@ -195,6 +199,18 @@ fn write_unanswered<W: Write>(writer: &mut W, milliseconds: u64) -> io::Result<(
     )
 }
 
+/// Writes when the peer's PDUs came.
+#[tactic(auto, unfolding(crate::specs::Notices::paused_text))]
+fn write_paused<W: Write>(writer: &mut W, ago: u64, longest: u64, t_max: u64) -> io::Result<()>
+    ensures { OnOk result (Appends (W.contents writer.old) (W.contents writer.new)
+        (noticing.paused_text ago longest t_max)) }
+{
+    write!(
+        writer,
+        "the peer's last PDU came {ago} ms ago, its longest pause was {longest} ms: t_h of both ends must be well below t_max {t_max}"
+    )
+}
+
 /// Writes how many more datagrams were dropped.
 #[tactic(auto, unfolding(crate::specs::Notices::drops_text))]
 fn write_drops<W: Write>(writer: &mut W, count: u64) -> io::Result<()>
@@ -275,19 +291,16 @@ fn write_fruitless<W: Write>(writer: &mut W, count: u64) -> io::Result<()>
 {
     write!(
         writer,
-        "no session in the last {count} openings; openings are only counted until there is one"
+        "no session lasted in the last {count} openings; they are only counted, and one a minute is logged"
     )
 }
 
-/// Writes that the session is established after openings without one.
+/// Writes that a session lasts after openings without one.
 #[tactic(auto, unfolding(crate::specs::Notices::session_text))]
 fn write_session<W: Write>(writer: &mut W, count: u64) -> io::Result<()>
     ensures { OnOk result (Appends (W.contents writer.old) (W.contents writer.new) (noticing.session_text count)) }
 {
-    write!(
-        writer,
-        "a session again, after {count} openings without one"
-    )
+    write!(writer, "a session lasts again, after {count} openings")
 }
 
 /// Writes how many lines wait for the reader of standard output.

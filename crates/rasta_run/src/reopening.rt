@@ -37,14 +37,15 @@ use udp_channels::{SocketChannels, UdpChannels};
 
 impl<C: Channels + Drop, A: Allocator + Copy> Actor<'_, C, A> {
     /// Looks whether the end is to be opened again: it is kept, has lost its connection, and its wait is over. Logs
-    /// that it has a session after openings without one.
+    /// that a session lasts after openings without one.
     pub fn is_due<E: Write>(&mut self, now: Milliseconds, err: &mut E) -> bool
         // `is_due` returns true if and only if the end is kept, it is stale and its wait is over.
         ensures due { result ≡ keeping.is_reopening_due self.old.is_kept self.old.side (is_stale (inside self.old.end))
             (is_up (inside self.old.end).upper.session.phase) self.old.keeper now }
         // `is_due` records what it saw of an end that is kept, and when it is to be opened again; it changes nothing
-        // else.
+        // else but the log.
         ensures kept { self.new ≡ record self.old {
+          log = self.new.log;
           keeper = keeping.look_at_end self.old.is_kept (is_stale (inside self.old.end)) (is_up (inside self.old.end).upper.session.phase) now self.old.keeper;
           anew_at = keeping.reopening_time_after self.old.is_kept self.old.side self.old.anew_at
               (keeping.look_at_end self.old.is_kept (is_stale (inside self.old.end)) (is_up (inside self.old.end).upper.session.phase) now self.old.keeper) now;
@@ -53,13 +54,13 @@ impl<C: Channels + Drop, A: Allocator + Copy> Actor<'_, C, A> {
         if !self.is_kept {
             return false;
         }
-        let before = self.keeper;
+        let (was_counted, count) = (self.keeper.is_counted(), self.keeper.fruitless);
         let is_up = is_up(self.end.phase());
         let until = self.keeper.look(self.side, self.end.is_stale(), is_up, now);
         self.anew_at = end_of_wait(until, now);
-        if is_up && before.is_counted() {
-            let notice = Notice::Session(before.fruitless);
-            let _ = self.log.notice(Some(notice), now, err);
+        if was_counted && !self.keeper.is_counted() {
+            self.log.set_quiet(false);
+            let _ = self.log.notice(Some(Notice::Session(count)), now, err);
         }
         is_wait_over(until)
     }
@@ -125,15 +126,19 @@ impl<C: Channels + Drop, A: Allocator + Copy> Actor<'_, C, A> {
         }
     }
 
-    /// Logs an opening, and how many in a row got no session if that is due.
+    /// Logs an opening, and how many in a row got no session that lasted if that is due: then this opening is logged with its
+    /// causes, and others are only counted.
     fn log_opening<E: Write>(&mut self, first_sn: u32, now: Milliseconds, err: &mut E)
         ensures { self.new ≡ record self.old {
           keeper = keeping.keeper_after_count (keeping.is_count_due self.old.keeper now) now self.old.keeper;
           log = self.new.log;
         } }
     {
-        self.log.set_quiet(self.keeper.is_counted());
-        if let Some(count) = self.keeper.count(now) {
+        let counted = self.keeper.count(now);
+        self.log
+            .set_quiet(self.keeper.is_counted() && counted.is_none());
+        if let Some(count) = counted {
+            self.log.repeat_causes();
             let _ = self.log.notice(Some(Notice::Fruitless(count)), now, err);
         }
         let _ = self.log.log_event(EndEvent::Anew(first_sn), now, err);
@@ -162,8 +167,9 @@ impl Actor<'_, UdpChannels> {
         ensures anew { IfOk result (λ anew. anew ≡ keeping.is_reopening_due self.old.is_kept self.old.side (is_stale (inside self.old.end))
             (is_up (inside self.old.end).upper.session.phase) self.old.keeper now) }
         // If `keep` returns false, it has recorded what it saw of an end that is kept, and when it is to be opened
-        // again; nothing else has changed, and no number was drawn.
+        // again; nothing else has changed but the log, and no number was drawn.
         ensures same { IfOk result (λ anew. anew ≡ false → (source.new ≡ source.old) × (self.new ≡ record self.old {
+          log = self.new.log;
           keeper = keeping.look_at_end self.old.is_kept (is_stale (inside self.old.end)) (is_up (inside self.old.end).upper.session.phase) now self.old.keeper;
           anew_at = keeping.reopening_time_after self.old.is_kept self.old.side self.old.anew_at
               (keeping.look_at_end self.old.is_kept (is_stale (inside self.old.end)) (is_up (inside self.old.end).upper.session.phase) now self.old.keeper) now;

@@ -190,7 +190,9 @@ impl<'a, C: Channels, A: Allocator + Copy> Actor<'a, C, A> {
         self.log.catch_up(recorder, departure, config, now, err);
         self.log.look(&counted.sums, now, err);
         self.log.look_at_calls(&counted, now, err);
-        let _ = self.log.look_at_request(self.end.state(), now, err);
+        let (state, came) = (self.end.state(), counted.accepted_count());
+        let _ = self.log.look_at_request(state, now, err);
+        let _ = self.log.look_at_peer(state, departure, came, now, err);
         let _ = self.log.look_for_request(recorder.has_request, now, err);
         let _ = self.log.look_for_version(recorder.version, now, err);
         let _ = self.log.log_drops(now, err);
