@@ -13,6 +13,7 @@ pub mod InputLines
 pub mod Counts
 pub mod Keepers
 pub mod Lateness
+pub mod Matching
 pub mod Pauses
 pub mod FirstNumber
 pub mod OpeningFaults

@@ -1,16 +1,20 @@
 //! The subcommand `check`: a settings file without a socket.
 
-ghost use Rattle.std.specs.Prelude.{◌≡◌, ◌≢◌, ◌⊎◌, false, is_ok, IfErr, OnOk};
+ghost use Rattle.std.specs.Prelude.{◌≡◌, ◌≢◌, Ok, false, is_ok, IfErr, IfOk, OnOk};
+ghost use Rattle.end_settings.specs.ConfigValue.{settings_of};
+ghost use Rattle.settings_file.specs.FileContents.{ends_of};
+ghost use Rattle.rasta_run.specs.Matching.{are_matching};
 ghost use Rattle.std.specs.Io.KnownBytes.{Appends};
 ghost use Rattle.settings_file.specs.FileContents.{ends_seen};
 ghost use Rattle.settings_text.specs.InForce.{settings_text};
-ghost use Rattle.rasta_run.specs.CheckOutput.{HasChecked, check_result_of};
+ghost use Rattle.rasta_run.specs.CheckOutput.{HasChecked, HasCompared, check_result_of};
 
+use crate::matching::{are_matching, report_misfits, warn_both};
 use crate::opening_faults::report_unread;
-use crate::settings::{NoAddress, check_ends, refuse, warn};
+use crate::settings::{NoAddress, check_ends, read_ends, refuse, warn};
 use end_settings::Side;
 use rasta_words::{Fault, Status, report};
-use settings_file::{Ends, Settings};
+use settings_file::{Ends, Settings, Subcommand};
 use settings_text::write_settings;
 use std::alloc::Global;
 use std::io;
@@ -19,7 +23,7 @@ use udp_channels::is_address;
 
 /// Runs `check` over the text of a settings file: prints what is likely to be a mistake to `err`, and all settings
 /// in force to `out`. Its keys show for which word of the program it is. A text that is not a settings file, or has a
-/// text that is not an address, is `fault: settings`, followed by its faults.
+/// text that is not an address, or ends that do not fit together, is `fault: settings`, followed by its faults.
 pub fn run_check<O: Write, E: Write>(
     alloc: Global,
     file: &str,
@@ -45,10 +49,79 @@ pub fn run_check<O: Write, E: Write>(
         return status;
     }
     warn(alloc, false, &ends, err);
+    if let Ends::Pair(il, fe) = &ends {
+        if !do_fit(il, fe, err) {
+            return Status::Refused;
+        }
+    }
     match write_all(out, &ends) {
         Ok(()) => Status::Done,
         Err(_) => report(err, Fault::Output),
     }
+}
+
+/// Runs `check` over the texts of two settings files: that of an interlocking, and that of its field element. It prints what
+/// is likely to be a mistake to `err`. If an end cannot be read or they do not fit together, it is `fault: settings`,
+/// followed by the faults.
+pub fn run_check_both<E: Write>(
+    alloc: Global,
+    il_file: &str,
+    il_text: &str,
+    fe_file: &str,
+    fe_text: &str,
+    err: &mut E,
+) -> Status
+    // `run_check_both` returns `Done` only if the texts have settings of an interlocking and a field element that fit together.
+    ensures done { result ≡ Status.Done → HasCompared il_text.now fe_text.now }
+    // `run_check_both` never returns `WrongWords`.
+    ensures words { result ≢ Status.WrongWords }
+{
+    let il = match read_one(alloc, Subcommand::Il, il_file, il_text, err) {
+        Ok(ends) => ends,
+        Err(status) => return status,
+    };
+    let fe = match read_one(alloc, Subcommand::Fe, fe_file, fe_text, err) {
+        Ok(ends) => ends,
+        Err(status) => return status,
+    };
+    match (&il, &fe) {
+        (Ends::Il(il), Ends::Fe(fe)) if do_fit(il, fe, err) => Status::Done,
+        _ => Status::Refused,
+    }
+}
+
+/// Reads the settings of one end, and prints what is likely to be a mistake.
+fn read_one<E: Write>(
+    alloc: Global,
+    word: Subcommand,
+    file: &str,
+    text: &str,
+    err: &mut E,
+) -> Result<Ends, Status>
+    ensures read { IfOk result (λ ends. ends_of word text.now ≡ Ok (ends_seen ends)) }
+    ensures refused { IfErr result (λ status. status ≡ Status.Refused) }
+{
+    let ends = read_ends(alloc, word, file, text, err)?;
+    if !are_addresses(&ends) {
+        let status = refuse(file, None, &NoAddress, err);
+        report_addresses(&ends, err);
+        return Err(status);
+    }
+    warn(alloc, false, &ends, err);
+    Ok(ends)
+}
+
+/// Returns whether two ends fit together, and prints in what they do not, or are likely to work badly.
+fn do_fit<E: Write>(il: &Settings, fe: &Settings, err: &mut E) -> bool
+    ensures { result ≡ are_matching (settings_of il.now.config) (settings_of fe.now.config) }
+{
+    warn_both(il, fe, err);
+    let fits = are_matching(&il.config, &fe.config);
+    if !fits {
+        let _ = report(err, Fault::Settings);
+        report_misfits(&il.config, &fe.config, err);
+    }
+    fits
 }
 
 /// Writes the settings in force, and flushes them.

@@ -22,6 +22,7 @@ mod lateness;
 mod leftovers;
 mod line_times;
 mod log;
+mod matching;
 mod metrics;
 mod net;
 mod notices;

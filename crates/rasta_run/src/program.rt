@@ -3,13 +3,13 @@
 ghost use Rattle.std.specs.Prelude.{◌≡◌, ◌≤◌, [], map, length, IfErr, IfOk};
 ghost use Rattle.clap.specs.Words.{fault_of};
 ghost use Rattle.rasta_words.specs.CommandLine.{rasta_app};
-ghost use Rattle.rasta_run.specs.CheckOutput.{HasCheckedSome};
+ghost use Rattle.rasta_run.specs.CheckOutput.{HasCheckedSome, HasComparedSome};
 ghost use Rattle.rasta_run.specs.RunResults.{IsRequestDone};
 ghost use Rattle.rasta_run.specs.Refusal.{EndsWithStatus};
 ghost use Rattle.rasta_run.specs.FilePaths.{path_to};
 
 use crate::beside::run_beside;
-use crate::check::run_check;
+use crate::check::{run_check, run_check_both};
 use crate::follow::run_follow;
 use crate::scripts::run_sim;
 use crate::{SETTINGS_MAX, refuse_long, run_md4, run_net, run_show};
@@ -57,7 +57,13 @@ pub fn run<R: AllocGlobal + Files + Net + Clock + Input, S: AsStr, O: Write, E: 
         Ok(Request::Show { code, iv, hex }) => run_show(rt.alloc(), code, iv, hex, out, err),
         Ok(Request::Sim { script }) => run_script(rt, script, out, err),
         Ok(Request::Follow(following)) => run_capture(rt, &following, out, err),
-        Ok(Request::Check { file }) => check_file(rt, file, out, err),
+        Ok(Request::Check { file, peer: None }) => check_file(rt, file, out, err),
+        Ok(
+            Request::Check {
+                file,
+                peer: Some(peer),
+            },
+        ) => check_both(rt, file, peer, err),
         Ok(Request::Net(running)) => run_file(rt, &running, out, err),
         Err(fault) => refuse(&fault, out, err),
     }
@@ -145,6 +151,26 @@ fn check_file<R: AllocGlobal + Files, O: Write, E: Write>(
 {
     match file_text(rt, file, err) {
         Ok(text) => run_check(rt.alloc(), file, text.as_str(), out, err),
+        Err(status) => status,
+    }
+}
+
+/// Compares the settings files of both ends. It is not inlined, so that no other command pays for its stack.
+#[inline(never)]
+fn check_both<R: AllocGlobal + Files, E: Write>(
+    rt: &R,
+    file: &str,
+    peer: &str,
+    err: &mut E,
+) -> Status
+    ensures { result ≡ Status.Done → HasComparedSome }
+{
+    let il = match file_text(rt, file, err) {
+        Ok(text) => text,
+        Err(status) => return status,
+    };
+    match file_text(rt, peer, err) {
+        Ok(fe) => run_check_both(rt.alloc(), file, il.as_str(), peer, fe.as_str(), err),
         Err(status) => status,
     }
 }

@@ -20,6 +20,10 @@ with_flag app name = with_rule app (record (new_rule name) { long = Some name; a
 unfoldable pub with_operand : App → Text → App
 with_operand app name = with_rule app (record (new_rule name) { required = true })
 
+-- the command with an argument that its place tells, which may be missing
+unfoldable pub with_last : App → Text → App
+with_last app name = with_rule app (new_rule name)
+
 -- the command with a subcommand
 unfoldable pub with_command : App → App → App
 with_command app sub = with_subcommand app sub.top

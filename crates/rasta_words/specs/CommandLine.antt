@@ -2,7 +2,7 @@
 use Rattle.std.specs.Prelude.{◌≡◌, ⊤, true, List, codes, Option, Some}
 use Rattle.std.specs.Option.{option_copied}
 use Rattle.clap.specs.Words.{App, HasKind, Row, Text, fault_of, first_of, new_app, subcommand_of}
-use Rattle.rasta_words.specs.Arguments.{with_command, with_operand, with_option, with_required}
+use Rattle.rasta_words.specs.Arguments.{with_command, with_last, with_operand, with_option, with_required}
 use Rattle.rasta_words.specs.BesideOptions.{HasChoices}
 use Rattle.rasta_words.specs.Choices.{code_word, follow_app}
 use Rattle.rasta_words.specs.Runs.{IsRun, ends_word, net_app}
@@ -25,9 +25,9 @@ md4_app = with_operand (new_app (codes "md4")) (codes "hex")
 abbrev pub sim_app : App
 sim_app = with_operand (new_app (codes "sim")) (codes "script")
 
--- the command check FILE
+-- the command check FILE [PEER]
 abbrev pub check_app : App
-check_app = with_operand (new_app (codes "check")) (codes "file")
+check_app = with_last (with_operand (new_app (codes "check")) (codes "file")) (codes "peer")
 
 -- the program without subcommands, of which one is required; it has a version
 abbrev pub bare_app : App
@@ -58,7 +58,9 @@ HasEntries (Show code iv hex) name rows =
     × (first_of (codes "hex") rows ≡ Some hex.now)
 HasEntries (Follow choices) name rows = (name ≡ codes "follow") × HasChoices rows choices
 HasEntries (Sim script) name rows = (name ≡ codes "sim") × (first_of (codes "script") rows ≡ Some script.now)
-HasEntries (Check file) name rows = (name ≡ codes "check") × (first_of (codes "file") rows ≡ Some file.now)
+HasEntries (Check file peer) name rows =
+    (name ≡ codes "check") × (first_of (codes "file") rows ≡ Some file.now)
+    × (first_of (codes "peer") rows ≡ option_copied peer)
 HasEntries (Net running) name rows = (name ≡ ends_word running.word) × IsRun rows running
 
 -- a subcommand was found, and this is its request

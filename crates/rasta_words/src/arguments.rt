@@ -83,6 +83,24 @@ pub fn with_operand<'a>(
     command.arg(Arg::new(alloc, name).required(true).help(help))
 }
 
+/// Adds an argument that its place tells, which may be missing.
+#[inline(never)]
+pub fn with_last<'a>(
+    alloc: Global,
+    command: Command<'a>,
+    name: &'a str,
+    help: &'a str,
+) -> Result<Command<'a>, AllocError>
+    requires { (fields_of command).has_globals ≡ false }
+    // The command that `with_last` returns has an argument of this `name`, which its place tells and which is not required,
+    // after its other arguments.
+    ensures app { IfOk result (λ made. app_of made ≡ spec.with_last (app_of command.entry) name.entry.now) }
+    // No argument of the command that `with_last` returns is global.
+    ensures local { IfOk result (λ made. (fields_of made).has_globals ≡ false) }
+{
+    command.arg(Arg::new(alloc, name).help(help))
+}
+
 /// Adds a subcommand.
 #[inline(never)]
 pub fn with_command<'a>(command: Command<'a>, sub: Command<'a>) -> Result<Command<'a>, AllocError>

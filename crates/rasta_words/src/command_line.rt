@@ -45,10 +45,12 @@ pub enum Request<'a> {
     },
     /// `follow FILE` with its options: analyses a recorded connection.
     Follow(FollowRequest<'a>),
-    /// `check FILE`: prints the settings in force.
+    /// `check FILE [PEER]`: prints the settings in force, or compares those of an interlocking and its field element.
     Check {
-        /// The name of the settings file.
+        /// The name of the settings file; with `peer` that of the interlocking.
         file: &'a str,
+        /// The name of the settings file of the field element.
+        peer: Option<&'a str>,
     },
     /// `il`, `fe` or `pair` with a FILE, `--turns N` or `--until-end`, and their options: runs ends over sockets.
     Net(RunRequest<'a>),
@@ -202,7 +204,10 @@ fn request_by_name<'a>(name: &str, entries: &ArgMatches<'a>) -> Result<Request<'
             Err(rejection) => Err(rejection),
         },
         "check" => match entry(entries, "file") {
-            Some(file) => Ok(Request::Check { file }),
+            Some(file) => Ok(Request::Check {
+                file,
+                peer: entry(entries, "peer"),
+            }),
             None => Err(Rejection::Missing),
         },
         _ => run_request(name, entries),

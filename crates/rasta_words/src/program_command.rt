@@ -6,7 +6,7 @@ ghost use Rattle.clap.specs.declared.Command.TheViews.{out-Command as fields_of}
 ghost use Rattle.rasta_words.specs.CommandLine as spec;
 ghost use Rattle.rasta_words.specs.CommandLine.{check_app, md4_app, rasta_app, show_app, sim_app};
 
-use crate::arguments::{with_command, with_operand, with_option, with_required};
+use crate::arguments::{with_command, with_last, with_operand, with_option, with_required};
 use crate::follow_command::follow_command;
 use crate::run_command::net_command;
 use clap::Command;
@@ -106,19 +106,25 @@ fn show_command<'a>(alloc: Global) -> Result<Command<'a>, AllocError>
 /// Declares `check`.
 #[inline(never)]
 fn check_command<'a>(alloc: Global) -> Result<Command<'a>, AllocError>
-    // `check_command` declares the subcommand `check` with the required argument `file`.
+    // `check_command` declares the subcommand `check` with the required argument `file`, and `peer`.
     ensures app { IfOk result (λ command. app_of command ≡ check_app) }
     // No argument that `check_command` declares is global.
     ensures local { IfOk result (λ command. (fields_of command).has_globals ≡ false) }
 {
     let command = Command::new(alloc, "check").about(
-        "Check a settings file, and print all settings in force; no socket is opened",
+        "Check a settings file, and print all settings in force; or compare those of both ends; no socket is opened",
     );
-    with_operand(
+    let command = with_operand(
         alloc,
         command,
         "file",
-        "Settings file (TOML) for il, fe or pair",
+        "Settings file (TOML) for il, fe or pair; with <peer> for il",
+    )?;
+    with_last(
+        alloc,
+        command,
+        "peer",
+        "Settings file (TOML) for fe, to be compared with that for il",
     )
 }
 
