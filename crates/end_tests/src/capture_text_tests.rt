@@ -1,20 +1,14 @@
 //! Whole captures, and the text that is to be printed of each, worked out by hand.
 
 use crate::assertions::{assert_equal, assert_true};
-use capture::{NumberOrder, Remarks, Span};
-use capture_text::{
-    FollowOptions, FollowStatus, OutputForm, Remarkable, TimeForm, run, write_remarks,
-};
+use capture::Span;
+use capture_text::{FollowOptions, FollowStatus, OutputForm, Remarkable, TimeForm, run};
 use md4::INITIAL_VALUE;
-use safe_pdu::{CodeLength, CodeRule, Kind, Leaving};
+use safe_pdu::{CodeLength, CodeRule, Kind};
 use std::alloc::{Allocator, Global};
 use std::io::Write;
 use std::process::Abort;
 use std::test::Fail;
-
-/// A unit of 45 octets, in hex digits.
-const UNIT: &str =
-    "000000000000000000000000000000000000000000000000000000000000000000000000000000000000000000";
 
 /// The numbers of a PDU without a code.
 #[derive(Clone, Copy)]
@@ -44,11 +38,6 @@ fn plain(kind: Kind, seq: u32, numbers: (u32, u32), stamps: (u32, u32), body: &'
 /// A ConnReq or a ConnResp, the first datagram of its end.
 fn opening(kind: Kind, numbers: (u32, u32), stamps: (u32, u32)) -> Pdu {
     plain(kind, 0, numbers, stamps, "3033303320000000000000000000")
-}
-
-/// A Data with one unit.
-fn data(seq: u32, numbers: (u32, u32), stamps: (u32, u32)) -> Pdu {
-    plain(Kind::Data, seq, numbers, stamps, UNIT)
 }
 
 fn heartbeat(seq: u32, numbers: (u32, u32), stamps: (u32, u32)) -> Pdu {
@@ -263,47 +252,6 @@ sum all datagrams 7 PDUs 4 missing 0 repeats 3 late 0 differs 0 stale 0 damaged 
     follows(&rt, &lines, &asked(CodeLength::Zero, None), wanted)
 }
 
-// A unit is lost on both channels, asked for and sent again.
-#[test]
-fn asks_again(rt: HostRuntime) -> Result<(), Fail> {
-    let unit = data(10, (200, 600), (2000, 8000));
-    let beat = heartbeat(12, (202, 600), (2020, 8000));
-    let request = plain(Kind::RetrReq, 30, (601, 200), (8030, 2000), "");
-    let answer = plain(Kind::RetrResp, 13, (203, 601), (2040, 8030), "");
-    let again = plain(Kind::RetrData, 14, (204, 601), (2041, 8030), UNIT);
-    let lines = [
-        (0, 0, false, unit),
-        (100, 1, false, unit),
-        (20_000, 0, false, beat),
-        (30_000, 0, true, request),
-        (40_000, 0, false, answer),
-        (41_000, 0, false, again),
-    ];
-    let wanted = "\
-0.000000 line 1 1->2 ch 1 red 10 Data sn 200 cs 600 ts 2000 cts 8000
-0.000100 line 2 1->2 ch 2 red 10 Data sn 200 cs 600 ts 2000 cts 8000 all repeat of line 1
-0.020000 line 3 1->2 ch 1 red 12 HB sn 202 cs 600 ts 2020 cts 8000 channel ahead 1 all ahead 1 sn ahead 1
-0.030000 line 4 2->1 ch 1 red 30 RetrReq sn 601 cs 200 ts 8030 cts 2000 age 20 ms
-0.040000 line 5 1->2 ch 1 red 13 RetrResp sn 203 cs 601 ts 2040 cts 8030 age 0 ms
-0.041000 line 6 1->2 ch 1 red 14 RetrData sn 204 cs 601 ts 2041 cts 8030 resent age 0 ms
-sum first datagram at 2023-11-14T22:13:20.000000Z
-sum 1->2 opening not seen PDUs 4 missing 1 repeats 1 late 0 differs 0 stale 0 heartbeats 1 requests 0 resent 1 disconnects 0 \
-silence 0.020000 age 0 of 1800 waits 41 of 1800 last 0.041000 no DiscReq
-sum 1->2 ch 1 10.0.0.1:8001-10.0.0.2:8002 datagrams 4 PDUs 4 missing 1 repeats 0 late 0 differs 0 stale 0 damaged 0
-sum 1->2 ch 2 10.0.1.1:8001-10.0.1.2:8002 datagrams 1 PDUs 1 missing 0 repeats 0 late 0 differs 0 stale 0 damaged 0
-sum 2->1 opening not seen PDUs 1 missing 0 repeats 0 late 0 differs 0 stale 0 heartbeats 0 requests 1 resent 0 disconnects 0 \
-silence 0.011000 age 20 of 1800 waits 30 of 1800 last 0.030000 no DiscReq
-sum 2->1 ch 1 10.0.0.1:8001-10.0.0.2:8002 datagrams 1 PDUs 1 missing 0 repeats 0 late 0 differs 0 stale 0 damaged 0
-sum 2->1 ch 2 10.0.1.1:8001-10.0.1.2:8002 datagrams 0 PDUs 0 missing 0 repeats 0 late 0 differs 0 stale 0 damaged 0
-session 1 of 1-2, its ConnReq was not recorded, was not seen to come up, nobody left, 1 waited 41 ms, 2 waited 30 ms, \
-PDUs lost on every channel 1, datagrams lost on one channel whose PDU came on another 0, sent again 1, repeats on one channel 0
-connection 1-2 sessions 1, came up 0, nobody answered 0, ended by a DiscReq 0, by timeout 0, last PDU at 0.041000, \
-PDUs lost on every channel 1, datagrams lost on one channel whose PDU came on another 0, waits 41 of 1800
-sum all datagrams 6 PDUs 5 missing 1 repeats 1 late 0 differs 0 stale 0 damaged 0 forgotten 0 unreadable 0
-";
-    follows(&rt, &lines, &asked(CodeLength::Zero, None), wanted)
-}
-
 // Nothing recent is confirmed in time, so an end leaves, and the other opens again; ages of T_max and more alone are printed.
 #[test]
 fn leaves_and_opens_again(rt: HostRuntime) -> Result<(), Fail> {
@@ -374,78 +322,4 @@ sum all datagrams 2 PDUs 1 missing 0 repeats 0 late 0 differs 0 stale 0 damaged 
     let asked = asked(CodeLength::Eight, None);
     let text = FORGED.as_bytes();
     prints(&rt, text, &asked, FollowStatus::Unreadable, wanted, fault)
-}
-
-const QUIET: Remarks = Remarks {
-    opens: false,
-    route: 0,
-    channel: Some(NumberOrder::First),
-    together: NumberOrder::Next,
-    sequence: Some(NumberOrder::Next),
-    resent: false,
-    damaged: None,
-    asks: None,
-    age: None,
-    waits: Some(899),
-    leaving: None,
-};
-
-const LOUD: Remarks = Remarks {
-    opens: true,
-    route: 0,
-    channel: Some(NumberOrder::Repeat(12)),
-    together: NumberOrder::Late,
-    sequence: Some(NumberOrder::Ahead(2)),
-    resent: true,
-    damaged: Some(10),
-    asks: Some(8),
-    age: Some(45),
-    waits: Some(900),
-    leaving: Some(Leaving {
-        detail: 3,
-        reason: 4,
-    }),
-};
-
-// Nothing is said of a PDU that follows as it should, and each remark has its words.
-#[test]
-fn writes_remarks(rt: HostRuntime) -> Result<(), Fail> {
-    let loud =
-        " opens channel repeat of line 12 all late sn ahead 2 resent after damage in line 10 \
-asks for line 8 age 45 ms waits 900 ms reason 4 service not allowed detail 3 not of this pair";
-    for (remarks, wanted) in [(QUIET, ""), (LOUD, loud)] {
-        let mut text = Vec::new(rt.alloc());
-        write_remarks(&mut text, 1800, &remarks)?;
-        assert_true(&rt, text.as_slice() == wanted.as_bytes());
-    }
-    Ok(())
-}
-
-// The telegrams of a datagram stand behind its line, as `show` has them: here a unit of zeros, which is none.
-#[test]
-fn prints_telegrams(rt: HostRuntime) -> Result<(), Fail> {
-    let lines = [
-        (0, 0, false, data(10, (200, 600), (2000, 8000))),
-        (20_000, 0, false, heartbeat(11, (201, 600), (2020, 8000))),
-    ];
-    let mut asked = asked(CodeLength::Zero, None);
-    asked.messages = true;
-    let wanted = "\
-0.000000 line 1 1->2 ch 1 red 10 Data sn 200 cs 600 ts 2000 cts 8000
-unit fault 2 Length
-0.020000 line 2 1->2 ch 1 red 11 HB sn 201 cs 600 ts 2020 cts 8000
-sum first datagram at 2023-11-14T22:13:20.000000Z
-sum 1->2 opening not seen PDUs 2 missing 0 repeats 0 late 0 differs 0 stale 0 heartbeats 1 requests 0 resent 0 disconnects 0 \
-silence 0.020000 age 0 of 1800 waits 0 of 1800 last 0.020000 no DiscReq
-sum 1->2 ch 1 10.0.0.1:8001-10.0.0.2:8002 datagrams 2 PDUs 2 missing 0 repeats 0 late 0 differs 0 stale 0 damaged 0
-sum 2->1 opening not seen PDUs 0 missing 0 repeats 0 late 0 differs 0 stale 0 heartbeats 0 requests 0 resent 0 disconnects 0 \
-silence 0.000000 age 0 of 1800 waits 0 of 1800 not heard no DiscReq
-sum 2->1 ch 1 10.0.0.1:8001-10.0.0.2:8002 datagrams 0 PDUs 0 missing 0 repeats 0 late 0 differs 0 stale 0 damaged 0
-session 1 of 1-2, its ConnReq was not recorded, was not seen to come up, nobody left, 1 waited 0 ms, 2 waited 0 ms, \
-PDUs lost on every channel 0, datagrams lost on one channel whose PDU came on another 0, sent again 0, repeats on one channel 0
-connection 1-2 sessions 1, came up 0, nobody answered 0, ended by a DiscReq 0, by timeout 0, last PDU at 0.020000, \
-PDUs lost on every channel 0, datagrams lost on one channel whose PDU came on another 0, waits 0 of 1800
-sum all datagrams 2 PDUs 2 missing 0 repeats 0 late 0 differs 0 stale 0 damaged 0 forgotten 0 unreadable 0
-";
-    follows(&rt, &lines, &asked, wanted)
 }

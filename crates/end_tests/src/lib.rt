@@ -12,19 +12,13 @@ mod capture_text_tests;
 #[cfg(test)]
 mod channels_tests;
 #[cfg(test)]
-mod notes_tests;
-#[cfg(test)]
 mod pdu_text_tests;
 #[cfg(test)]
 mod settings_file_tests;
 #[cfg(test)]
-mod settings_text_tests;
-#[cfg(test)]
 mod sim_lines_tests;
 #[cfg(test)]
 mod sim_script_tests;
-#[cfg(test)]
-mod stack_end_fault_tests;
 #[cfg(test)]
 mod stack_end_tests;
 #[cfg(test)]

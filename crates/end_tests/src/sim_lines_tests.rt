@@ -1,142 +1,96 @@
-use crate::assertions::{assert_equal, assert_true, assert_true_at};
-use crate::settings_file_tests::numbers_of;
-use end_settings::Side;
+use crate::assertions::{assert_equal, assert_equal_at, assert_true_at};
+use end_settings::{EndConfig, Side};
 use linked_list_allocator::LocalHeap;
 use sim::{Command, Key, Label, ScriptLineFault, ScriptSettings, Setting, read_line};
 use std::alloc::{AllocError, Global};
 use std::test::Fail;
 
-// A line of one word, and an empty one.
-#[test]
-fn reads_single_words(rt: HostRuntime) -> Result<(), Fail> {
-    let alloc = rt.alloc();
-    for empty in ["", "   "] {
-        assert_true(&rt, matches!(read_line(alloc, empty)?, Command::Nothing));
-    }
-    assert_true(&rt, matches!(read_line(alloc, "done")?, Command::InitDone));
-    assert_true(&rt, matches!(read_line(alloc, "est")?, Command::Establish));
-    for (line, is_on) in [("trace", true), ("trace off", false)] {
-        let command = read_line(alloc, line)?;
-        assert_true(
-            &rt,
-            matches!(command, Command::Trace(found) if found == is_on),
-        );
-    }
-    Ok(())
-}
-
 const IL: Side = Side::Interlocking;
 
 const FE: Side = Side::FieldElement;
 
-// Commands to one end.
-#[test]
-fn reads_commands_of_an_end(rt: HostRuntime) -> Result<(), Fail> {
-    let alloc = rt.alloc();
-    let command = read_line(alloc, "open fe")?;
-    assert_true(&rt, matches!(command, Command::Open(FE)));
-    let command = read_line(alloc, "close il")?;
-    assert_true(&rt, matches!(command, Command::Close(IL)));
-    let command = read_line(alloc, " clock  il 18446744073709551615 ")?;
-    assert_true(&rt, matches!(command, Command::Clock(IL, u64::MAX)));
-    let command = read_line(alloc, "tick il")?;
-    assert_true(&rt, matches!(command, Command::Tick(IL)));
-    Ok(())
+/// A line of each form, and an empty one; in numbers leading zeros and in hex digits both cases are allowed, and a list may name one twice.
+const LINES: &str = "\
+done
+est
+trace
+trace off
+open fe
+close il
+ clock  il 18446744073709551615
+tick il
+putlen fe 00Ff 1000
+puts il 256 0100
+give f12 2
+hit f12 1 7 aF
+lose f12
+put il 1A2b 00fF
+put il 0000 -
+flow 1 2 1
+versions fe 1 1 255 0
+set q 1
+
+";
+
+/// Whether a command is that of the line at a place in LINES.
+fn is_of_line(place: usize, command: &Command) -> bool {
+    let is_twelfth = |label: &Label| label.side == FE && label.place == 11;
+    match command {
+        Command::Nothing => place == 18,
+        Command::InitDone => place == 0,
+        Command::Establish => place == 1,
+        Command::Trace(is_on) => place == if *is_on { 2 } else { 3 },
+        Command::Open(side) => place == 4 && *side == FE,
+        Command::Close(side) => place == 5 && *side == IL,
+        Command::Clock(side, time) => place == 6 && *side == IL && *time == u64::MAX,
+        Command::Tick(side) => place == 7 && *side == IL,
+        Command::PutZeros(side, kind, count) => {
+            place == 8 && *side == FE && *kind == 255 && *count == 1000
+        }
+        Command::PutCounted(side, count, kind) => {
+            place == 9 && *side == IL && *count == 256 && *kind == 256
+        }
+        Command::Give(label, channel) => place == 10 && is_twelfth(label) && *channel == 2,
+        Command::Hit(label, channel, at, octet) => {
+            place == 11 && is_twelfth(label) && (*channel, *at, *octet) == (1, 7, 0xaf)
+        }
+        Command::Lose(label) => place == 12 && is_twelfth(label),
+        Command::Put(side, kind, payload) => {
+            let payload = payload.as_slice();
+            let is_first = place == 13 && *kind == 0x1a2b && payload == [0, 255].as_slice();
+            *side == IL && (is_first || place == 14 && *kind == 0 && payload.is_empty())
+        }
+        Command::Flow(channels) => place == 15 && channels.as_slice() == [1, 2, 1].as_slice(),
+        Command::Versions(versions) => {
+            place == 16 && versions.as_slice() == [1, 1, 255, 0].as_slice()
+        }
+        Command::Set(setting) => place == 17 && setting.value == 1,
+    }
 }
 
-// Telegrams that a line counts or measures.
 #[test]
-fn reads_counted_telegrams(rt: HostRuntime) -> Result<(), Fail> {
-    let alloc = rt.alloc();
-    let command = read_line(alloc, "putlen fe 00Ff 1000")?;
-    assert_true(&rt, matches!(command, Command::PutZeros(FE, 255, 1000)));
-    let command = read_line(alloc, "puts il 256 0100")?;
-    assert_true(&rt, matches!(command, Command::PutCounted(IL, 256, 256)));
-    Ok(())
-}
-
-// Commands with the label of a datagram.
-#[test]
-fn reads_labels(rt: HostRuntime) -> Result<(), Fail> {
-    let alloc = rt.alloc();
-    let twelfth = Label {
-        side: FE,
-        place: 11,
-    };
-    let command = read_line(alloc, "give f12 2")?;
-    assert_true(
-        &rt,
-        matches!(command, Command::Give(label, 2) if label == twelfth),
-    );
-    let command = read_line(alloc, "hit f12 1 7 aF")?;
-    assert_true(
-        &rt,
-        matches!(command, Command::Hit(label, 1, 7, 0xaf) if label == twelfth),
-    );
-    let command = read_line(alloc, "lose f12")?;
-    assert_true(
-        &rt,
-        matches!(command, Command::Lose(label) if label == twelfth),
-    );
-    Ok(())
-}
-
-// Payloads: hex digits may be of either case, and `-` stands for an empty payload.
-#[test]
-fn reads_payloads(rt: HostRuntime) -> Result<(), Fail> {
-    let cases: [(&str, u16, &[u8]); 2] = [
-        ("put il 1A2b 00fF", 0x1a2b, &[0, 255]),
-        ("put il 0000 -", 0, &[]),
-    ];
-    for (line, kind, wanted) in cases {
-        let Command::Put(IL, found, payload) = read_line(rt.alloc(), line)? else {
-            return Err(Fail::from("put"));
-        };
-        assert_equal(&rt, found, kind);
-        assert_equal(&rt, payload.as_slice(), wanted);
+fn reads_lines(rt: HostRuntime) -> Result<(), Fail> {
+    for (place, line) in LINES.lines().enumerate() {
+        let command = read_line(rt.alloc(), line)?;
+        assert_true_at(&rt, line, is_of_line(place, &command));
     }
     Ok(())
 }
 
-// Lists of channels and of versions may name one twice.
-#[test]
-fn reads_lists(rt: HostRuntime) -> Result<(), Fail> {
-    let Command::Flow(channels) = read_line(rt.alloc(), "flow 1 2 1")? else {
-        return Err(Fail::from("flow"));
-    };
-    assert_equal(&rt, channels.as_slice(), [1, 2, 1].as_slice());
-    let Command::Versions(versions) = read_line(rt.alloc(), "versions fe 1 1 255 0")? else {
-        return Err(Fail::from("versions"));
-    };
-    assert_equal(&rt, versions.as_slice(), [1, 1, 255, 0].as_slice());
-    Ok(())
-}
-
-// The settings at the start of a script.
-#[test]
-fn begins_with_the_profile(rt: HostRuntime) -> Result<(), Fail> {
-    let settings = ScriptSettings::new().ok_or("settings")?;
-    for side in [IL, FE] {
-        let end = settings.config(side);
-        assert_true(&rt, end.is_fit(side));
-        assert_equal(
-            &rt,
-            numbers_of(&end),
-            [2, 20, 3, 4, 1800, 300, 50, 10, 4_294_901_760, 8],
-        );
-        assert_equal(&rt, end.initial_value, md4::INITIAL_VALUE);
-        assert_equal(&rt, end.versions.as_slice(), [3].as_slice());
-        assert_equal(&rt, end.checksum.as_slice().len(), 0);
-        assert_equal(&rt, end.protocol, 1);
-    }
-    assert_equal(
-        &rt,
-        (settings.first_sn(IL), settings.first_sn(FE)),
-        (100, 500),
-    );
-    let il = settings.config(IL);
-    assert_equal(&rt, (il.id, il.peer_id), (1, 2));
-    Ok(())
+/// Returns the numbers among the settings of an end.
+fn numbers_of(end: &EndConfig) -> [u64; 10] {
+    [
+        end.channels,
+        end.n_sendmax,
+        end.n_maxpacket,
+        end.q,
+        end.t_max,
+        end.t_h,
+        end.t_seq,
+        end.mwa,
+        end.pdu_limit,
+        end.code,
+    ]
 }
 
 const KEYS: [&str; 14] = [
@@ -156,10 +110,17 @@ const KEYS: [&str; 14] = [
     "version_fe",
 ];
 
-// What each key changes.
+// The settings at the start of a script, and what each key changes.
 #[test]
 fn sets(rt: HostRuntime) -> Result<(), Fail> {
     let mut settings = ScriptSettings::new().ok_or("settings")?;
+    let first = [2, 20, 3, 4, 1800, 300, 50, 10, 4_294_901_760, 8];
+    for (side, first_sn) in [(IL, 100), (FE, 500)] {
+        let end = settings.config(side);
+        assert_equal(&rt, numbers_of(&end), first);
+        assert_equal(&rt, end.versions.as_slice(), [3].as_slice());
+        assert_equal(&rt, settings.first_sn(side), first_sn);
+    }
     let mut value = 200u32;
     for word in KEYS {
         value = value.wrapping_add(1);

@@ -1,67 +1,39 @@
-ghost use Rattle.std.specs.Prelude.{◌≡◌, ◌≤◌, ◌^◌};
+//! Two ends that poll channels in memory, and what goes wrong between them.
 
-use crate::assertions::{assert_equal, assert_true};
+ghost use Rattle.std.specs.Prelude.{◌≡◌, ◌≤◌, ◌^◌, None};
+ghost use Rattle.channels.specs.Memory.{told_of};
+
+use crate::assertions::{assert_equal, assert_equal_at, assert_true};
 use arrayvec::ArrayVec;
-use channels::{Channels, MemChannels};
+use channels::{ChannelFault, Channels, MemChannels, Note};
 use end_settings::{Checksum, EndConfig, Side, Versions};
 use linked_list_allocator::LocalHeap;
+use pdi_session::Taker;
 use pdi_session::telegram::{Name, OwnedName};
-use pdi_session::{InitFault, Phase, PutFault, Taker};
-use safe_machine::ConnectionState;
-use stack_end::{End, OpenFault, PollFault};
+use stack_end::{End, PollFault};
+use std::alloc::{Allocator, Global};
+use std::io::Write;
 use std::process::Abort;
 use std::test::Fail;
 
-/// The kinds and the first octets of what an application took.
-#[derive(Drop)]
-pub(crate) struct Taken {
-    pub(crate) list: ArrayVec<(u16, u8), 16>,
+fn name(text: &str) -> Option<OwnedName> {
+    Some(OwnedName::new(Name::new(text).ok()?))
 }
 
-impl Taker for Taken {
-    ghost takes = { λ _ _ _. Unit {0} };
-
-    fn take(&mut self, kind: u16, payload: &[u8]) {
-        let _ = self
-            .list
-            .try_push((kind, payload.first().copied().unwrap_or(0)));
-    }
-}
-
-/// An end with its clock, in milliseconds, and what its application took.
-#[derive(Drop)]
-struct Station {
-    end: End<MemChannels>,
-    clock: u64,
-    taken: Taken,
-    heard: usize,
-    ghost timely: { end.time ≤ clock },
-    ghost small: { clock ≤ 2 ^ 62 },
-}
-
-fn name(text: &str) -> Result<OwnedName, Fail> {
-    Ok(OwnedName::new(Name::new(text)?))
-}
-
-pub(crate) fn config(side: Side) -> Result<EndConfig, Fail> {
-    let own = if side == Side::Interlocking {
-        (1, "IL1")
-    } else {
-        (2, "FE1")
+/// Returns the settings of an end with two channels, as scripts begin with.
+pub(crate) fn config(side: Side) -> Option<EndConfig> {
+    let (id, own, peer_id, peer) = match side {
+        Side::Interlocking => (1, "IL1", 2, "FE1"),
+        Side::FieldElement => (2, "FE1", 1, "IL1"),
     };
-    let peer = if side == Side::Interlocking {
-        (2, "FE1")
-    } else {
-        (1, "IL1")
-    };
-    Ok(EndConfig {
-        id: own.0,
-        peer_id: peer.0,
-        name: name(own.1)?,
-        peer_name: name(peer.1)?,
+    Some(EndConfig {
+        id,
+        peer_id,
+        name: name(own)?,
+        peer_name: name(peer)?,
         protocol: 1,
-        versions: Versions::new(&[3]).ok_or("versions")?,
-        checksum: Checksum::new(&[]).ok_or("checksum")?,
+        versions: Versions::new(&[3])?,
+        checksum: Checksum::new(&[])?,
         code: 8,
         initial_value: [1, 2, 3, 4],
         channels: 2,
@@ -76,397 +48,367 @@ pub(crate) fn config(side: Side) -> Result<EndConfig, Fail> {
     })
 }
 
-impl Station {
+/// Channels in memory that keep the notes of their end as lines of text. One send and one reception fail, counted from 0.
+#[derive(Drop)]
+struct Faulty {
+    inner: MemChannels,
+    lines: Vec<u8>,
+    sends: usize,
+    receives: usize,
+    failing_send: usize,
+    failing_receive: usize,
+    failed_sends: u64,
+    failed_receives: u64,
+}
+
+impl Channels for Faulty {
+    ghost told = { λ f. record {
+      sent = (told_of f.inner).sent;
+      answers = (told_of f.inner).answers;
+      asked = None;
+      failed_sends = f.failed_sends;
+      failed_receives = f.failed_receives;
+      room = λ _. 0;
+    } };
+
+    fn send(&mut self, channel: usize, datagram: &[u8]) -> Result<(), ChannelFault> {
+        let this = self.sends;
+        self.sends = this.wrapping_add(1);
+        if this == self.failing_send {
+            self.failed_sends = self.failed_sends.wrapping_add(1);
+            return Err(ChannelFault::System);
+        }
+        match self.inner.send(channel, datagram) {
+            Ok(()) => Ok(()),
+            Err(fault) => {
+                self.failed_sends = self.failed_sends.wrapping_add(1);
+                Err(fault)
+            }
+        }
+    }
+
+    fn receive(&mut self, buffer: &mut [u8]) -> Result<Option<(usize, usize)>, ChannelFault> {
+        let this = self.receives;
+        self.receives = this.wrapping_add(1);
+        if this == self.failing_receive {
+            self.failed_receives = self.failed_receives.wrapping_add(1);
+            return Err(ChannelFault::System);
+        }
+        match self.inner.receive(buffer) {
+            Ok(came) => Ok(came),
+            Err(fault) => {
+                self.failed_receives = self.failed_receives.wrapping_add(1);
+                Err(fault)
+            }
+        }
+    }
+
+    fn hears_notes(&self) -> bool {
+        true
+    }
+
+    fn note(&mut self, note: &Note<'_>) {
+        let _written = writeln!(self.lines, "{note:?}");
+    }
+}
+
+/// What goes wrong: at one end a send fails, or what it sends is lost, or a reception fails; places count from 0. The two
+/// copies of a unit of the interlocking may be lost beside that.
+#[derive(Clone, Copy)]
+struct Mishap {
+    side: Side,
+    send: usize,
+    lost: usize,
+    receive: usize,
+    unit: usize,
+}
+
+const NONE: usize = 1_000_000;
+
+/// The place of the first copy of the first command.
+const COMMAND: usize = 8;
+
+const GOOD: Mishap = Mishap {
+    side: Side::Interlocking,
+    send: NONE,
+    lost: NONE,
+    receive: NONE,
+    unit: NONE,
+};
+
+impl Mishap {
+    /// Whether what an end sent at a place is lost.
+    fn loses(&self, side: Side, place: usize) -> bool {
+        let is_of_unit = place == self.unit || place == self.unit.wrapping_add(1);
+        side == self.side && place == self.lost || side == Side::Interlocking && is_of_unit
+    }
+}
+
+/// The kinds and the first octets of what an application took.
+#[derive(Drop)]
+struct Taken {
+    list: ArrayVec<(u16, u8), 16>,
+}
+
+impl Taker for Taken {
+    ghost takes = { λ _ _ _. Unit {0} };
+
+    fn take(&mut self, kind: u16, payload: &[u8]) {
+        let first = payload.first().copied().unwrap_or(0);
+        let _kept = self.list.try_push((kind, first));
+    }
+}
+
+/// An end with its clock in milliseconds, what its application took, how much of what its peer sent came or was lost, and how
+/// many polls failed.
+#[derive(Drop)]
+struct Station<A: Allocator> {
+    end: End<Faulty, A>,
+    side: Side,
+    clock: u64,
+    taken: Taken,
+    heard: usize,
+    faults: u32,
+    ghost timely: { end.time ≤ clock },
+    ghost small: { clock ≤ 2 ^ 62 },
+}
+
+impl<A: Allocator + Copy> Station<A> {
     fn open(
-        rt: &(impl AllocGlobal + Abort),
-        config: EndConfig,
+        rt: &impl AllocGlobal,
+        alloc: A,
         side: Side,
         first_sn: u32,
-    ) -> Result<Station, Fail> {
-        let channels = MemChannels::new(rt.alloc(), 400)?;
-        let end = End::open(rt.alloc(), channels, config, side, first_sn, 0)
-            .ok()
-            .ok_or("not opened")?;
-        Ok(Station {
+        mishap: &Mishap,
+    ) -> Option<Self> {
+        let is_here = side == mishap.side;
+        let channels = Faulty {
+            inner: MemChannels::new(rt.alloc(), 160).ok()?,
+            lines: Vec::new(rt.alloc()),
+            sends: 0,
+            receives: 0,
+            failing_send: if is_here { mishap.send } else { NONE },
+            failing_receive: if is_here { mishap.receive } else { NONE },
+            failed_sends: 0,
+            failed_receives: 0,
+        };
+        let end = End::open(alloc, channels, config(side)?, side, first_sn, 0).ok()?;
+        Some(Station {
             end,
+            side,
             clock: 0,
             taken: Taken {
                 list: ArrayVec::new(),
             },
             heard: 0,
+            faults: 0,
         })
     }
+}
 
-    fn later(&mut self, milliseconds: u32) {
-        let clock = self.clock.saturating_add(u64::from(milliseconds));
-        if clock <= 1 << 62 {
-            self.clock = clock;
-        }
-    }
-
-    fn receive(&mut self, channel: usize, octets: &[u8]) {
-        self.end
-            .arrive(channel, octets, self.clock, &mut self.taken);
-    }
-
-    fn tick(&mut self) {
-        self.end.tick(self.clock, &mut self.taken);
-    }
-
-    fn poll(&mut self) -> Result<(), PollFault> {
-        self.end.poll(self.clock, &mut self.taken)
-    }
-
-    fn put(&mut self, kind: u16, octet: u8) -> Result<(), PutFault> {
-        self.end.put(kind, &[octet], self.clock)
-    }
-
-    fn done(&mut self) -> Result<(), InitFault> {
-        self.end.init_done(self.clock)
-    }
-
-    fn seen(&self) -> (ConnectionState, Phase) {
-        (self.end.state(), self.end.phase())
-    }
-
-    /// The next datagram that the peer sent on this channel comes here; answers whether there was one.
-    fn next(&mut self, peer: &MemChannels, on: usize) -> bool {
-        for _ in 0..400 {
-            let Some((channel, octets)) = peer.sent(self.heard) else {
-                return false;
+impl<A: Allocator> Station<A> {
+    /// 10 milliseconds pass. What the peer has sent comes to the channels, but for what is lost; then the end polls.
+    fn turn(&mut self, peer: &Station<A>, mishap: &Mishap) -> Result<(), Fail> {
+        for _ in 0..160 {
+            let Some((channel, octets)) = peer.end.channels_seen().inner.sent(self.heard) else {
+                break;
             };
-            self.heard = self.heard.wrapping_add(1);
-            if channel == on {
-                self.receive(channel, octets);
-                return true;
+            if !mishap.loses(peer.side, peer.place_of(self.heard)) {
+                self.end.channels().inner.add(channel, octets)?;
             }
+            self.heard = self.heard.wrapping_add(1);
         }
-        false
+        self.clock = u64::min(self.clock.saturating_add(10), 1 << 62);
+        if self.end.poll(self.clock, &mut self.taken) == Err(PollFault::Channel) {
+            self.faults = self.faults.wrapping_add(1);
+        }
+        Ok(())
+    }
+
+    fn put(&mut self, octet: u8) {
+        let _answer = self.end.put(0x100, &[octet], self.clock);
+    }
+
+    fn done(&mut self) {
+        let _answer = self.end.init_done(self.clock);
+    }
+
+    /// The place among all sends of one that went out.
+    fn place_of(&self, number: usize) -> usize {
+        let channels = self.end.channels_seen();
+        if channels.failed_sends > 0 && channels.failing_send <= number {
+            number.wrapping_add(1)
+        } else {
+            number
+        }
     }
 }
 
 /// Both ends and the line between them.
 #[derive(Drop)]
-struct Line {
-    il: Station,
-    fe: Station,
+struct Line<A: Allocator> {
+    il: Station<A>,
+    fe: Station<A>,
 }
 
-impl Line {
+impl<A: Allocator + Copy> Line<A> {
     /// Two ends, of which the field element was opened first.
-    fn open(rt: &(impl AllocGlobal + Abort), il: EndConfig) -> Result<Line, Fail> {
-        let fe = Station::open(rt, config(Side::FieldElement)?, Side::FieldElement, 500)?;
-        let il = Station::open(rt, il, Side::Interlocking, 100)?;
-        Ok(Line { il, fe })
+    fn open(rt: &impl AllocGlobal, alloc: A, mishap: &Mishap) -> Option<Self> {
+        let fe = Station::open(rt, alloc, Side::FieldElement, 500, mishap)?;
+        let il = Station::open(rt, alloc, Side::Interlocking, 100, mishap)?;
+        Some(Line { il, fe })
     }
+}
 
-    /// All that the two have sent on a channel comes to the other.
-    fn flow(&mut self, on: usize) {
-        for _ in 0..100 {
-            let to_fe = self.fe.next(self.il.end.channels_seen(), on);
-            let to_il = self.il.next(self.fe.end.channels_seen(), on);
-            if !to_fe && !to_il {
-                return;
+impl<A: Allocator> Line<A> {
+    /// Two commands are put into a session, and then all is still.
+    fn play(&mut self, mishap: &Mishap) -> Result<(), Fail> {
+        for turn in 0..28 {
+            self.fe.turn(&self.il, mishap)?;
+            self.il.turn(&self.fe, mishap)?;
+            if turn == 6 {
+                self.fe.done();
+            }
+            if turn == 10 {
+                self.il.put(1);
+                self.il.put(2);
             }
         }
-    }
-
-    /// The ends set up a connection and a session.
-    fn establish(&mut self, rt: &impl Abort) {
-        self.flow(1);
-        assert_true(rt, self.fe.done().is_ok());
-        self.flow(1);
-    }
-
-    fn carries_and_settles(&mut self, rt: &impl Abort) -> Result<(), Fail> {
-        self.carries_telegrams(rt)?;
-        self.settles(rt);
         Ok(())
     }
 
-    fn carries_telegrams(&mut self, rt: &impl Abort) -> Result<(), Fail> {
-        assert_equal(
-            rt,
-            self.il.seen(),
-            (ConnectionState::Up, Phase::Established),
-        );
-        assert_equal(
-            rt,
-            self.fe.seen(),
-            (ConnectionState::Up, Phase::Established),
-        );
-        assert_true(rt, self.fe.end.request().is_some());
-        assert_true(rt, self.il.end.request().is_none());
-        self.il.put(0x100, 7)?;
-        self.fe.put(0x200, 9)?;
-        self.flow(2);
-        assert_true(rt, self.fe.taken.list.as_slice() == [(0x100, 7)].as_slice());
-        assert_true(rt, self.il.taken.list.as_slice() == [(0x200, 9)].as_slice());
-        Ok(())
-    }
-
-    fn settles(&mut self, rt: &impl Abort) {
-        assert_true(rt, !self.fe.end.settled());
-        self.il.later(300);
-        self.fe.later(300);
-        assert_equal(rt, self.il.end.next_deadline(), Some(300));
-        self.il.tick();
-        self.fe.tick();
-        self.flow(1);
-        assert_true(rt, self.il.end.settled());
-        assert_true(rt, self.fe.end.settled());
-        assert_equal(rt, self.il.put(0x24, 0), Err(PutFault::ReservedType));
+    fn course(&self, rt: &impl AllocGlobal) -> Result<Course, Fail> {
+        let mut taken = ArrayVec::new();
+        taken
+            .try_extend_from_slice(self.fe.taken.list.as_slice())
+            .map_err(|_| Fail::from("too many"))?;
+        let (il, fe) = (self.il.end.channels_seen(), self.fe.end.channels_seen());
+        Ok(Course {
+            il: String::from_str(rt.alloc(), str::from_utf8(il.lines.as_slice())?)?,
+            fe: String::from_str(rt.alloc(), str::from_utf8(fe.lines.as_slice())?)?,
+            taken,
+            failed_sends: il.failed_sends.wrapping_add(fe.failed_sends),
+            faults: self.il.faults.wrapping_add(self.fe.faults),
+        })
     }
 }
 
-fn established(rt: &(impl AllocGlobal + Abort)) -> Result<Line, Fail> {
-    let mut line = Line::open(rt, config(Side::Interlocking)?)?;
-    line.establish(rt);
-    Ok(line)
+/// How a session went: the notes of each end, what was taken, how many sends and how many polls failed.
+#[derive(Drop)]
+struct Course {
+    il: String,
+    fe: String,
+    taken: ArrayVec<(u16, u8), 16>,
+    failed_sends: u64,
+    faults: u32,
 }
 
-// A connection and a session are set up, and a command and a status are taken. An end that has put something in is settled once a
-// heartbeat of its peer has confirmed it.
+fn run(rt: &impl AllocGlobal, mishap: Mishap) -> Result<Course, Fail> {
+    let mut line = Line::open(rt, rt.alloc(), &mishap).ok_or("not opened")?;
+    line.play(&mishap)?;
+    line.course(rt)
+}
+
+/// Both commands were taken, and each end's notes are those of another course.
+fn is_as(rt: &impl Abort, place: usize, course: &Course, other: &Course) {
+    let both = [(0x100, 1), (0x100, 2)];
+    assert_equal_at(rt, place, course.taken.as_slice(), both.as_slice());
+    assert_equal_at(rt, place, course.il.as_str(), other.il.as_str());
+    assert_equal_at(rt, place, course.fe.as_str(), other.fe.as_str());
+}
+
+const SIDES: [Side; 2] = [Side::Interlocking, Side::FieldElement];
+
+// Each send of either end fails in turn, without a loss and where a command is lost: all goes as in the run in which that copy
+// is lost on its way.
 #[test]
-fn sets_up_a_session(rt: HostRuntime) -> Result<(), Fail> {
-    established(&rt)?.carries_and_settles(&rt)
-}
-
-impl Line {
-    fn polls(&mut self, rt: &(impl AllocGlobal + Abort)) -> Result<(), Fail> {
-        let request = sent_first(rt, &self.il)?;
-        self.fe.polls_one(rt, request.as_slice())?;
-        self.il.polls_in_vain(rt);
-        Ok(())
-    }
-}
-
-impl Station {
-    /// A datagram comes to the channels, and an end that polls hears it and lets time pass.
-    fn polls_one(&mut self, rt: &impl Abort, datagram: &[u8]) -> Result<(), Fail> {
-        self.end.channels().add(1, datagram)?;
-        self.later(300);
-        assert_equal(rt, self.poll(), Ok(()));
-        assert_true(rt, self.end.channels_seen().sent(1).is_some());
-        Ok(())
-    }
-
-    /// A reception that fails stops a poll before time passes.
-    fn polls_in_vain(&mut self, rt: &impl Abort) {
-        for _ in 0..400 {
-            let _ = self.poll();
-        }
-        self.later(5_000);
-        assert_equal(rt, self.poll(), Err(PollFault::Channel));
-        assert_equal(rt, self.end.state(), ConnectionState::Start);
-        self.tick();
-        assert_equal(rt, self.end.state(), ConnectionState::Closed);
-    }
-}
-
-// A poll hands in what the channels answer and then lets time pass.
-#[test]
-fn polls_its_channels(rt: HostRuntime) -> Result<(), Fail> {
-    Line::open(&rt, config(Side::Interlocking)?)?.polls(&rt)
-}
-
-fn sent_first(rt: &(impl AllocGlobal + Abort), station: &Station) -> Result<Vec<u8>, Fail> {
-    let (_, datagram) = station.end.channels_seen().sent(0).ok_or("nothing sent")?;
-    Ok(Vec::from_slice(rt.alloc(), datagram)?)
-}
-
-/// Whether the settings are fit, where memory is found; the channels, where it is not.
-fn opens_in(
-    heap: &LocalHeap,
-    config: EndConfig,
-    channels: MemChannels,
-) -> Result<bool, MemChannels> {
-    match End::open(heap, channels, config, Side::FieldElement, 1, 0) {
-        Ok(_) => Ok(true),
-        Err((OpenFault::Memory, back)) => Err(back),
-        Err((OpenFault::BadConfig, _)) => Ok(false),
-    }
-}
-
-// Heaps of rising size: each allocation is refused at some, the channels come back, and the largest is enough. Settings out of range are
-// refused before memory is asked for.
-#[test]
-fn opens_where_memory_is_found(rt: HostRuntime) -> Result<(), Fail> {
-    let mut config = config(Side::FieldElement)?;
-    let mut refused = 0u32;
-    let mut opened = false;
-    for step in 0..120 {
-        opened = opens_with(&rt, step * 1024, &config)?;
-        if !opened {
-            refused = refused.wrapping_add(1);
+fn a_failed_send_is_a_lost_copy(rt: HostRuntime) -> Result<(), Fail> {
+    for unit in [NONE, COMMAND] {
+        for side in SIDES {
+            let calm = Mishap { side, unit, ..GOOD };
+            let mut failed_sends = 0u32;
+            for place in 0..100 {
+                let send = place;
+                let failed = run(&rt, Mishap { send, ..calm })?;
+                if failed.failed_sends == 0 {
+                    break;
+                }
+                failed_sends = failed_sends.wrapping_add(1);
+                let lost = place;
+                is_as(&rt, place, &failed, &run(&rt, Mishap { lost, ..calm })?);
+            }
+            assert_true(&rt, (8..100).contains(&failed_sends));
         }
     }
-    assert_true(&rt, refused > 60);
-    assert_true(&rt, opened);
-    config.code = 9;
-    refuses_at_once(&rt, &config)
-}
-
-/// Whether an end is opened in a heap of this size; where it is not, the channels come back as they were.
-fn opens_with(
-    rt: &(impl AllocGlobal + Abort),
-    size: usize,
-    config: &EndConfig,
-) -> Result<bool, Fail> {
-    let heap = LocalHeap::new(rt.alloc(), size)?;
-    let mut channels = MemChannels::new(rt.alloc(), 2)?;
-    channels.add(1, &[7])?;
-    match opens_in(&heap, *config, channels) {
-        Ok(is_fit) => {
-            assert_true(rt, is_fit);
-            Ok(true)
-        }
-        Err(mut back) => {
-            came_back(rt, &mut back);
-            Ok(false)
-        }
-    }
-}
-
-/// The channels hold the octet that was added to them, and take more.
-fn came_back(rt: &impl Abort, channels: &mut MemChannels) {
-    let mut buffer = [0; 1];
-    assert_true(rt, channels.add(2, &[1]).is_ok());
-    assert_equal(rt, channels.receive(&mut buffer), Ok(Some((1, 1))));
-    assert_equal(rt, buffer, [7]);
-}
-
-/// Settings out of range are refused in a heap without room for anything.
-fn refuses_at_once(rt: &(impl AllocGlobal + Abort), config: &EndConfig) -> Result<(), Fail> {
-    let heap = LocalHeap::new(rt.alloc(), 0)?;
-    let channels = MemChannels::new(rt.alloc(), 2)?;
-    assert_true(
-        rt,
-        opens_in(&heap, *config, channels).is_ok_and(|is_fit| !is_fit),
-    );
     Ok(())
 }
 
-/// A field element in a heap of its own.
-#[derive(Drop)]
-struct Housed<'a> {
-    end: End<MemChannels, &'a LocalHeap>,
-    clock: u64,
-    taken: Taken,
-    heard: usize,
-    ghost timely: { end.time ≤ clock },
-    ghost small: { clock ≤ 2 ^ 62 },
+// Each reception of either end fails in turn: one poll answers that, and all that an end takes and does is as without it.
+#[test]
+fn a_failed_receive_loses_nothing(rt: HostRuntime) -> Result<(), Fail> {
+    for unit in [NONE, COMMAND] {
+        for side in SIDES {
+            let calm = Mishap { side, unit, ..GOOD };
+            let whole = run(&rt, calm)?;
+            let mut faults = 0u32;
+            for place in 0..100 {
+                let receive = place;
+                let course = run(&rt, Mishap { receive, ..calm })?;
+                if course.faults == 0 {
+                    break;
+                }
+                faults = faults.wrapping_add(course.faults);
+                is_as(&rt, place, &course, &whole);
+                assert_equal_at(&rt, place, faults as usize, place + 1);
+            }
+            assert_true(&rt, (36..100).contains(&faults));
+        }
+    }
+    Ok(())
 }
 
-impl<'a> Housed<'a> {
-    fn open(heap: &'a LocalHeap, channels: MemChannels, config: EndConfig) -> Option<Self> {
-        let end = End::open(heap, channels, config, Side::FieldElement, 500, 0).ok()?;
-        Some(Housed {
-            end,
-            clock: 0,
-            taken: Taken {
-                list: ArrayVec::new(),
-            },
-            heard: 0,
-        })
-    }
-
-    /// The next datagram that the peer sent on this channel comes here; answers whether there was one.
-    fn next(&mut self, peer: &MemChannels, on: usize) -> bool {
-        for _ in 0..400 {
-            let Some((channel, octets)) = peer.sent(self.heard) else {
-                return false;
-            };
-            self.heard = self.heard.wrapping_add(1);
-            if channel == on {
-                self.end
-                    .arrive(channel, octets, self.clock, &mut self.taken);
-                return true;
-            }
-        }
-        false
-    }
-
-    /// All that the two have sent on the first channel comes to the other.
-    fn flow(&mut self, il: &mut Station) {
-        for _ in 0..100 {
-            let to_fe = self.next(il.end.channels_seen(), 1);
-            let to_il = il.next(self.end.channels_seen(), 1);
-            if !to_fe && !to_il {
-                return;
+/// Takes all that is left in a heap.
+fn take_all<'a>(
+    rt: &(impl AllocGlobal + Abort),
+    heap: &'a LocalHeap,
+) -> Result<Vec<Vec<u8, &'a LocalHeap>>, Fail> {
+    let mut taken = Vec::new(rt.alloc());
+    for size in [4096, 64, 1] {
+        for _ in 0..1000 {
+            match Vec::with_capacity(heap, size) {
+                Ok(octets) => taken.push(octets)?,
+                Err(_) => break,
             }
         }
     }
-
-    /// A session is set up, and a unit is lost.
-    fn loses_a_unit(&mut self, il: &mut Station) -> Result<(), Fail> {
-        self.flow(il);
-        self.end.init_done(self.clock)?;
-        self.flow(il);
-        il.put(0x100, 1)?;
-        self.heard = self.heard.wrapping_add(2);
-        il.put(0x100, 2)?;
-        self.flow(il);
-        Ok(())
-    }
-
-    /// The wait for it is over.
-    fn asks_again(&mut self, il: &mut Station) {
-        il.later(50);
-        if self.clock <= 1000 {
-            self.clock += 50;
-        }
-        self.end.tick(self.clock, &mut self.taken);
-        self.flow(il);
-    }
+    assert_true(rt, Vec::<u8, &LocalHeap>::with_capacity(heap, 1).is_err());
+    Ok(taken)
 }
 
-// In a heap that the opening has filled, a lost unit is asked for, sent again and taken as in any other.
+// In heaps of rising size the opening is refused, until one has room for both ends. That heap then refuses all, and a lost unit is
+// asked for, sent again and taken as in any other.
 #[test]
 fn goes_on_in_a_full_heap(rt: HostRuntime) -> Result<(), Fail> {
-    let config = config(Side::FieldElement)?;
-    for step in 0..5_000 {
-        if goes_on_in(&rt, 20_000 + step * 16, &config)? {
-            return Ok(());
+    let mishap = Mishap {
+        unit: COMMAND,
+        ..GOOD
+    };
+    let whole = run(&rt, mishap)?;
+    let mut refused = false;
+    for step in 0..200 {
+        let heap = LocalHeap::new(rt.alloc(), step * 1024)?;
+        match Line::open(&rt, &heap, &mishap) {
+            Some(mut line) => {
+                let _all = take_all(&rt, &heap)?;
+                let used = heap.used();
+                line.play(&mishap)?;
+                is_as(&rt, step, &line.course(&rt)?, &whole);
+                assert_equal(&rt, heap.used(), used);
+                assert_true(&rt, refused);
+                return Ok(());
+            }
+            None => refused = true,
         }
     }
     Err(Fail::from("no heap is large enough"))
-}
-
-/// Whether an end is opened in a heap of this size, where it then goes on.
-fn goes_on_in(
-    rt: &(impl AllocGlobal + Abort),
-    size: usize,
-    config: &EndConfig,
-) -> Result<bool, Fail> {
-    let heap = LocalHeap::new(rt.alloc(), size)?;
-    let channels = MemChannels::new(rt.alloc(), 400)?;
-    match Housed::open(&heap, channels, *config) {
-        None => Ok(false),
-        Some(mut fe) => {
-            assert_true(rt, Vec::<u8, &LocalHeap>::with_capacity(&heap, 64).is_err());
-            goes_on(rt, &mut fe)
-        }
-    }
-}
-
-/// An end takes both of two commands, of which the first is lost and sent again.
-fn goes_on(rt: &(impl AllocGlobal + Abort), fe: &mut Housed) -> Result<bool, Fail> {
-    let mut il = Station::open(rt, config(Side::Interlocking)?, Side::Interlocking, 100)?;
-    recovers(rt, fe, &mut il)?;
-    has_both(rt, fe);
-    Ok(true)
-}
-
-fn recovers(rt: &impl Abort, fe: &mut Housed, il: &mut Station) -> Result<(), Fail> {
-    fe.loses_a_unit(il)?;
-    assert_equal(rt, fe.taken.list.len(), 0);
-    fe.asks_again(il);
-    Ok(())
-}
-
-fn has_both(rt: &impl Abort, fe: &Housed) {
-    assert_equal(rt, fe.end.state(), ConnectionState::Up);
-    let both = [(0x100, 1), (0x100, 2)];
-    assert_true(rt, fe.taken.list.as_slice() == both.as_slice());
 }

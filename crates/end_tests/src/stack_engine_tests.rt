@@ -1,175 +1,216 @@
-use crate::assertions::{assert_equal, assert_true};
+//! Worked cases of two ends, all through `Pair::run`, and events for which there is no memory.
+
+use crate::assertions::{assert_equal, assert_equal_at, assert_true};
 use crate::stack_end_tests::config;
-use channels::Note;
 use end_settings::{EndConfig, Side};
 use linked_list_allocator::LocalHeap;
 use pdi_session::Phase;
-use red_layer::RedEvent;
-use safe_machine::{ConnectionState, Step};
+use safe_machine::ConnectionState;
 use stack_engine::{Action, ApplyFault, Call, Event, NoteView, Pair};
-use std::alloc::Allocator;
+use std::alloc::{Allocator, Global};
+use std::io::Write;
 use std::process::Abort;
 use std::test::Fail;
 
-/// Time passes at the field element.
-fn tick<A: Allocator + Copy>(pair: &mut Pair<A>, time: u64) -> Result<(), ApplyFault> {
-    pair.apply(&Event {
-        side: Side::FieldElement,
-        time,
-        doing: Action::Call(Call::Tick),
-    })
+const IL: Side = Side::Interlocking;
+
+const FE: Side = Side::FieldElement;
+
+fn event<'a>(side: Side, time: u64, doing: Action<'a>) -> Event<'a> {
+    Event { side, time, doing }
 }
 
-/// An end is opened at 10 milliseconds.
-fn open<A: Allocator + Copy>(
-    pair: &mut Pair<A>,
-    side: Side,
-    config: &EndConfig,
-    first_sn: u32,
-) -> Result<(), ApplyFault> {
-    pair.apply(&Event {
-        side,
-        time: 10,
-        doing: Action::Open {
-            config: *config,
-            first_sn,
-        },
-    })
-}
-
-/// A datagram comes to the field element on channel 1.
-fn deliver(pair: &mut Pair, octets: &[u8]) -> Result<(), ApplyFault> {
-    pair.apply(&Event {
-        side: Side::FieldElement,
-        time: 10,
-        doing: Action::Call(Call::Deliver { channel: 1, octets }),
-    })
-}
-
-fn refuses_and_goes_on(
-    rt: &impl Abort,
-    pair: &mut Pair,
-    config: &EndConfig,
-) -> Result<(), ApplyFault> {
-    assert_equal(rt, tick(pair, 5), Err(ApplyFault::EndNotOpen));
-    open(pair, Side::FieldElement, config, 500)?;
-    assert_equal(rt, tick(pair, 5), Err(ApplyFault::Clock));
-    tick(pair, 10)
-}
-
-fn has_two_events(rt: &impl Abort, pair: &Pair) {
-    assert_equal(rt, pair.history().len(), 2);
-    assert_true(rt, pair.end_of(Side::FieldElement).is_some());
-    assert_true(rt, pair.end_of(Side::Interlocking).is_none());
-}
-
-// An end is ticked before it is opened, opened, ticked too early and in time: what is refused and by which name, and what happened.
-#[test]
-fn names_refusals_and_goes_on(rt: HostRuntime) -> Result<(), Fail> {
-    let config = config(Side::FieldElement)?;
-    let mut pair = Pair::new(rt.alloc());
-    assert_equal(&rt, refuses_and_goes_on(&rt, &mut pair, &config), Ok(()));
-    has_two_events(&rt, &pair);
-    Ok(())
-}
-
-fn ticking<'a>(time: u64) -> Event<'a> {
-    Event {
-        side: Side::FieldElement,
-        time,
-        doing: Action::Call(Call::Tick),
+fn opening<'a>(config: &EndConfig, first_sn: u32) -> Action<'a> {
+    Action::Open {
+        config: *config,
+        first_sn,
     }
 }
 
-/// How many of five events happen: an end is ticked before it is opened, opened, ticked too early, and twice in time.
-fn run(pair: &mut Pair, config: &EndConfig) -> Option<usize> {
-    let opening = Event {
-        side: Side::FieldElement,
-        time: 10,
-        doing: Action::Open {
-            config: *config,
-            first_sn: 500,
-        },
-    };
-    let events = [ticking(5), opening, ticking(9), ticking(10), ticking(11)];
-    pair.run(&events).ok()
+fn command<'a>(payload: &'a [u8]) -> Action<'a> {
+    let kind = 0x100;
+    Action::Call(Call::Put { kind, payload })
 }
 
-// A run goes on behind a refused event, and answers how many were accepted.
-#[test]
-fn runs_events_in_turn(rt: HostRuntime) -> Result<(), Fail> {
-    let config = config(Side::FieldElement)?;
-    let mut pair = Pair::new(rt.alloc());
-    goes_on(&rt, &mut pair, &config);
-    Ok(())
+const TICK: Action<'static> = Action::Call(Call::Tick);
+
+/// A datagram: the side to which it goes, and its octets.
+type Datagram = (Side, Vec<u8>);
+
+/// Two ends, the datagrams that they made, how many of these came or were lost, and the notes of all events as lines.
+#[derive(Drop)]
+struct World {
+    pair: Pair,
+    made: Vec<Datagram>,
+    gone: usize,
+    lines: Vec<u8>,
 }
 
-fn goes_on(rt: &impl Abort, pair: &mut Pair, config: &EndConfig) {
-    assert_equal(rt, run(pair, config), Some(3));
-    assert_equal(rt, pair.history().len(), 3);
-    assert_equal(rt, pair.breaks_premise(Side::FieldElement, &[0; 8]), false);
-}
-
-/// The datagram of the first PDU that the last event made.
-fn made(rt: &impl AllocGlobal, pair: &Pair) -> Result<Vec<u8>, Fail> {
+/// Keeps what the last event made and told. The event was one of this side.
+fn keep(
+    alloc: Global,
+    pair: &Pair,
+    side: Side,
+    made: &mut Vec<Datagram>,
+    lines: &mut Vec<u8>,
+) -> Result<(), Fail> {
+    let to = if side == IL { FE } else { IL };
     let notes = pair.notes().ok_or("no event")?;
     for place in 0..notes.len() {
-        if let Some(NoteView::Made(datagram)) = notes.get(place) {
-            return Ok(Vec::from_slice(rt.alloc(), datagram)?);
+        match notes.get(place) {
+            Some(NoteView::Made(octets)) => made.push((to, Vec::from_slice(alloc, octets)?))?,
+            Some(NoteView::Note(note)) => writeln!(lines, "{note:?}")?,
+            None => {}
         }
     }
-    Err("no PDU".into())
-}
-
-/// A field element, and two interlockings that make the same ConnReq.
-fn open_all(pair: &mut Pair, il: &EndConfig, fe: &EndConfig) -> Result<(), ApplyFault> {
-    open(pair, Side::FieldElement, fe, 500)?;
-    open(pair, Side::Interlocking, il, 100)?;
-    open(pair, Side::Interlocking, il, 100)
-}
-
-fn is_joined_to_the_later(rt: &impl Abort, pair: &Pair) -> Result<(), Fail> {
-    let entry = pair.report(Side::FieldElement, 0).ok_or("no entry")?;
-    assert_equal(rt, entry.joined, Some(1));
-    assert_true(rt, pair.report(Side::FieldElement, 1).is_none());
-    assert_equal(rt, pair.incarnations(Side::Interlocking), 2);
     Ok(())
 }
 
-fn tells_in_order(rt: &impl Abort, pair: &Pair) -> Result<(), Fail> {
-    let notes = pair.notes().ok_or("no event")?;
-    assert_true(rt, matches!(notes.get(0), Some(NoteView::Made(_))));
-    let told = [
-        Note::Step(0, Step::Taken),
-        Note::State(ConnectionState::Start),
-        Note::Redundancy(Some(0), RedEvent::Passed),
-    ];
-    for (place, note) in told.iter().enumerate() {
-        assert_equal(
-            rt,
-            notes.get(place.wrapping_add(1)),
-            Some(NoteView::Note(*note)),
-        );
+impl World {
+    /// The field element is ticked before it is opened; then both ends are opened.
+    fn open(rt: &impl AllocGlobal) -> Result<World, Fail> {
+        let il = config(IL).ok_or("settings")?;
+        let fe = config(FE).ok_or("settings")?;
+        let mut pair = Pair::new(rt.alloc());
+        let events = [
+            event(FE, 5, TICK),
+            event(FE, 0, opening(&fe, 500)),
+            event(IL, 0, opening(&il, 100)),
+        ];
+        if pair.run(&events) != Ok(2) {
+            return Err("two of three events".into());
+        }
+        let mut world = World {
+            pair,
+            made: Vec::new(rt.alloc()),
+            gone: 0,
+            lines: Vec::new(rt.alloc()),
+        };
+        world.keep(rt.alloc(), IL)?;
+        Ok(world)
     }
-    assert_equal(rt, notes.len(), 4);
+
+    fn keep(&mut self, alloc: Global, side: Side) -> Result<(), Fail> {
+        keep(alloc, &self.pair, side, &mut self.made, &mut self.lines)
+    }
+
+    /// An event happens.
+    fn happens(&mut self, alloc: Global, event: Event<'_>) -> Result<(), Fail> {
+        if self.pair.run(&[event]) != Ok(1) {
+            return Err("refused".into());
+        }
+        self.keep(alloc, event.side)
+    }
+
+    /// The next datagram comes on these channels in turn; answers whether there was one.
+    fn next(&mut self, alloc: Global, time: u64, channels: &[usize]) -> Result<bool, Fail> {
+        let Some((side, octets)) = self.made.as_slice().get(self.gone) else {
+            return Ok(false);
+        };
+        let (side, octets) = (*side, Vec::from_slice(alloc, octets.as_slice())?);
+        let octets = octets.as_slice();
+        self.gone = self.gone.wrapping_add(1);
+        for channel in channels {
+            let channel = *channel;
+            let delivery = Action::Call(Call::Deliver { channel, octets });
+            self.happens(alloc, event(side, time, delivery))?;
+        }
+        Ok(true)
+    }
+
+    /// All datagrams come, and those that are made for them.
+    fn flow(&mut self, alloc: Global, time: u64, channels: &[usize]) -> Result<(), Fail> {
+        for _ in 0..100 {
+            if !self.next(alloc, time, channels)? {
+                break;
+            }
+        }
+        Ok(())
+    }
+
+    /// A session is established over the first channel, and commands are put into it.
+    fn establish(&mut self, alloc: Global, commands: &[&[u8]]) -> Result<(), Fail> {
+        self.flow(alloc, 0, &[1])?;
+        self.happens(alloc, event(FE, 0, Action::Call(Call::InitDone)))?;
+        self.flow(alloc, 0, &[1])?;
+        self.lines.clear();
+        for payload in commands {
+            self.happens(alloc, event(IL, 0, command(payload)))?;
+        }
+        Ok(())
+    }
+
+    /// The session is established at both ends, and the field element took so many commands, of which the first is 0.
+    fn has_taken(&self, rt: &impl Abort, count: usize) -> Result<(), Fail> {
+        for side in [IL, FE] {
+            let end = self.pair.end_of(side).ok_or("no end")?;
+            let stands = (end.state(), end.phase());
+            assert_equal(rt, stands, (ConnectionState::Up, Phase::Established));
+        }
+        let entry = self.pair.report(FE, 0).ok_or("no entry")?;
+        assert_equal(rt, entry.joined, Some(0));
+        assert_equal(rt, entry.taken.len(), count);
+        for place in 0..count {
+            let found = entry
+                .taken
+                .get(place)
+                .map(|(kind, payload)| (*kind, payload));
+            assert_equal(rt, found, Some((0x100, [place as u8].as_slice())));
+        }
+        Ok(())
+    }
+
+    fn is_settled(&self, side: Side) -> bool {
+        self.pair.end_of(side).is_some_and(|end| end.settled())
+    }
+}
+
+/// What is told of three commands that come on both channels.
+const REPEATS: &str = "\
+Step(4, Taken)
+Take(256, [0])
+Redundancy(Some(4), Passed)
+Redundancy(Some(4), Old)
+Step(5, Taken)
+Take(256, [1])
+Redundancy(Some(5), Passed)
+Redundancy(Some(5), Old)
+Step(6, Taken)
+Take(256, [2])
+Redundancy(Some(6), Passed)
+Redundancy(Some(6), Old)
+";
+
+// A run goes on behind a tick of an end that is not open. A session is set up, and each of three commands comes on the first channel
+// and again on the second.
+#[test]
+fn sets_up_a_session(rt: HostRuntime) -> Result<(), Fail> {
+    let mut world = World::open(&rt)?;
+    world.establish(rt.alloc(), &[&[0], &[1], &[2]])?;
+    world.flow(rt.alloc(), 0, &[1, 2])?;
+    world.has_taken(&rt, 3)?;
+    assert_equal(&rt, str::from_utf8(world.lines.as_slice())?, REPEATS);
     Ok(())
 }
 
-// Two interlockings make the same ConnReq, one after the other: the field element that takes it is joined to the later one. What the
-// delivery did is told in its order, the redundancy layer's word last.
+// A unit is lost, asked for and sent again. The end that put it is settled once a heartbeat of its peer confirms it, 300 ms after that has
+// asked.
 #[test]
-fn joins_the_latest_maker(rt: HostRuntime) -> Result<(), Fail> {
-    let (il, fe) = (config(Side::Interlocking)?, config(Side::FieldElement)?);
-    let mut pair = Pair::new(rt.alloc());
-    assert_equal(&rt, open_all(&mut pair, &il, &fe), Ok(()));
-    joins(&rt, &mut pair)
-}
-
-fn joins(rt: &(impl AllocGlobal + Abort), pair: &mut Pair) -> Result<(), Fail> {
-    let request = made(rt, pair)?;
-    assert_equal(rt, deliver(pair, request.as_slice()), Ok(()));
-    is_joined_to_the_later(rt, pair)?;
-    tells_in_order(rt, pair)
+fn settles_after_a_loss(rt: HostRuntime) -> Result<(), Fail> {
+    let mut world = World::open(&rt)?;
+    let alloc = rt.alloc();
+    world.establish(alloc, &[&[0], &[1]])?;
+    world.gone = world.gone.wrapping_add(1);
+    world.next(alloc, 0, &[1])?;
+    world.happens(alloc, event(FE, 50, TICK))?;
+    world.flow(alloc, 50, &[1])?;
+    world.has_taken(&rt, 2)?;
+    for (time, is_settled) in [(50, false), (349, false), (350, true)] {
+        world.happens(alloc, event(FE, time, TICK))?;
+        world.flow(alloc, time, &[1])?;
+        assert_equal_at(&rt, time, world.is_settled(IL), is_settled);
+    }
+    Ok(())
 }
 
 /// How a pair stands: its events, its incarnations, and the phase of the field element.
@@ -178,33 +219,24 @@ type Standing = (usize, usize, usize, Option<Phase>);
 fn standing<A: Allocator + Copy>(pair: &Pair<A>) -> Standing {
     (
         pair.history().len(),
-        pair.incarnations(Side::Interlocking),
-        pair.incarnations(Side::FieldElement),
-        pair.end_of(Side::FieldElement).map(|end| end.phase()),
+        pair.incarnations(IL),
+        pair.incarnations(FE),
+        pair.end_of(FE).map(|end| end.phase()),
     )
 }
 
-/// One of four events happens: both ends are opened, the interlocking twice.
-fn step(pair: &mut Pair<&LocalHeap>, place: u8, il: &EndConfig, fe: &EndConfig) -> bool {
-    let done = match place {
-        0 => open(pair, Side::FieldElement, fe, 500),
-        1 => tick(pair, 20),
-        2 => open(pair, Side::Interlocking, il, 100),
-        _ => open(pair, Side::Interlocking, il, 200),
-    };
-    done.is_ok()
-}
-
-/// How many of four events happen in a heap; the first that finds no room changes nothing.
-fn count_in(rt: &impl Abort, heap: &LocalHeap, il: &EndConfig, fe: &EndConfig) -> u8 {
-    let mut pair = Pair::new(heap);
-    count(rt, &mut pair, il, fe)
-}
-
-fn count(rt: &impl Abort, pair: &mut Pair<&LocalHeap>, il: &EndConfig, fe: &EndConfig) -> u8 {
+/// How many of four events happen: both ends are opened, the interlocking twice. The first that finds no room changes nothing.
+fn count(rt: &impl Abort, pair: &mut Pair<&LocalHeap>, il: &EndConfig, fe: &EndConfig) -> usize {
+    let events = [
+        event(FE, 10, opening(fe, 500)),
+        event(FE, 20, TICK),
+        event(IL, 10, opening(il, 100)),
+        event(IL, 10, opening(il, 200)),
+    ];
     for place in 0..4 {
         let before = standing(pair);
-        if !step(pair, place, il, fe) {
+        if let Err(fault) = pair.apply(&events[place]) {
+            assert_equal(rt, fault, ApplyFault::Memory);
             assert_equal(rt, standing(pair), before);
             return place;
         }
@@ -215,66 +247,16 @@ fn count(rt: &impl Abort, pair: &mut Pair<&LocalHeap>, il: &EndConfig, fe: &EndC
 // In heaps of rising size each growth of an event is refused in turn: nothing has changed then.
 #[test]
 fn refuses_for_want_of_memory(rt: HostRuntime) -> Result<(), Fail> {
-    let (il, fe) = (config(Side::Interlocking)?, config(Side::FieldElement)?);
+    let il = config(IL).ok_or("settings")?;
+    let fe = config(FE).ok_or("settings")?;
     let mut found = [false; 5];
-    for size in 0..2_000 {
-        let heap = LocalHeap::new(rt.alloc(), size * 1_000)?;
-        let count = count_in(&rt, &heap, &il, &fe);
-        if let Some(place) = found.get_mut(usize::from(count)) {
+    for size in 0..500 {
+        let heap = LocalHeap::new(rt.alloc(), size * 4_000)?;
+        let count = count(&rt, &mut Pair::new(&heap), &il, &fe);
+        if let Some(place) = found.get_mut(count) {
             *place = true;
         }
     }
     assert_equal(&rt, found, [true; 5]);
-    Ok(())
-}
-
-/// How many of the events happen in which a datagram comes to an end on a channel, by `run`.
-fn comes(pair: &mut Pair, side: Side, channel: usize, octets: &[u8]) -> Option<usize> {
-    let event = Event {
-        side,
-        time: 10,
-        doing: Action::Call(Call::Deliver { channel, octets }),
-    };
-    pair.run(&[event]).ok()
-}
-
-/// How many of three events happen: the field element is ticked before it is opened, then both ends are opened.
-fn opens_both(pair: &mut Pair, il: &EndConfig, fe: &EndConfig) -> Option<usize> {
-    let opening = |side, config: &EndConfig, first_sn| Event {
-        side,
-        time: 10,
-        doing: Action::Open {
-            config: *config,
-            first_sn,
-        },
-    };
-    let events = [
-        ticking(5),
-        opening(Side::FieldElement, fe, 500),
-        opening(Side::Interlocking, il, 100),
-    ];
-    pair.run(&events).ok()
-}
-
-/// What an end made last comes to the other on both channels.
-fn comes_twice(rt: &(impl AllocGlobal + Abort), pair: &mut Pair, side: Side) -> Result<bool, Fail> {
-    let datagram = made(rt, pair)?;
-    let again = comes(pair, side, 2, datagram.as_slice());
-    let first = comes(pair, side, 1, datagram.as_slice());
-    Ok(again == Some(1) && first == Some(1))
-}
-
-// A run goes on behind a tick of an end that is not open; then a request comes on the second channel and again on the first.
-#[test]
-fn runs_repeats_on_the_second_channel(rt: HostRuntime) -> Result<(), Fail> {
-    let (il, fe) = (config(Side::Interlocking)?, config(Side::FieldElement)?);
-    let mut pair = Pair::new(rt.alloc());
-    assert_equal(&rt, opens_both(&mut pair, &il, &fe), Some(2));
-    repeats(&rt, &mut pair)
-}
-
-fn repeats(rt: &(impl AllocGlobal + Abort), pair: &mut Pair) -> Result<(), Fail> {
-    assert_equal(rt, comes_twice(rt, pair, Side::FieldElement)?, true);
-    assert_equal(rt, pair.history().len(), 4);
     Ok(())
 }

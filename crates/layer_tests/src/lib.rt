@@ -12,16 +12,10 @@ mod packing_tests;
 #[cfg(test)]
 mod pdi_session_tests;
 #[cfg(test)]
-mod red_layer_deferral_tests;
-#[cfg(test)]
 mod red_layer_tests;
 #[cfg(test)]
 mod retrans_tests;
 #[cfg(test)]
-mod safe_machine_server_tests;
-#[cfg(test)]
 mod safe_machine_tests;
 #[cfg(test)]
 mod safe_pdu_tests;
-#[cfg(test)]
-mod sci_telegram_tests;

@@ -2,7 +2,7 @@ use crate::assertions::{assert_equal, assert_equal_at, assert_true};
 use arrayvec::ArrayVec;
 use linked_list_allocator::LocalHeap;
 use red_layer::pdu::RedFault;
-use red_layer::{Numbers, RedConfig, RedEvent, RedLayer, RedOpenFault, Upward};
+use red_layer::{RedConfig, RedEvent, RedLayer, RedOpenFault, Upward};
 use std::test::Fail;
 
 /// Keeps the numbers that are passed up.
@@ -140,23 +140,4 @@ fn opening_takes_the_only_memory(rt: HostRuntime) -> Result<(), Fail> {
         }
     }
     Err("no heap was great enough".into())
-}
-
-#[test]
-fn numbers_count_from_zero(rt: HostRuntime) -> Result<(), Fail> {
-    let mut numbers = Numbers::new();
-    assert_equal(&rt, numbers.next(), 0);
-    assert_equal(&rt, numbers.next(), 1);
-    assert_equal(&rt, numbers.next(), 2);
-    Ok(())
-}
-
-// A receiving half opens at each q of the profile and defers nothing.
-#[test]
-fn opens_at_each_q(rt: HostRuntime) -> Result<(), Fail> {
-    for q in 1..9 {
-        let layer = RedLayer::open(rt.alloc(), RedConfig { q, t_seq: 50 })?;
-        assert_equal_at(&rt, q, layer.deadline(), None);
-    }
-    Ok(())
 }

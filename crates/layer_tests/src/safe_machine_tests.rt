@@ -1,31 +1,26 @@
-//! Two machines that receive from one another, with numbers and times from outside.
+//! One arrival, and requests for retransmission, at a server that is up, with numbers and times from outside.
 
 ghost use Rattle.std.specs.Prelude.{◌≤◌, ◌*◌};
 
 use crate::assertions::{assert_equal, assert_true};
-use Happens::{FeSends, FeTicks, IlSends, ToFe, ToIl};
 use arrayvec::ArrayVec;
 use linked_list_allocator::LocalHeap;
+use octets::limits::SAFE_PDU_MAX;
 use safe_machine::{
-    ConnectionState, Detail, DropCause, Machine, MachineConfig, MachineFault, PduOut, Reason, Role,
-    SendFault, Step, Unit, UnitIn,
+    Detail, DropCause, Machine, MachineConfig, MachineFault, PduOut, Reason, Role, SendFault, Step,
+    Unit, UnitIn,
 };
-use safe_pdu::{CodeLength, CodeRule, SafeFault, decode};
+use safe_pdu::{CodeLength, CodeRule, Kind, SafePdu, decode, encode};
 use std::alloc::Allocator;
 use std::process::Abort;
 use std::test::Fail;
 
-pub(crate) const RULE: CodeRule = CodeRule {
+const RULE: CodeRule = CodeRule {
     length: CodeLength::Eight,
     initial_value: [1, 2, 3, 4],
 };
 
-const LONG_RULE: CodeRule = CodeRule {
-    length: CodeLength::Sixteen,
-    initial_value: [1, 2, 3, 4],
-};
-
-pub(crate) const SERVER: MachineConfig = MachineConfig {
+const SERVER: MachineConfig = MachineConfig {
     own: 2,
     peer: 1,
     n_sendmax: 20,
@@ -36,24 +31,12 @@ pub(crate) const SERVER: MachineConfig = MachineConfig {
     rule: RULE,
 };
 
-const CLIENT: MachineConfig = MachineConfig {
-    own: 1,
-    peer: 2,
-    n_sendmax: 20,
-    t_max: 1_800,
-    t_h: 300,
-    mwa: 10,
-    pdu_limit: 4_294_901_760,
-    rule: RULE,
-};
-
 /// A PDU as it is told: its type, sequence number and confirmed sequence number.
-pub(crate) type Told = (u16, u32, u32);
+type Told = (u16, u32, u32);
 
-/// Keeps the PDUs made.
+/// Keeps what is told of the PDUs made.
 #[derive(Drop)]
 struct Wire {
-    octets: ArrayVec<ArrayVec<u8, 96>, 40>,
     told: ArrayVec<Told, 40>,
 }
 
@@ -61,85 +44,59 @@ impl PduOut for Wire {
     ghost makes = { λ _ _ _. Unit {0} };
 
     fn made(&mut self, pdu: &[u8]) {
-        let mut kept = ArrayVec::new();
-        let _ = kept.try_extend_from_slice(pdu);
-        let _ = self.octets.try_push(kept);
-        let read = decode(pdu, &RULE).or(decode(pdu, &LONG_RULE));
-        if let Ok(pdu) = read {
-            let _ = self.told.try_push((pdu.kind.number(), pdu.sn, pdu.cs));
+        if let Ok(pdu) = decode(pdu, &RULE) {
+            let _kept = self.told.try_push((pdu.kind.number(), pdu.sn, pdu.cs));
         }
     }
 }
 
-/// Keeps the last octet of each unit that goes up.
+/// Takes units, and keeps nothing of them.
 #[derive(Drop)]
-struct Taken {
-    units: ArrayVec<u8, 40>,
-}
+struct Nobody;
 
-impl UnitIn for Taken {
+impl UnitIn for Nobody {
     ghost takes = { λ _ _ _. Unit {0} };
 
     ghost ready = { λ _. Unit {0} };
 
-    fn unit(&mut self, unit: &[u8]) {
-        let _ = self.units.try_push(unit.last().copied().unwrap_or(0));
-    }
+    fn unit(&mut self, _unit: &[u8]) {}
 }
 
-/// A machine, the PDUs that it made and the units that it took.
+/// A machine and the PDUs that it made.
 #[derive(Drop)]
-pub(crate) struct Seat<A: Allocator> {
+struct Seat<A: Allocator> {
     machine: Machine<A>,
     made: Wire,
-    took: Taken,
     /// How many PDUs came: each raises the index of the next by 321 at most.
     heard: u32,
     ghost near: { machine.expected ≤ 321 * heard },
 }
 
 impl<A: Allocator> Seat<A> {
-    pub(crate) fn open(
-        alloc: A,
-        config: MachineConfig,
-        role: Role,
-        first_sn: u32,
-    ) -> Result<Self, MachineFault> {
+    /// Opens a server.
+    fn open(alloc: A) -> Result<Self, MachineFault> {
         let mut made = Wire {
-            octets: ArrayVec::new(),
             told: ArrayVec::new(),
         };
-        let machine = Machine::open(alloc, config, role, first_sn, 0, &mut made)?;
+        let machine = Machine::open(alloc, SERVER, Role::Server, 500, 0, &mut made)?;
         Ok(Seat {
             machine,
             made,
-            took: Taken {
-                units: ArrayVec::new(),
-            },
             heard: 0,
         })
     }
 
     /// A PDU comes.
-    pub(crate) fn receive(&mut self, pdu: &[u8], now: u64) -> Step {
+    fn receive(&mut self, pdu: &[u8], now: u64) -> Step {
         let Some(heard) = self.heard.checked_add(1) else {
             return Step::Nothing;
         };
         self.heard = heard;
-        self.machine
-            .arrive(pdu, now, &mut self.made, &mut self.took)
-    }
-
-    /// The PDU at a place among those that another made comes; Nothing where there is none.
-    fn receive_from(&mut self, other: &Wire, place: usize, now: u64) -> Step {
-        match other.octets.as_slice().get(place) {
-            Some(pdu) => self.receive(pdu.as_slice(), now),
-            None => Step::Nothing,
-        }
+        self.machine.arrive(pdu, now, &mut self.made, &mut Nobody)
     }
 
     /// Sends a unit of 45 octets that ends in this one.
-    pub(crate) fn send(&mut self, last: u8) -> Result<(), SendFault> {
+    fn send(&mut self, last: u8) -> Result<(), SendFault> {
         let mut octets = [0; 45];
         octets[44] = last;
         let mut unit = Unit::new();
@@ -149,121 +106,198 @@ impl<A: Allocator> Seat<A> {
         }
     }
 
-    fn tick(&mut self, now: u64) {
-        self.machine.tick(now, &mut self.made);
-    }
-
-    fn close(&mut self, reason: Reason, detail: Detail) {
-        self.machine.close(reason, detail, 0, &mut self.made);
-    }
-
-    fn is(&self, rt: &impl Abort, state: ConnectionState) {
-        assert_equal(rt, self.machine.state(), state);
-    }
-
     /// These are the PDUs made from a place on.
-    pub(crate) fn made(&self, rt: &impl Abort, place: usize, wanted: &[Told]) {
+    fn made(&self, rt: &impl Abort, place: usize, wanted: &[Told]) {
         let told = self.made.told.as_slice().get(place..).unwrap_or(&[]);
         assert_equal(rt, told, wanted);
     }
+}
 
-    /// These are the last octets of the units taken.
-    fn took(&self, rt: &impl Abort, wanted: &[u8]) {
-        assert_equal(rt, self.took.units.as_slice(), wanted);
+/// A PDU from identifier 1 at the field element: type, number, confirmed number and timestamp, its own timestamp 0.
+#[derive(Clone, Copy, Drop)]
+struct Heard {
+    kind: Kind,
+    sender: u32,
+    sn: u32,
+    cs: u32,
+    cts: u32,
+}
+
+/// Hands it to a machine with identifier 2.
+fn receive<A: Allocator>(seat: &mut Seat<A>, heard: Heard, now: u64) -> Step {
+    let opening = [0x30, 0x33, 0x30, 0x33, 20, 0, 0, 0, 0, 0, 0, 0, 0, 0];
+    let unit = [7; 45];
+    let body = match heard.kind {
+        Kind::ConnReq | Kind::ConnResp => opening.as_slice(),
+        Kind::Data | Kind::RetrData => unit.as_slice(),
+        Kind::DiscReq => [0, 0, 0, 0].as_slice(),
+        _ => [].as_slice(),
+    };
+    let pdu = SafePdu {
+        kind: heard.kind,
+        receiver: 2,
+        sender: heard.sender,
+        sn: heard.sn,
+        cs: heard.cs,
+        ts: 0,
+        cts: heard.cts,
+        body,
+    };
+    let mut buffer = [0; SAFE_PDU_MAX];
+    let size = encode(&pdu, &RULE, &mut buffer);
+    seat.receive(&buffer[..size], now)
+}
+
+/// A PDU of the peer.
+fn from_peer(kind: Kind, sn: u32, cs: u32) -> Heard {
+    Heard {
+        kind,
+        sender: 1,
+        sn,
+        cs,
+        cts: 0,
     }
 }
 
-/// What happens to two ends.
-#[derive(Clone, Copy)]
-enum Happens {
-    /// The interlocking sends a unit that ends in this octet.
-    IlSends(u8),
-    /// The field element does.
-    FeSends(u8),
-    /// The field element looks at its clock, in milliseconds.
-    FeTicks(u64),
-    /// The PDU at a place among those that the interlocking made comes to the field element, at a time of its clock; it answers so.
-    ToFe(usize, u64, Step),
-    /// And so from the field element to the interlocking.
-    ToIl(usize, u64, Step),
+/// A server with first number 500 that took ConnReq 100 and HB 101.
+fn server<A: Allocator>(alloc: A) -> Result<Seat<A>, MachineFault> {
+    let mut seat = Seat::open(alloc)?;
+    receive(&mut seat, from_peer(Kind::ConnReq, 100, 0), 0);
+    receive(&mut seat, from_peer(Kind::Heartbeat, 101, 500), 0);
+    Ok(seat)
 }
 
-/// Both ends come up, and send what two sessions send in their establishment: PDUs 0 to 3 of either.
-const ESTABLISHMENT: [Happens; 12] = [
-    ToFe(0, 0, Step::Taken),
-    ToIl(0, 0, Step::Taken),
-    ToFe(1, 0, Step::Taken),
-    IlSends(201),
-    ToFe(2, 0, Step::Taken),
-    FeSends(202),
-    ToIl(1, 0, Step::Taken),
-    IlSends(203),
-    ToFe(3, 0, Step::Taken),
-    FeSends(204),
-    ToIl(2, 0, Step::Taken),
-    FeSends(205),
+/// One arrival at a server that is up is answered so, and these PDUs are made.
+fn arrives<A: Allocator>(
+    rt: &impl Abort,
+    seat: &mut Seat<A>,
+    heard: Heard,
+    now: u64,
+    step: Step,
+    pdus: &[Told],
+) {
+    assert_equal(rt, receive(seat, heard, now), step);
+    seat.made(rt, 1, pdus);
+}
+
+#[test]
+fn server_up_one_arrival(rt: HostRuntime) -> Result<(), Fail> {
+    let beat = from_peer(Kind::Heartbeat, 102, 500);
+    for (heard, now, step, pdus) in [
+        (
+            from_peer(Kind::Data, 302, 500),
+            0,
+            Step::Gap,
+            [(Kind::RetrReq.number(), 501, 101)].as_slice(),
+        ),
+        (
+            from_peer(Kind::Data, 303, 500),
+            0,
+            Step::Dropped(DropCause::Number),
+            [].as_slice(),
+        ),
+        (
+            from_peer(Kind::RetrData, 102, 500),
+            0,
+            Step::Left(Reason::UnexpectedPdu, Detail::Unspecified),
+            [(Kind::DiscReq.number(), 501, 101)].as_slice(),
+        ),
+        (
+            from_peer(Kind::Heartbeat, 102, 501),
+            0,
+            Step::Left(Reason::ProtocolError, Detail::ConfirmedNumber),
+            [(Kind::DiscReq.number(), 501, 101)].as_slice(),
+        ),
+        (
+            Heard { cts: 1, ..beat },
+            0,
+            Step::Left(Reason::ProtocolError, Detail::ConfirmedTimestamp),
+            [(Kind::DiscReq.number(), 501, 101)].as_slice(),
+        ),
+        (
+            Heard { sender: 9, ..beat },
+            0,
+            Step::Dropped(DropCause::Stranger),
+            [].as_slice(),
+        ),
+        (
+            beat,
+            1_800,
+            Step::Left(Reason::Timeout, Detail::Unspecified),
+            [(Kind::DiscReq.number(), 501, 101)].as_slice(),
+        ),
+        (beat, 1_799, Step::Taken, [].as_slice()),
+        (
+            from_peer(Kind::DiscReq, 900, 1),
+            0,
+            Step::Nothing,
+            [].as_slice(),
+        ),
+    ] {
+        arrives(&rt, &mut server(rt.alloc())?, heard, now, step, pdus);
+    }
+    Ok(())
+}
+
+/// A request for retransmission at a server that is up and sends two units, and the same once more, are answered so, and these PDUs
+/// are made.
+fn answers<A: Allocator>(
+    rt: &impl Abort,
+    seat: &mut Seat<A>,
+    request: Heard,
+    steps: (Step, Step),
+    pdus: &[Told],
+) {
+    let _ = seat.send(1);
+    let _ = seat.send(2);
+    assert_equal(rt, receive(seat, request, 0), steps.0);
+    assert_equal(rt, receive(seat, request, 0), steps.1);
+    seat.made(rt, 3, pdus);
+}
+
+/// How a request for all that was sent is answered, and how it is once more.
+const ANSWERED: (Step, Step) = (Step::Taken, Step::Dropped(DropCause::Number));
+
+/// RetrResp, both units as RetrData, and a heartbeat.
+const ANSWER: [Told; 4] = [
+    (6213, 503, 102),
+    (6241, 504, 102),
+    (6241, 505, 102),
+    (6220, 506, 102),
 ];
 
-/// Two ends.
-#[derive(Drop)]
-struct Ends<A: Allocator> {
-    il: Seat<A>,
-    fe: Seat<A>,
-}
-
-impl<A: Allocator + Copy> Ends<A> {
-    /// Two ends with these settings and first numbers.
-    fn open(
-        alloc: A,
-        client: MachineConfig,
-        server: MachineConfig,
-        il_first: u32,
-    ) -> Result<Self, MachineFault> {
-        let fe = Seat::open(alloc, server, Role::Server, 500)?;
-        let il = Seat::open(alloc, client, Role::Client, il_first)?;
-        Ok(Ends { il, fe })
+#[test]
+fn server_answers_requests(rt: HostRuntime) -> Result<(), Fail> {
+    let below = Step::Dropped(DropCause::Below);
+    for (sn, cs, steps, pdus) in [
+        (102, 500, ANSWERED, ANSWER.as_slice()),
+        (102, 499, (below, below), [].as_slice()),
+        (
+            102,
+            503,
+            (
+                Step::Left(Reason::RetransmissionImpossible, Detail::Unspecified),
+                Step::Nothing,
+            ),
+            [(Kind::DiscReq.number(), 503, 101)].as_slice(),
+        ),
+        (
+            105,
+            501,
+            (Step::Taken, Step::Dropped(DropCause::Answered)),
+            [
+                (Kind::RetrResp.number(), 503, 101),
+                (Kind::RetrData.number(), 504, 101),
+                (Kind::Heartbeat.number(), 505, 101),
+                (Kind::RetrReq.number(), 506, 101),
+            ]
+            .as_slice(),
+        ),
+    ] {
+        let request = from_peer(Kind::RetrReq, sn, cs);
+        answers(&rt, &mut server(rt.alloc())?, request, steps, pdus);
     }
-
-    /// Two ends that are up and have sent what an establishment sends.
-    fn establish(
-        rt: &impl Abort,
-        alloc: A,
-        client: MachineConfig,
-        server: MachineConfig,
-        il_first: u32,
-    ) -> Result<Self, MachineFault> {
-        let mut ends = Ends::open(alloc, client, server, il_first)?;
-        ends.play(rt, &ESTABLISHMENT);
-        ends.play(rt, &[ToIl(3, 0, Step::Taken)]);
-        Ok(ends)
-    }
-}
-
-impl<A: Allocator> Ends<A> {
-    fn play(&mut self, rt: &impl Abort, all: &[Happens]) {
-        for happens in all {
-            self.plays(rt, *happens);
-        }
-    }
-
-    fn plays(&mut self, rt: &impl Abort, happens: Happens) {
-        match happens {
-            IlSends(last) => assert_true(rt, self.il.send(last).is_ok()),
-            FeSends(last) => assert_true(rt, self.fe.send(last).is_ok()),
-            FeTicks(now) => self.fe.tick(now),
-            ToFe(place, now, answer) => {
-                assert_equal(rt, self.fe.receive_from(&self.il.made, place, now), answer);
-            }
-            ToIl(place, now, answer) => {
-                assert_equal(rt, self.il.receive_from(&self.fe.made, place, now), answer);
-            }
-        }
-    }
-
-    fn are(&self, rt: &impl Abort, il: ConnectionState, fe: ConnectionState) {
-        self.il.is(rt, il);
-        self.fe.is(rt, fe);
-    }
+    Ok(())
 }
 
 // Opening answers Memory until there is room; after it nothing more is taken, through a retransmission.
@@ -272,10 +306,11 @@ fn opening_takes_the_only_memory(rt: HostRuntime) -> Result<(), Fail> {
     let mut refused = false;
     for step in 0..128usize {
         let heap = LocalHeap::new(rt.alloc(), 1024 * step)?;
-        match Ends::establish(&rt, &heap, CLIENT, SERVER, 100) {
-            Ok(mut ends) => {
+        match server(&heap) {
+            Ok(mut seat) => {
                 let used = heap.used();
-                retransmits(&rt, &mut ends);
+                let request = from_peer(Kind::RetrReq, 102, 500);
+                answers(&rt, &mut seat, request, ANSWERED, &ANSWER);
                 assert_equal(&rt, heap.used(), used);
                 assert_true(&rt, refused);
                 return Ok(());
@@ -285,81 +320,4 @@ fn opening_takes_the_only_memory(rt: HostRuntime) -> Result<(), Fail> {
         }
     }
     Err("no heap was great enough".into())
-}
-
-/// A unit is lost, asked for, and sent again.
-fn retransmits<A: Allocator>(rt: &impl Abort, ends: &mut Ends<A>) {
-    ends.play(
-        rt,
-        &[
-            IlSends(0),
-            IlSends(1),
-            ToFe(5, 50, Step::Gap),
-            ToIl(4, 50, Step::Taken),
-            ToFe(6, 50, Step::Taken),
-            ToFe(7, 50, Step::Taken),
-            ToFe(8, 50, Step::Taken),
-            ToFe(9, 50, Step::Taken),
-        ],
-    );
-    ends.fe.took(rt, &[201, 203, 0, 1]);
-}
-
-#[test]
-fn refuses_bad_settings(rt: HostRuntime) -> Result<(), Fail> {
-    for config in [
-        MachineConfig { peer: 2, ..SERVER },
-        MachineConfig {
-            n_sendmax: 0,
-            ..SERVER
-        },
-        MachineConfig {
-            n_sendmax: 33,
-            ..SERVER
-        },
-        MachineConfig {
-            t_max: 99,
-            t_h: 10,
-            ..SERVER
-        },
-        MachineConfig {
-            t_max: 60_001,
-            ..SERVER
-        },
-        MachineConfig { t_h: 9, ..SERVER },
-        MachineConfig {
-            t_h: 1_800,
-            ..SERVER
-        },
-        MachineConfig { mwa: 0, ..SERVER },
-        MachineConfig { mwa: 17, ..SERVER },
-        MachineConfig {
-            pdu_limit: 99,
-            ..SERVER
-        },
-        MachineConfig {
-            pdu_limit: 4_294_901_761,
-            ..SERVER
-        },
-        MachineConfig {
-            rule: CodeRule {
-                length: CodeLength::Zero,
-                initial_value: [1, 2, 3, 4],
-            },
-            ..SERVER
-        },
-    ] {
-        assert_true(&rt, refused(rt.alloc(), config));
-    }
-    Ok(())
-}
-
-/// Whether settings are refused, and nothing is made of them.
-fn refused<A: Allocator>(alloc: A, config: MachineConfig) -> bool {
-    let mut made = Wire {
-        octets: ArrayVec::new(),
-        told: ArrayVec::new(),
-    };
-    let opened = Machine::open(alloc, config, Role::Client, 0, 0, &mut made);
-    matches!(opened, Err(MachineFault::BadConfig)) && made.told.is_empty()
 }

@@ -1,5 +1,5 @@
-use crate::assertions::{assert_equal, assert_equal_at, assert_true, assert_true_at};
-use safe_pdu::{CodeLength, CodeRule, Kind, SafeFault, SafePdu, decode, encode, read_back};
+use crate::assertions::{assert_equal_at, assert_true, assert_true_at};
+use safe_pdu::{CodeLength, CodeRule, Kind, SafeFault, decode, encode};
 use std::test::Fail;
 
 const OWN_VALUE: [u32; 4] = [1, 2, 3, 4];
@@ -164,31 +164,6 @@ fn names_the_first_fault(rt: HostRuntime) -> Result<(), Fail> {
             text,
             decode(octets.as_slice(), &rule(length, plain)),
             Err(fault),
-        );
-    }
-    Ok(())
-}
-
-// The greatest body, written and read again under each length of code.
-#[test]
-fn takes_the_greatest_body(rt: HostRuntime) -> Result<(), Fail> {
-    let body = [7u8; 1_206];
-    let pdu = SafePdu {
-        kind: Kind::Data,
-        receiver: 2,
-        sender: 1,
-        sn: u32::MAX,
-        cs: 1,
-        ts: 2,
-        cts: 3,
-        body: &body,
-    };
-    for length in [CodeLength::Zero, CodeLength::Eight, CodeLength::Sixteen] {
-        let mut buffer = [0u8; 1_250];
-        assert_equal(
-            &rt,
-            read_back(&pdu, &rule(length, OWN_VALUE), &mut buffer),
-            Ok(pdu),
         );
     }
     Ok(())

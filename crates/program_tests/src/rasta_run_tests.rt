@@ -119,59 +119,38 @@ fn stopped(octets: &[u8]) -> Chain<&[u8], Broken> {
     Read::chain(octets, broken)
 }
 
-// If a capture can't be read to its end, `follow` prints what it read, and then a fault of the file.
+// If a capture can't be read to its end, `follow` prints what it read, and then a fault of the file, also if a recording breaks off between two
+// frames. Want of memory is no fault of the file.
 #[test]
 fn tells_what_stops_a_capture(rt: HostRuntime) {
     let mut out = Vec::new(rt.alloc());
     follows(&rt, stopped(HEARTBEAT), &mut out, Status::Refused, NO_FILE);
     let said = "0.000000 line 1 1->2 ch 1 red 0 HB sn 101 cs 500 ts 10 cts 5\n";
     assert_equal(&rt, out.as_slice(), said.as_bytes());
-}
-
-// A recording that can't be read to its end is a fault of the file too, though it breaks off between two frames.
-#[test]
-fn tells_what_stops_a_recording(rt: HostRuntime) {
-    let mut out = Vec::new(rt.alloc());
+    out.clear();
     follows(&rt, stopped(&RECORDING), &mut out, Status::Refused, NO_FILE);
-    assert_true(&rt, out.is_empty());
-}
-
-// Want of memory while a capture is read is no fault of its file.
-#[test]
-fn tells_want_of_memory_in_reading(rt: HostRuntime) {
-    let mut out = Vec::new(rt.alloc());
     let reader = Broken {
         kind: ErrorKind::OutOfMemory,
     };
     follows(&rt, reader, &mut out, Status::Refused, "fault: memory\n");
+    assert_true(&rt, out.is_empty());
 }
 
-// If the output fails, `follow` fails, also after the last line, and if it prints only the sums of an empty capture.
+// If the output fails, `follow` fails: in mid-capture, after the last line, and if it prints only the sums of an empty capture. An output that
+// its reader has closed is no fault: that reader has what it wanted.
 #[test]
-fn tells_an_output_that_fails(rt: HostRuntime) {
-    for lines in [EMPTY_DATAGRAM, b""] {
-        follows(&rt, lines, &mut Broken::new(), Status::Failed, NO_OUTPUT);
-    }
-}
-
-// An output that its reader has closed is no fault: that reader has what it wanted.
-#[test]
-fn ends_done_if_nobody_reads(rt: HostRuntime) {
-    let mut unread = Broken {
-        kind: ErrorKind::BrokenPipe,
-    };
-    follows(&rt, EMPTY_DATAGRAM, &mut unread, Status::Done, "");
-}
-
-// If the output fails before the end of a long capture, `follow` fails too.
-#[test]
-fn tells_an_output_that_fails_in_mid_capture(rt: HostRuntime) -> Result<(), Fail> {
+fn tells_an_output_that_fails(rt: HostRuntime) -> Result<(), Fail> {
     let mut lines = Vec::new(rt.alloc());
     for _ in 0..400 {
         lines.extend_from_slice(EMPTY_DATAGRAM)?;
     }
-    let lines = lines.as_slice();
-    follows(&rt, lines, &mut Broken::new(), Status::Failed, NO_OUTPUT);
+    for lines in [lines.as_slice(), EMPTY_DATAGRAM, b""] {
+        follows(&rt, lines, &mut Broken::new(), Status::Failed, NO_OUTPUT);
+    }
+    let mut unread = Broken {
+        kind: ErrorKind::BrokenPipe,
+    };
+    follows(&rt, EMPTY_DATAGRAM, &mut unread, Status::Done, "");
     Ok(())
 }
 
