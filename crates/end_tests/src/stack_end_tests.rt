@@ -394,21 +394,41 @@ fn goes_on_in_a_full_heap(rt: HostRuntime) -> Result<(), Fail> {
         ..GOOD
     };
     let whole = run(&rt, mishap)?;
-    let mut refused = false;
     for step in 0..200 {
         let heap = LocalHeap::new(rt.alloc(), step * 1024)?;
-        match Line::open(&rt, &heap, &mishap) {
-            Some(mut line) => {
-                let _all = take_all(&rt, &heap)?;
-                let used = heap.used();
-                line.play(&mishap)?;
-                is_as(&rt, step, &line.course(&rt)?, &whole);
-                assert_equal(&rt, heap.used(), used);
-                assert_true(&rt, refused);
-                return Ok(());
-            }
-            None => refused = true,
+        if let Some(course) = run_in(&rt, &heap, &mishap)? {
+            assert_true(&rt, step > 0);
+            is_as(&rt, step, &course, &whole);
+            return Ok(());
         }
     }
     Err(Fail::from("no heap is large enough"))
+}
+
+/// How a session goes in a heap that refuses all after the opening; None if the opening is refused.
+fn run_in(
+    rt: &(impl AllocGlobal + Abort),
+    heap: &LocalHeap,
+    mishap: &Mishap,
+) -> Result<Option<Course>, Fail> {
+    match Line::open(rt, heap, mishap) {
+        Some(mut line) => {
+            let _all = take_all(rt, heap)?;
+            Ok(Some(play_in(rt, heap, &mut line, mishap)?))
+        }
+        None => Ok(None),
+    }
+}
+
+/// Nothing is taken from the heap, and nothing is given back.
+fn play_in(
+    rt: &(impl AllocGlobal + Abort),
+    heap: &LocalHeap,
+    line: &mut Line<&LocalHeap>,
+    mishap: &Mishap,
+) -> Result<Course, Fail> {
+    let used = heap.used();
+    line.play(mishap)?;
+    assert_equal(rt, heap.used(), used);
+    line.course(rt)
 }

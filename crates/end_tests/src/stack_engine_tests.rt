@@ -66,6 +66,11 @@ fn keep(
     Ok(())
 }
 
+/// How many events happen: `Pair::run` without its long contract, which no test needs.
+fn run(pair: &mut Pair, events: &[Event<'_>]) -> Option<usize> {
+    pair.run(events).ok()
+}
+
 impl World {
     /// The field element is ticked before it is opened; then both ends are opened.
     fn open(rt: &impl AllocGlobal) -> Result<World, Fail> {
@@ -77,7 +82,7 @@ impl World {
             event(FE, 0, opening(&fe, 500)),
             event(IL, 0, opening(&il, 100)),
         ];
-        if pair.run(&events) != Ok(2) {
+        if run(&mut pair, &events) != Some(2) {
             return Err("two of three events".into());
         }
         let mut world = World {
@@ -96,7 +101,7 @@ impl World {
 
     /// An event happens.
     fn happens(&mut self, alloc: Global, event: Event<'_>) -> Result<(), Fail> {
-        if self.pair.run(&[event]) != Ok(1) {
+        if run(&mut self.pair, &[event]) != Some(1) {
             return Err("refused".into());
         }
         self.keep(alloc, event.side)
@@ -185,11 +190,14 @@ Redundancy(Some(6), Old)
 // and again on the second.
 #[test]
 fn sets_up_a_session(rt: HostRuntime) -> Result<(), Fail> {
-    let mut world = World::open(&rt)?;
+    repeats(&rt, &mut World::open(&rt)?)
+}
+
+fn repeats(rt: &(impl AllocGlobal + Abort), world: &mut World) -> Result<(), Fail> {
     world.establish(rt.alloc(), &[&[0], &[1], &[2]])?;
     world.flow(rt.alloc(), 0, &[1, 2])?;
-    world.has_taken(&rt, 3)?;
-    assert_equal(&rt, str::from_utf8(world.lines.as_slice())?, REPEATS);
+    world.has_taken(rt, 3)?;
+    assert_equal(rt, str::from_utf8(world.lines.as_slice())?, REPEATS);
     Ok(())
 }
 
@@ -197,18 +205,21 @@ fn sets_up_a_session(rt: HostRuntime) -> Result<(), Fail> {
 // asked.
 #[test]
 fn settles_after_a_loss(rt: HostRuntime) -> Result<(), Fail> {
-    let mut world = World::open(&rt)?;
+    loses_a_unit(&rt, &mut World::open(&rt)?)
+}
+
+fn loses_a_unit(rt: &(impl AllocGlobal + Abort), world: &mut World) -> Result<(), Fail> {
     let alloc = rt.alloc();
     world.establish(alloc, &[&[0], &[1]])?;
     world.gone = world.gone.wrapping_add(1);
     world.next(alloc, 0, &[1])?;
     world.happens(alloc, event(FE, 50, TICK))?;
     world.flow(alloc, 50, &[1])?;
-    world.has_taken(&rt, 2)?;
+    world.has_taken(rt, 2)?;
     for (time, is_settled) in [(50, false), (349, false), (350, true)] {
         world.happens(alloc, event(FE, time, TICK))?;
         world.flow(alloc, time, &[1])?;
-        assert_equal_at(&rt, time, world.is_settled(IL), is_settled);
+        assert_equal_at(rt, time, world.is_settled(IL), is_settled);
     }
     Ok(())
 }

@@ -1,11 +1,12 @@
-//! The set-up of a session and telegrams in it, with every octet that is sent.
+//! The set-up of a session and telegrams in it, with every octet that is sent, and the tables of both ends.
 
-use crate::assertions::{assert_equal, assert_true};
+use crate::assertions::{assert_equal, assert_equal_at, assert_true};
 use arrayvec::ArrayVec;
 use pdi_session::packing::{WAITING_MAX, Waiting, pack, unpack};
-use pdi_session::telegram::{Name, NameFault, OwnedName, decode};
+use pdi_session::telegram::{Name, NameFault, OwnedName, Telegram, decode};
 use pdi_session::{
-    FieldConfig, InterlockingConfig, Parties, Phase, PutFault, Session, Taker, are_versions,
+    FieldConfig, InterlockingConfig, Parties, Phase, PutFault, Session, SessionDetail, Taker,
+    are_versions,
 };
 use std::process::Abort;
 use std::test::Fail;
@@ -135,16 +136,21 @@ fn carries(
     Ok(())
 }
 
-// The opening of two sessions, with the phases of each step and every octet that is sent. The field
-// element takes version 3 although its list begins with 4.
-#[test]
-fn opens_two_sessions(rt: HostRuntime) -> Result<(), Fail> {
+// An interlocking of version 3.
+fn interlocking(rt: &HostRuntime) -> Result<Seat, Fail> {
     let parties = parties("IL1", "FE1")?;
     let config = InterlockingConfig {
         parties,
         version: 3,
     };
-    let mut il = of_session(&rt, Session::interlocking(config))?;
+    of_session(rt, Session::interlocking(config))
+}
+
+// The opening of two sessions, with the phases of each step and every octet that is sent. The field
+// element takes version 3 although its list begins with 4.
+#[test]
+fn opens_two_sessions(rt: HostRuntime) -> Result<(), Fail> {
+    let mut il = interlocking(&rt)?;
     let mut fe = field(&rt)?;
     sets_up(&rt, &mut il, &mut fe)?;
     takes_telegrams(&rt, &mut il, &mut fe)
@@ -190,5 +196,143 @@ fn takes_telegrams(rt: &impl Abort, il: &mut Seat, fe: &mut Seat) -> Result<(), 
     assert_true(rt, il.log.octets.as_slice() == [1, 2].as_slice());
     assert_true(rt, fe.log.kinds.as_slice() == [0x0100].as_slice());
     assert_true(rt, fe.log.octets.as_slice() == [0x0a].as_slice());
+    Ok(())
+}
+
+// Telegrams of each form, and telegrams that nearly have it: the type and the payload in hex digits.
+const TELEGRAMS: &str =
+    "24:03 24:05 24: 24:0300 25:020300 25:02030109 25:020400 25:010300 25:030300 25:0203 25:020301 25:02030009 \
+21: 21:00 22: 22:00 23: 23:00 0100:0a 2400:";
+
+// The ways to each phase of an interlocking, and of a field element.
+const INTERLOCKING_WAYS: &str = "\
+idle
+up
+up 25:020300
+up 25:020300 22:
+up 25:020300 22: 23:
+up end
+";
+
+const FIELD_WAYS: &str = "\
+idle
+up
+up 24:03
+up 24:05
+up 24:03 21:
+up 24:03 21: done
+up end
+";
+
+// The tables of docs/protocol.md: a phase, a telegram, the next phase, what the session answers, how many messages it sends and how many
+// telegrams it takes.
+const INTERLOCKING_TABLE: &str = "\
+Checking 25:020300 Requesting None 1 0
+Checking 25:02030109 Requesting None 1 0
+Checking 25:010300 Ended Some(VersionDiffers) 0 0
+Requesting 22: Initialising None 0 0
+Initialising 0100:0a Initialising None 0 1
+Initialising 2400: Initialising None 0 1
+Initialising 23: Established None 0 0
+Established 0100:0a Established None 0 1
+Established 2400: Established None 0 1
+";
+
+const FIELD_TABLE: &str = "\
+AwaitCheck 24:03 AwaitRequest None 1 0
+AwaitCheck 24:05 Refused None 1 0
+AwaitRequest 21: Initialising None 1 0
+Established 0100:0a Established None 0 1
+Established 2400: Established None 0 1
+";
+
+impl Seat {
+    // A telegram of the peer comes: its type and its payload.
+    fn receive(
+        &mut self,
+        rt: &HostRuntime,
+        names: [&str; 2],
+        telegram: &str,
+    ) -> Result<Option<SessionDetail>, Fail> {
+        let (kind, payload) = telegram.split_once(':').ok_or("no type")?;
+        let payload = hex::decode(rt.alloc(), payload)?;
+        let telegram = Telegram {
+            protocol: 1,
+            kind: u16::from_str_radix(kind, 16)?,
+            sender: Name::new(names[0])?,
+            receiver: Name::new(names[1])?,
+            payload: payload.as_slice(),
+        };
+        if self.waiting.len() >= WAITING_MAX {
+            return Err(Fail::from("no room"));
+        }
+        let answer = self
+            .session
+            .arrive(&telegram, &mut self.waiting, &mut self.log);
+        Ok(answer.err().map(|end| end.detail))
+    }
+
+    // Goes a way to a phase.
+    fn go(&mut self, rt: &HostRuntime, names: [&str; 2], way: &str) -> Result<(), Fail> {
+        for word in way.split(' ') {
+            match word {
+                "idle" => {}
+                "up" => {
+                    self.up().ok_or("no room")?;
+                }
+                "done" => {
+                    self.done().ok_or("not initialising")?;
+                }
+                "end" => self.session.end(),
+                telegram => {
+                    self.receive(rt, names, telegram)?;
+                }
+            }
+        }
+        Ok(())
+    }
+
+    // What a telegram does is what its row says; without a row it ends the session.
+    fn does(
+        &mut self,
+        rt: &HostRuntime,
+        names: [&str; 2],
+        telegram: &str,
+        table: &str,
+    ) -> Result<(String, String), Fail> {
+        let (phase, before) = (self.session.phase(), self.waiting.len());
+        let front = format!(in rt.alloc(); "{phase:?} {telegram} ")?;
+        let answer = self.receive(rt, names, telegram)?;
+        let after = self.session.phase();
+        let sent = self.waiting.len().wrapping_sub(before);
+        let taken = self.log.kinds.len();
+        let found = format!(in rt.alloc(); "{front}{after:?} {answer:?} {sent} {taken}")?;
+        for row in table.lines() {
+            if row.starts_with(front.as_str()) {
+                return Ok((found, String::from_str(rt.alloc(), row)?));
+            }
+        }
+        let wanted = format!(in rt.alloc(); "{front}Ended Some(OutOfOrder) 0 0")?;
+        Ok((found, wanted))
+    }
+}
+
+// Each telegram in each phase of either end.
+#[test]
+fn makes_the_tables(rt: HostRuntime) -> Result<(), Fail> {
+    for telegram in TELEGRAMS.split(' ') {
+        for way in INTERLOCKING_WAYS.lines() {
+            let mut il = interlocking(&rt)?;
+            il.go(&rt, ["FE1", "IL1"], way)?;
+            let (found, wanted) = il.does(&rt, ["FE1", "IL1"], telegram, INTERLOCKING_TABLE)?;
+            assert_equal_at(&rt, way, found.as_str(), wanted.as_str());
+        }
+        for way in FIELD_WAYS.lines() {
+            let mut fe = field(&rt)?;
+            fe.go(&rt, ["IL1", "FE1"], way)?;
+            let (found, wanted) = fe.does(&rt, ["IL1", "FE1"], telegram, FIELD_TABLE)?;
+            assert_equal_at(&rt, way, found.as_str(), wanted.as_str());
+        }
+    }
     Ok(())
 }
