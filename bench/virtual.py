@@ -38,10 +38,12 @@ def quick_digest(initial_value, octets):
 class Network:
     """What happens to a datagram on a channel. `delays` has for each channel the milliseconds that every datagram takes. In addition a share
     of datagrams is lost, comes again later, comes later, or changes places with the next one of its channel and direction; later is up to
-    `jitter` milliseconds. The first `spared` datagrams of each channel and direction are only delayed."""
+    `jitter` milliseconds. `damaged` has for each channel the share of datagrams that come with one bit changed. The first `spared` datagrams of
+    each channel and direction are only delayed."""
 
-    def __init__(self, delays, loss=0.0, repeated=0.0, later=0.0, swapped=0.0, jitter=0.0, spared=6):
+    def __init__(self, delays, loss=0.0, repeated=0.0, later=0.0, swapped=0.0, jitter=0.0, spared=6, damaged=()):
         self.delays, self.jitter, self.spared = delays, jitter, spared
+        self.damaged = damaged or [0] * len(delays)
         self.lost, self.repeated = loss, loss + repeated
         self.later = self.repeated + later
         self.swapped = self.later + swapped
@@ -50,8 +52,8 @@ class Network:
 class Direction:
     """One direction of one channel."""
 
-    def __init__(self, network, delay, rng):
-        self.network, self.delay, self.rng = network, round(delay * MS), rng
+    def __init__(self, network, channel, rng):
+        self.network, self.delay, self.damaged, self.rng = network, round(network.delays[channel] * MS), network.damaged[channel], rng
         self.spared, self.held = network.spared, None
 
     def carries(self, octets, now):
@@ -75,7 +77,14 @@ class Direction:
         if self.held is not None:
             arrivals.append((came + 1, self.held))
             self.held = None
-        return arrivals
+        return [(when, self.hit(copy)) for when, copy in arrivals] if self.damaged else arrivals
+
+    def hit(self, octets):
+        """Returns a datagram as it comes: a share of them has one bit changed."""
+        if self.rng.random() >= self.damaged:
+            return octets
+        place, bit = divmod(self.rng.randrange(8 * len(octets)), 8)
+        return octets[:place] + bytes([octets[place] ^ 1 << bit]) + octets[place + 1:]
 
     def longer(self):
         return round(self.rng.random() * self.network.jitter * MS)
@@ -101,7 +110,7 @@ class Run:
     def __init__(self, settings, network, load, seed):
         self.load, self.rng = load, random.Random(seed)
         self.pair, self.now, self.queue, self.count = Pair(), 0, [], 0
-        self.ways = {side: [Direction(network, delay, self.rng) for delay in network.delays] for side in KINDS}
+        self.ways = {side: [Direction(network, channel, self.rng) for channel in range(len(network.delays))] for side in KINDS}
         self.sent = {side: 0 for side in KINDS}  # how many PDUs were sent
         self.wished = {side: [] for side in KINDS}  # when the application wanted to put each of its telegrams
         self.up = {side: set() for side in KINDS}  # the parts that went up
