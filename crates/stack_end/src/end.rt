@@ -142,8 +142,8 @@ impl<C: Channels, A: Allocator> End<C, A> {
         // After `arrive`, no message waits that the safety machine could send.
         ensures packs { can_pack (inside self.new).upper ≡ false }
         // The parts that the datagram releases go up one at a time, and the taker receives what the session
-        // accepts from each. If a part changes the taker, its PDU's confirmed timestamp, as this end reads it,
-        // is less than T_max old.
+        // accepts from each. If that is anything, the confirmed timestamp of the part's PDU, as this end reads
+        // it, is less than T_max old.
         ensures recent { DatagramRecent T.takes now octets.now (inside self.old) taker.old taker.new }
         // If the end is open, and neither T_max nor the PDU limit closes it first, the redundancy layer
         // processes the datagram, whatever its channel.
@@ -177,7 +177,7 @@ impl<C: Channels, A: Allocator> End<C, A> {
         // After `tick`, no message waits that the safety machine could send.
         ensures packs { can_pack (inside self.new).upper ≡ false }
         // Deferred parts that `tick` releases go up one at a time, and the taker receives what the session
-        // accepts from each. If such a part changes the taker, its PDU's confirmed timestamp, as this end reads
+        // accepts from each. If that is anything, the confirmed timestamp of the part's PDU, as this end reads
         // it, is less than T_max old.
         ensures recent { TickRecent T.takes now (inside self.old) taker.old taker.new }
         // `tick` sets the end's time to `now`.
