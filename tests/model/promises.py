@@ -121,7 +121,7 @@ def nothing_lost(pair):
     if il is None or fe is None or not (has_all(il, fe) and has_all(fe, il)):
         return None
     for end, peer in ((il, fe), (fe, il)):
-        if not end.is_shut() and end.session.waiting and len(end.machine.unconfirmed()) < end.machine.window:
+        if end.session.waiting and len(end.machine.unconfirmed()) < end.machine.window:
             return 'nothing lost, waits: a message waits at %s, and its window is not full' % end.side
         there = peer.session.taken + items_of(end.session.waiting)
         if end.session.put_in != there:

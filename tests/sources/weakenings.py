@@ -20,6 +20,8 @@ WEAKENED = {
     'match_that_none_has': (
         'Faithful', '  pub fe_name : fe.settings.addressing.own ≡ il.settings.addressing.peer\n',
         '  pub fe_name : fe.settings.addressing.own ≡ il.settings.addressing.peer\n  pub none : ⊥\n', 'LossInstances'),
+    'closed_ends_keep_anything': (
+        'Faithful', 'KeepsNothing x = is_shut x ≡ true → x.session.waiting ≡ []', 'KeepsNothing x = Unit {0}', 'LossInstances'),
     'headline_over_ends_opened_once': ('Headline', FILED, FILED + 'length (run es start).ils ≤ 1 → ', 'GenuineRow'),
     'headline_promised_of_faithful_lists': ('Promises', 'pub headline : Genuine es start → ', 'pub headline : Faithful es → ', 'GenuineRow'),
 }
@@ -61,6 +63,9 @@ TOLD_TWICE = {
         'Losses', ('matches',)),
     'in_step_only_once_established': (
         'Faithful', {f'(({ESTABLISHED}false) × {BOTH_INITIALISE})': f'({ESTABLISHED}false)'}, 'Losses', ('one-phase', 'in-step')),
+    'headline_promised_of_a_thousand_events': (
+        'Promises', {'pub headline : Genuine es start → ': 'pub headline : nat_le (length es) 1000 ≡ true → Genuine es start → '},
+        'Promised', ('genuine-promises', 'promises-genuine')),
     'faithful_of_short_parts': (
         'Faithful', {'AllByRecursion (CarriesPdu peer) (arrivals_of (Datagram octets now))':
                      'AllByRecursion (λ (p : Part). CarriesPdu peer p × (length p.1 ≤ 200)) (arrivals_of (Datagram octets now))'},

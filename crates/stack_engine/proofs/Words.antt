@@ -485,9 +485,12 @@ pub use Rattle.stack_engine.specs.LossInstances.{
   early,
   fe_with,
   il_with,
+  keeping,
   lost_course,
+  one_message,
   plain,
   not_up,
+  stranger_with,
   waiting_course,
 }
 pub use Rattle.stack_engine.specs.Openings.{

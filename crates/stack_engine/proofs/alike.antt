@@ -10,3 +10,4 @@ pub mod Freshes
 pub mod Losses
 pub mod Nears
 pub mod Faithfuls
+pub mod Promised

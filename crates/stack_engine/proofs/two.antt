@@ -2,4 +2,5 @@
 pub mod Machines
 pub mod Worlds
 pub mod JointSessions
+pub mod AllJudged
 pub mod PairPromises

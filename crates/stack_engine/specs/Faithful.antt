@@ -120,18 +120,25 @@ InStep il fe =
     ⊎ ((was_established fe.session.history.phases ≡ true) × (phase_in il.session ≡ Established)
     × (phase_in fe.session ≡ Established))
 
--- an open interlocking lets a message wait only while its window is full; a closed one sends nothing, so what waited
--- stays
+-- the interlocking, open or closed, lets a message wait only while its window is full
 abbrev pub IlWaits : EndState → EndState → Type 0
-IlWaits il fe = is_shut il ≡ false → WaitsForWindow il
+IlWaits il fe = WaitsForWindow il
 
--- an open field element lets a message wait only while its window is full
+-- the field element, open or closed, lets a message wait only while its window is full
 abbrev pub FeWaits : EndState → EndState → Type 0
-FeWaits il fe = is_shut fe ≡ false → WaitsForWindow fe
+FeWaits il fe = WaitsForWindow fe
 
--- at a closed end no command or status waits
+-- at a closed end no message waits
 abbrev pub KeepsNothing : EndState → Type 0
-KeepsNothing x = is_shut x ≡ true → items_waiting x ≡ []
+KeepsNothing x = is_shut x ≡ true → x.session.waiting ≡ []
+
+-- at a closed interlocking no message waits
+abbrev pub IlKeeps : EndState → EndState → Type 0
+IlKeeps il fe = KeepsNothing il
+
+-- at a closed field element no message waits
+abbrev pub FeKeeps : EndState → EndState → Type 0
+FeKeeps il fe = KeepsNothing fe
 
 -- the commands put are those taken, then those that wait
 abbrev pub CommandsThere : EndState → EndState → Type 0
@@ -157,8 +164,8 @@ StayInStep il fe = Match il fe → il.session.waiting ≡ [] → fe.session.wait
 pub record AllThere (il fe : EndState) : Type 0 where
   pub il_waits : IlWaits il fe  -- the interlocking lets messages wait only for the window
   pub fe_waits : FeWaits il fe  -- so does the field element
-  pub il_keeps : KeepsNothing il  -- closed, the interlocking keeps nothing
-  pub fe_keeps : KeepsNothing fe  -- nor does the field element
+  pub il_keeps : IlKeeps il fe  -- closed, the interlocking keeps no message
+  pub fe_keeps : FeKeeps il fe  -- nor does the field element
   pub commands : CommandsThere il fe  -- commands put were taken or wait
   pub status : StatusThere il fe  -- status put was taken or waits
   pub il_up : IlUp il fe  -- the interlocking is Up, if the settings match

@@ -28,6 +28,7 @@ pub mod Joins
 pub mod Reports
 pub mod PairValue
 pub mod Promises
+pub mod PromisesByPlace
 pub mod RefusalName
 pub mod Instances
 pub mod LossInstances

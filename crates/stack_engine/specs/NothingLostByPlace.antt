@@ -34,9 +34,9 @@ pub record WasTakenOrWaits (x other : EndState) : Type 0 where
       → slice_get (items_among x.session.waiting) n
       ≡ slice_get x.session.history.put (length other.session.history.taken + n)
 
--- a message waits at an open end only while as many units are open there as its window has
+-- a message waits only while as many units are open as the window has
 abbrev pub WaitsForRoom : EndState → Type 0
-WaitsForRoom x = x.machine.connection ≢ Closed → x.session.waiting ≢ [] → x.machine.window ≤ length (open_units x)
+WaitsForRoom x = x.session.waiting ≢ [] → x.machine.window ≤ length (open_units x)
 
 -- the peer in the settings of one end is the other
 pub record Knows (x other : EndSettings) : Type 0 where
@@ -76,10 +76,10 @@ pub record IsAllThere (il fe : EndState) : Type 0 where
   pub il_waits : WaitsForRoom il
   -- so does the field element
   pub fe_waits : WaitsForRoom fe
-  -- closed, the interlocking keeps nothing
-  pub il_keeps : il.machine.connection ≡ Closed → items_among il.session.waiting ≡ []
+  -- closed, the interlocking keeps no message
+  pub il_keeps : il.machine.connection ≡ Closed → length il.session.waiting ≡ 0
   -- nor does the field element
-  pub fe_keeps : fe.machine.connection ≡ Closed → items_among fe.session.waiting ≡ []
+  pub fe_keeps : fe.machine.connection ≡ Closed → length fe.session.waiting ≡ 0
   -- both are Up, if the settings match
   pub up : Fit il.settings fe.settings → (il.machine.connection ≡ Up) × (fe.machine.connection ≡ Up)
   -- both are in one phase, if no message waits

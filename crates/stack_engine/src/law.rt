@@ -12,6 +12,8 @@ ghost use Rattle.stack_engine.specs.NothingLostByPlace.{NothingLostByPlace, Noth
 ghost use Rattle.stack_engine.specs.Premise.{BreaksLaw, Genuine};
 ghost use Rattle.stack_engine.specs.PremiseByPlace.{FaithfulByPlace, GenuineByPlace};
 ghost use Rattle.stack_engine.specs.Premises.{Premises};
+ghost use Rattle.stack_engine.specs.Promises.{Promises};
+ghost use Rattle.stack_engine.specs.PromisesByPlace.{PromisesByPlace};
 ghost use Rattle.stack_engine.specs.Settled.{Certain, CertainLaw, ConfirmedTaken, ConfirmedTakenLaw, Settled, SettledLaw};
 ghost use Rattle.stack_engine.specs.SettledByPlace.{CertainByPlace, CertainByPlaceLaw, ConfirmedByPlace, ConfirmedByPlaceLaw, SettledByPlace, SettledByPlaceLaw};
 ghost use Rattle.std.specs.Prelude.{List, ◌↔◌};
@@ -52,8 +54,8 @@ pub fn pair_law()
 
     // After every faithful list of events, no retransmission was requested (`AsksNothing`). If also every PDU has
     // arrived at each open end: the telegrams put at one end are those that the other took and then those that wait
-    // (`AllThere`), and an open end lets a message wait only while its window is full; a closed end keeps no command
-    // or status. Ends with matching settings are Up, and if no message waits at either, they are in step.
+    // (`AllThere`). A message waits only while the window of its end is full, and at a closed end none waits. Ends
+    // with matching settings are Up, and if no message waits at either, they are in step.
     ensures nothing_lost { NothingLostLaw }
 
     // A call of an end in a pair makes at most 401 PDUs and takes at most 27 telegrams. Each PDU has at most 1,250
@@ -112,6 +114,9 @@ pub fn promises_law()
     // A list of events is faithful, stated event by event, if and only if it is faithful stated of each call and each
     // part by its index.
     ensures faithful { (es : List Event) → Faithful es ↔ FaithfulByPlace es }
+    // Over every list of events, all that a pair promises (`Promises`) holds if and only if the second form of each
+    // promise does, under the second form of its premise.
+    ensures promises { (es : List Event) → Promises es ↔ PromisesByPlace es }
     // The headline by places holds after every list of events that is genuine by place.
     ensures headline_by_place { HeadlineByPlaceLaw }
     // Freshness by indices holds over every list of events that is genuine by place.

@@ -127,15 +127,16 @@ same-there x y h =
     ∙ ap (λ is. taken_at y ++ is) (items-alike x.session.waiting)
 
 -- waiting for room
-waits-room : (x : EndState) → (is_shut x ≡ false → WaitsForWindow x) → WaitsForRoom x
-waits-room x h lives some =
-    subst (λ (us : List (List ℕ)). x.machine.window ≤ length us) (sym (open-unconfirmed x))
-    (h (closed-shut x.machine.connection lives) some)
+waits-room : (x : EndState) → WaitsForWindow x → WaitsForRoom x
+waits-room x h some =
+    subst (λ (us : List (List ℕ)). x.machine.window ≤ length us) (sym (open-unconfirmed x)) (h some)
 
-room-waits : (x : EndState) → WaitsForRoom x → is_shut x ≡ false → WaitsForWindow x
-room-waits x h lives some =
-    subst (λ (us : List (List ℕ)). x.machine.window ≤ length us) (open-unconfirmed x)
-    (h (shut-closed x.machine.connection lives) some)
+room-waits : (x : EndState) → WaitsForRoom x → WaitsForWindow x
+room-waits x h some = subst (λ (us : List (List ℕ)). x.machine.window ≤ length us) (open-unconfirmed x) (h some)
+
+no-length : (ms : List (List ℕ)) → length ms ≡ 0 → ms ≡ []
+no-length [] e = refl
+no-length (m ∷ ms) e = absurd (omega (arith, e))
 
 -- settings fit
 at-version : (v : ℕ) (vs : List ℕ) → list_any (λ u. u == v) vs ≡ true → (place : ℕ) × (slice_get vs place ≡ Some v)
@@ -236,8 +237,8 @@ all-there il fe a =
       status = there fe il a.status;
       il_waits = waits-room il a.il_waits;
       fe_waits = waits-room fe a.fe_waits;
-      il_keeps = λ shut. items-alike il.session.waiting ∙ a.il_keeps (ap is_closed shut);
-      fe_keeps = λ shut. items-alike fe.session.waiting ∙ a.fe_keeps (ap is_closed shut);
+      il_keeps = λ shut. ap length (a.il_keeps (ap is_closed shut));
+      fe_keeps = λ shut. ap length (a.fe_keeps (ap is_closed shut));
       up = λ f. (a.il_up (matches il fe f), a.fe_up (matches il fe f));
       phases = λ f e k. one-phase il fe (a.in_step (matches il fe f) e k);
     }
@@ -247,8 +248,8 @@ is-there il fe a =
     record {
       il_waits = room-waits il a.il_waits;
       fe_waits = room-waits fe a.fe_waits;
-      il_keeps = λ shut. sym (items-alike il.session.waiting) ∙ a.il_keeps (closed-of il.machine.connection shut);
-      fe_keeps = λ shut. sym (items-alike fe.session.waiting) ∙ a.fe_keeps (closed-of fe.machine.connection shut);
+      il_keeps = λ shut. no-length il.session.waiting (a.il_keeps (closed-of il.machine.connection shut));
+      fe_keeps = λ shut. no-length fe.session.waiting (a.fe_keeps (closed-of fe.machine.connection shut));
       commands = same-there il fe a.commands;
       status = same-there fe il a.status;
       il_up = λ m. (a.up (fits il fe m)).0;

@@ -11,7 +11,7 @@ use Rattle.stack_engine.proofs.Words.{SessionPair, JoinedEnd, judge_units, Keeps
 use Rattle.stack_engine.proofs.Words.{may_send, messages_in, Move, move, moved, nat_tests, new_end, None, NothingLostCrossedLaw, NothingLostLaw, OfBoth, Ok}
 use Rattle.stack_engine.proofs.Words.{Open, Option, OrderlyLaw, Pdu, Phase, phase_in, Put, put_at, RedTick, refl, refusal, Result, bring_up, rule_of, run}
 use Rattle.stack_engine.proofs.Words.{SafeFault, seen_by, server_state, session_of, session_refusal, Settings, Side, Some, start, State, StaysOpen}
-use Rattle.stack_engine.proofs.Words.{subst, suc, sym, taken_at, telegrams_in, Tick, Ticks, time_of, true, unconfirmed, units, UnitsThere, WaitsForWindow}
+use Rattle.stack_engine.proofs.Words.{found_telegram, length-append, subst, suc, sym, taken_at, Tele, tele_seen, TeleFault, telegrams_in, texts, Tick, Ticks, time_of, true, unconfirmed, units, UnitsThere, WaitsForWindow}
 use Rattle.stack_engine.proofs.Words.{with_machine, World, zero, ℕ, ⊎_elim, ◌++◌, ◌+◌, ◌<◌, ◌==◌, ◌∙◌, ◌∷◌, ◌≡◌, ◌≢◌, ◌≤◌, ◌⊎◌}
 use Rattle.stack_engine.proofs.Words.{guard_step, guarded-is, tick_step, ticked-is}
 use Rattle.stack_engine.proofs.faithful.Faithfuls.{AheadOf, back-run, bears, crossed-fe, crossed-il, Grown, grown-call, Known, not-empty, ord-run, ord-start}
@@ -19,12 +19,13 @@ use Rattle.stack_engine.proofs.faithful.Faithfuls.{OrdAt, OrdWorld, passed_count
 use Rattle.stack_engine.proofs.faithful.Order.{found, IsNth, length-first}
 use Rattle.stack_engine.proofs.one.Received.{AreGood, Begins, begins-keeps, closed-early, early-connected, early-stays, Fails, Heeds, idle-done, idle-put}
 use Rattle.stack_engine.proofs.one.Received.{IsEarly, IsGood, Machined, Whole}
-use Rattle.stack_engine.proofs.one.Sent.{all-parts, and-parts, call-keeps, call-packs-at, closed-is, Goes, handed-none, IsTypedCall, keep-goes_on}
+use Rattle.stack_engine.proofs.one.Sent.{all-parts, and-parts, call-keeps, came, call-packs-at, closed-is, Goes, handed-none, IsTypedCall, keep-goes_on}
 use Rattle.stack_engine.proofs.one.Sent.{keep-settle, Laws, nil-behind, nil-front, Packs, packs-some, PacksAt, Spoken}
+use Rattle.stack_engine.proofs.two.AllJudged.{all_judged}
 use Rattle.stack_engine.proofs.two.PairPromises.{checksum-short, early-by, good-sent, nil-is, not-closed}
 use Rattle.stack_engine.proofs.two.Machines.{both-call, Comes, genuine-heard, not-stranger, own-same, peer-same, TextsOf}
 use Rattle.stack_engine.proofs.two.JointSessions.{joint-new, JointEnds, law-now, Paired, paired-event, paired-run, paired-start, PairedWorld}
-use Rattle.stack_engine.proofs.two.Worlds.{AllWhole, at-call, items-append, machines_as, Mapped, MappedWorld, opens, queue-is, queue-put, served, states}
+use Rattle.stack_engine.proofs.two.Worlds.{AllWhole, at-call, begin-came, begin-then, items-append, machines_as, Mapped, MappedWorld, opens, queue-is, queue-put, served, states}
 use Rattle.stack_engine.proofs.two.Worlds.{texts-latest, typed-call, unless, unserved}
 use Rattle.safe_machine.specs.Law as L
 use Rattle.safe_machine.specs.World as M
@@ -211,15 +212,20 @@ begins-run : (p : Laws) (es : List Event) (w : World) → AreTyped es → Genuin
 begins-run p es w t g h =
     each-run Begins (λ side s first now fit. new-begins side s first now) (begins-call p) es w t g h
 
--- The sessions of the two ends are joint, and all that they took is well formed.
+-- The sessions of the two ends are joint, each took a prefix of what the other sent, and it is well formed.
 record Together (x y : EndState) : Type 0 where
   joint : JointEnds y.settings x y
+  il_took : IsBeginning x.machine.taken (units y.machine.made)
+  fe_took : IsBeginning y.machine.taken (units x.machine.made)
   il_good : AreGood x.machine.taken
   fe_good : AreGood y.machine.taken
 
 good-begins : (side : Side) (us : List (List ℕ)) (y : EndState) → Spoken side y → IsBeginning us (units y.machine.made)
     → AreGood us
 good-begins side us y sp b = (all-parts IsGood us b.0 (subst AreGood (sym b.1) (good-sent side y sp))).0
+
+none-begins : {X : Type 0} (a b : List X) → a ≡ [] → IsBeginning a b
+none-begins a b none = (b, ap (λ l. l ++ b) none)
 
 nobody : (number : ℕ) (x : EndState) (f : JoinedEnd) → f.joined ≡ None
     → (x.machine.taken ≡ []) ⊎ L.IsJoined number (served (f ∷ [])) → x.machine.taken ≡ []
@@ -236,6 +242,8 @@ together p x f di df q None free =
     let il-none : x.machine.taken ≡ [] = nobody 1 x f free law.only_joined.0 in
     record {
       joint = joint-new p.one_more x f.end h.il_whole.0.spoken h.fe_whole.0.spoken il-none fe-none;
+      il_took = none-begins x.machine.taken (units f.end.machine.made) il-none;
+      fe_took = none-begins f.end.machine.taken (units x.machine.made) fe-none;
       il_good = subst AreGood (sym il-none) tt;
       fe_good = subst AreGood (sym fe-none) tt;
     }
@@ -252,6 +260,8 @@ together p x f di df q (Some number) is =
     (number == 0 + 1)
     (λ _ j t. record {
       joint = j;
+      il_took = t.1;
+      fe_took = t.0;
       il_good = good-begins Fe x.machine.taken f.end h.fe_whole.0.spoken t.1;
       fe_good = good-begins Il f.end.machine.taken x
           h.il_whole.0.spoken t.0;
@@ -289,6 +299,66 @@ empty-by p x y sx sy t (inr fails) =
     let s = some-of y.session.history.ended_in (fails t.fe_good) in
     let early = (early-by p.phases x y (checksum-short Fe y.settings sy.fit) t.joint).1 s.0 s.1 in
     record { il = early.1; fe = own-put p Fe y sy s.0 s.1 early.0 }
+
+-- at most one telegram is read from each message
+few-read : (ms : List (List ℕ)) → length (telegrams_in ms) ≤ length ms
+few-read [] = omega arith
+few-read (m ∷ ms) =
+    let one = one-read (tele_seen m) in
+    let rest = few-read ms in
+    omega (arith, one, rest, length-append (found_telegram (tele_seen m)) (telegrams_in ms))
+  where
+    one-read : (seen : Result Tele TeleFault) → length (found_telegram seen) ≤ 1
+    one-read (Ok t) = omega arith
+    one-read (Err fault) = omega arith
+
+texts-length : (ts : List Tele) → length (texts ts) ≡ length ts
+texts-length [] = refl
+texts-length (t ∷ ts) = ap suc (texts-length ts)
+
+begins-short : {X : Type 0} (a b : List X) → IsBeginning a b → length a ≤ length b
+begins-short a b h = let all = ap length h.1 in omega (arith, all, length-append a h.0)
+
+none-left : (ms : List (List ℕ)) → length ms ≤ 0 → ms ≡ []
+none-left [] h = refl
+none-left (m ∷ ms) h = absurd (omega (arith, h))
+
+-- if the other has judged all of the queue, all of it was sent
+judged-sent : (side other : Side) (x y : EndState) → Spoken side x → Spoken other y
+    → IsBeginning y.machine.taken (units x.machine.made)
+    → y.session.history.judged ≡ x.session.history.queue → x.session.waiting ≡ []
+judged-sent side other x y sx sy took all =
+    let sent = messages_in (units x.machine.made) in
+    let judged = begins-short y.session.history.judged (telegrams_in sent)
+    (begin-then y.session.history.judged (came y.machine) (telegrams_in sent) sy.begins
+    (begin-came y.machine.taken (units x.machine.made) took)) in
+    let same = ap length all in
+    let queue = ap length sx.talk.queue in
+    none-left x.session.waiting (omega (
+      arith,
+      judged,
+      same,
+      queue,
+      few-read sent,
+      texts-length x.session.history.queue,
+      length-append sent x.session.waiting,
+    ))
+
+-- if a telegram ended one of them, no message waits at either
+record Drained (x y : EndState) : Type 0 where
+  il : x.session.waiting ≡ []
+  fe : y.session.waiting ≡ []
+
+drained-by : (p : Laws) (x y : EndState) → Spoken Il x → Spoken Fe y → Together x y → Fails x ⊎ Fails y → Drained x y
+drained-by p x y sx sy t fails =
+    let ended : (x.session.history.ended_in ≢ None) ⊎ (y.session.history.ended_in ≢ None) =
+    ⊎_elim (λ f. inl (f t.il_good)) (λ f. inr (f t.fe_good)) fails in
+    let all = subst (λ (h : SessionPair). (h.il.ended_in ≢ None) ⊎ (h.fe.ended_in ≢ None)
+    → (h.il.judged ≡ h.fe.queue) × (h.fe.judged ≡ h.il.queue)) t.joint.leads
+    (all_judged x.settings.addressing y.settings.addressing (first_version x.settings.versions) y.settings.versions
+    y.settings.checksum (checksum-short Fe y.settings sy.fit) t.joint.events t.joint.in_turn)
+    ended in
+    record { il = judged-sent Il Fe x y sx sy t.fe_took all.1; fe = judged-sent Fe Il y x sy sx t.il_took all.0 }
 
 -- ends that match do not fail
 fits-by : (x y : EndState) → Match x y → Fits x.settings.addressing (first_version x.settings.versions)
@@ -367,21 +437,26 @@ all-there p (x ∷ []) (f ∷ []) di df o a q k b = λ from-fe from-il.
     let units-there : o.closed ≡ false → UnitsThere x y = λ none. there p (x ∷ []) (f ∷ []) di df o a q k
     (from-fe (stays none).0)
     (from-il (stays none).1) (stays none).0 (stays none).1 in
-    let empty : (o.closed ≡ false → ⊥) → Empty x y = λ not.
-    by_test (λ c. o.closed ≡ c → Empty x y) o.closed (λ _ is. empty-by p x y sx sy t (o.fails is))
-    (λ _ is. absurd (not is)) refl
+    let drained : (o.closed ≡ false → ⊥) → Drained x y = λ not.
+    by_test (λ _. Drained x y) o.closed (λ is. drained-by p x y sx sy t (o.fails is)) (λ is. absurd (not is))
     in
+    let il-drained : is_shut x ≡ true → x.session.waiting ≡ [] = λ shut.
+    (drained (λ none. true-not-false (sym shut ∙ (stays none).0))).il in
+    let fe-drained : is_shut y ≡ true → y.session.waiting ≡ [] = λ shut.
+    (drained (λ none. true-not-false (sym shut ∙ (stays none).1))).fe in
     let kept : Match x y → o.closed ≡ false = λ m.
     by_test (λ c. o.closed ≡ c → c ≡ false) o.closed (λ _ is. absurd (match-stays p x y sy t b.1 m (o.fails is)))
     (λ _ _. refl) refl
     in
     record {
       il_waits =
-          λ on. client-waits x (passed_count (Some x)) (law.client (not-closed x.machine.connection on)) b.0 k.0.1;
+          by_test (λ _. WaitsForWindow x) (is_shut x) (λ shut some. absurd (some (il-drained shut)))
+          (λ on. client-waits x (passed_count (Some x)) (law.client (not-closed x.machine.connection on)) b.0 k.0.1);
       fe_waits =
-          λ on. server-waits y (passed_count (Some y)) (law.server (not-closed y.machine.connection on)) b.1 k.1.1;
-      il_keeps = λ shut. nothing-waits p Il x sx (empty (λ none. true-not-false (sym shut ∙ (stays none).0))).il;
-      fe_keeps = λ shut. nothing-waits p Fe y sy (empty (λ none. true-not-false (sym shut ∙ (stays none).1))).fe;
+          by_test (λ _. WaitsForWindow y) (is_shut y) (λ shut some. absurd (some (fe-drained shut)))
+          (λ on. server-waits y (passed_count (Some y)) (law.server (not-closed y.machine.connection on)) b.1 k.1.1);
+      il_keeps = il-drained;
+      fe_keeps = fe-drained;
       commands =
           by_test (λ c. o.closed ≡ c → put_at x ≡ taken_at y ++ items_waiting x) o.closed
           (λ _ is.
@@ -742,10 +817,10 @@ calm-there None fe u a b = tt
 calm-there (Some x) None u a b = tt
 calm-there (Some x) (Some y) u a b = λ from-fe from-il.
     record {
-      il_waits = λ on some. absurd (some a.waiting);
-      fe_waits = λ on some. absurd (some b.waiting);
-      il_keeps = λ shut. calm-keeps x a;
-      fe_keeps = λ shut. calm-keeps y b;
+      il_waits = λ some. absurd (some a.waiting);
+      fe_waits = λ some. absurd (some b.waiting);
+      il_keeps = λ shut. a.waiting;
+      fe_keeps = λ shut. b.waiting;
       commands = calm-nothing x y a b;
       status = calm-nothing y x b a;
       il_up = λ m. absurd (u (record { il_identifier = m.il_identifier; fe_identifier = m.fe_identifier }));

@@ -1,7 +1,7 @@
 -- Each clause of "nothing lost" refuses a world that all other clauses admit.
-use Rattle.stack_engine.proofs.Words.{[], AllArrived, AllThere, arith, world_of_two, Course, early, EndState, Established, fe_with, il_with, Initialising, inl, inr}
-use Rattle.stack_engine.proofs.Words.{List, LossInstances, lost_course, Made, Match, NothingLost, one, plain, refl, Start, not_up, tele_seen, Up, waiting_course, ℕ, ◌<◌, ◌∷◌}
-use Rattle.stack_engine.proofs.Words.{◌≡◌, ◌≢◌, ◌≤◌, ◌⊎◌}
+use Rattle.stack_engine.proofs.Words.{[], AllThere, arith, world_of_two, Course, early, EndState, Established, false, fe_with, il_with, Initialising, inl, inr}
+use Rattle.stack_engine.proofs.Words.{keeping, List, LossInstances, lost_course, Made, Match, NothingLost, one, one_message, plain, refl, Start, not_up, stranger_with, tele_seen}
+use Rattle.stack_engine.proofs.Words.{sym, true, Up, waiting_course, ℕ, ◌<◌, ◌∷◌, ◌≡◌, ◌≢◌, ◌≤◌, ◌⊎◌}
 use Rattle.stack_engine.proofs.rows.Drops.{no-item}
 use Rattle.stack_engine.proofs.rows.Instances.{true-is-false}
 
@@ -9,15 +9,13 @@ no-number : (k : ℕ) → k < 0 → ⊥
 no-number k below = omega arith
 
 -- nothing was made, so all has arrived
-all-arrived : (c d : Course) (x y : EndState) → AllArrived (il_with c x) (fe_with d y)
-all-arrived c d x y k below = absurd (no-number k below)
-
-none-missing : (c d : Course) (x y : EndState) → AllArrived (fe_with d y) (il_with c x)
-none-missing c d x y k below = absurd (no-number k below)
-
 there : (c d : Course) (x : EndState) → NothingLost (world_of_two (il_with c x) (fe_with d x))
     → AllThere (il_with c x) (fe_with d x)
-there c d x h = h.all_there (λ up. all-arrived c d x x) (λ up. none-missing c d x x)
+there c d x h = h.all_there (λ up k below. absurd (no-number k below)) (λ up k below. absurd (no-number k below))
+
+apart : (c d : Course) (x : EndState) → NothingLost (world_of_two (il_with c x) (stranger_with d x))
+    → AllThere (il_with c x) (stranger_with d x)
+apart c d x h = h.all_there (λ up k below. absurd (no-number k below)) (λ up k below. absurd (no-number k below))
 
 not-full : 1 ≤ 0 → ⊥
 not-full h = omega arith
@@ -31,9 +29,13 @@ not-initialising e = cc
 no-message : {X : Type 0} (x : X) (xs : List X) → x ∷ xs ≢ []
 no-message x xs e = no-item x xs e
 
--- nothing waits, and an end is up
-idle : {A B : Type 0} → A → ◌≢◌ {A = List (List ℕ)} [] [] → B
-idle on some = absurd (some refl)
+-- nothing waits
+idle : {B : Type 0} → ◌≢◌ {A = List (List ℕ)} [] [] → B
+idle some = absurd (some refl)
+
+-- an end is up
+not-shut : {B : Type 0} → false ≡ true → B
+not-shut shut = absurd (true-is-false (sym shut))
 
 up : {A X : Type 0} {x : X} → A → x ≡ x
 up match = refl
@@ -52,6 +54,13 @@ match-plain c d x = record {
   fe_name = refl;
 }
 
+-- the peer of a stranger is not the interlocking
+one-is-three : 1 ≡ 3 → ⊥
+one-is-three e = omega (arith, e)
+
+unmatched : (c d : Course) (x : EndState) → Match (il_with c x) (stranger_with d x) → ⊥
+unmatched c d x m = one-is-three m.il_identifier
+
 pub loss-instances : (x : EndState) (m : Made) → LossInstances x m
 unfolding tele_seen
 loss-instances x m =
@@ -61,8 +70,8 @@ loss-instances x m =
           record {
             il_waits = idle;
             fe_waits = idle;
-            il_keeps = λ shut. refl;
-            fe_keeps = λ shut. refl;
+            il_keeps = up;
+            fe_keeps = up;
             commands = refl;
             status = refl;
             il_up = up;
@@ -72,8 +81,10 @@ loss-instances x m =
       il_asks = λ h. h.il_asks_nothing.0 refl;
       fe_asks = λ h. h.fe_asks_nothing.0 refl;
       il_waits = (
-        (λ h. not-full ((there waiting_course plain x h).il_waits refl (no-message [] []))),
+        (λ h. not-full ((there waiting_course plain x h).il_waits (no-message [] []))),
         idle,
+        not-shut,
+        up,
         refl,
         refl,
         up,
@@ -81,20 +92,47 @@ loss-instances x m =
         (λ m il fe. absurd (no-item [] [] il)),
       );
       fe_waits = (
-        (λ h. not-full ((there plain waiting_course x h).fe_waits refl (no-message [] []))),
+        (λ h. not-full ((there plain waiting_course x h).fe_waits (no-message [] []))),
         idle,
+        up,
+        not-shut,
         refl,
         refl,
         up,
         up,
         (λ m il fe. absurd (no-item [] [] fe)),
       );
-      commands = ((λ h. no-item one [] (there lost_course plain x h).commands), idle, idle, refl, up, up, steady);
-      status = ((λ h. no-item one [] (there plain lost_course x h).status), idle, idle, refl, up, up, steady);
+      il_keeps = (
+        (λ h. no-item one_message [] ((apart keeping plain x h).il_keeps refl)),
+        (λ some. omega arith),
+        idle,
+        up,
+        refl,
+        refl,
+        (λ m. absurd (unmatched keeping plain x m)),
+        (λ m. absurd (unmatched keeping plain x m)),
+        (λ m il fe. absurd (unmatched keeping plain x m)),
+      );
+      fe_keeps = (
+        (λ h. no-item one_message [] ((apart plain keeping x h).fe_keeps refl)),
+        idle,
+        (λ some. omega arith),
+        up,
+        refl,
+        refl,
+        (λ m. absurd (unmatched plain keeping x m)),
+        (λ m. absurd (unmatched plain keeping x m)),
+        (λ m il fe. absurd (unmatched plain keeping x m)),
+      );
+      commands =
+          ((λ h. no-item one [] (there lost_course plain x h).commands), idle, idle, up, up, refl, up, up, steady);
+      status = ((λ h. no-item one [] (there plain lost_course x h).status), idle, idle, up, up, refl, up, up, steady);
       il_starts = (
         (λ h. not-up ((there not_up plain x h).il_up (match-plain not_up plain x))),
         idle,
         idle,
+        up,
+        up,
         refl,
         refl,
         up,
@@ -104,6 +142,8 @@ loss-instances x m =
         (λ h. not-up ((there plain not_up x h).fe_up (match-plain plain not_up x))),
         idle,
         idle,
+        up,
+        up,
         refl,
         refl,
         up,
@@ -114,6 +154,8 @@ loss-instances x m =
             [ inl w ↦ true-is-false w.0 | inr w ↦ not-initialising w.1 ]),
         idle,
         idle,
+        up,
+        up,
         refl,
         refl,
         up,
@@ -124,6 +166,8 @@ loss-instances x m =
             [ inl w ↦ true-is-false w.0 | inr w ↦ not-initialising w.2 ]),
         idle,
         idle,
+        up,
+        up,
         refl,
         refl,
         up,

@@ -3,6 +3,7 @@ use Rattle.stack_engine.proofs.alike.Freshes.{fresh-again, fresh-twice}
 use Rattle.stack_engine.proofs.alike.Genuines.{genuine-twice}
 use Rattle.stack_engine.proofs.alike.Headlines.{headline-again, headline-twice}
 use Rattle.stack_engine.proofs.alike.Losses.{nothing-lost-twice}
+use Rattle.stack_engine.proofs.alike.Promised.{promises-twice}
 use Rattle.stack_engine.proofs.alike.Settleds.{certain-again, certain-twice, confirmed-again, confirmed-twice, settled-again, settled-twice}
 use Rattle.stack_engine.proofs.law.promises_law.Goals as goal
 
@@ -19,6 +20,7 @@ returns c =
       nothing_lost = nothing-lost-twice;
       genuine = genuine-twice;
       faithful = faithful-twice c.order_law.ensures.missing;
+      promises = promises-twice c.order_law.ensures.missing;
       headline_by_place = headline;
       fresh_by_place = fresh-again promised.fresh;
       confirmed_by_place = confirmed-again headline promised.confirmed;
