@@ -55,7 +55,7 @@ match-plain c d x = record {
 }
 
 -- the peer of a stranger is not the interlocking
-one-is-three : 1 ≡ 3 → ⊥
+one-is-three : ◌≡◌ {A = ℕ} 1 3 → ⊥
 one-is-three e = omega (arith, e)
 
 unmatched : (c d : Course) (x : EndState) → Match (il_with c x) (stranger_with d x) → ⊥
