@@ -1,56 +1,10 @@
-use crate::assertions::{assert_equal, assert_equal_at, assert_true, assert_true_at};
+use crate::assertions::assert_equal;
 use channels::{ChannelFault, Channels, MemChannels, MemoryFault};
 use linked_list_allocator::LocalHeap;
 use std::process::Abort;
 use std::test::Fail;
 use std::time::Duration;
 use udp_channels::{Place, Refusal, UdpFault, Watch, open_udp};
-
-// Two datagrams are kept as they were sent; a third finds no room, until there is more; one of 1,259 octets is too long.
-#[test]
-fn keeps_what_is_sent(rt: HostRuntime) -> Result<(), Fail> {
-    keeps(&rt, &mut MemChannels::new(rt.alloc(), 2)?)
-}
-
-fn keeps(rt: &impl Abort, channels: &mut MemChannels) -> Result<(), Fail> {
-    assert_equal(rt, channels.send(1, &[1, 2, 3]), Ok(()));
-    assert_equal(rt, channels.send(4, &[]), Ok(()));
-    assert_equal(rt, channels.send(2, &[9]), Err(ChannelFault::Room));
-    channels.reserve(1)?;
-    assert_equal(rt, channels.send(1, &[7; 1259]), Err(ChannelFault::Room));
-    assert_equal(rt, channels.send(1, &[7; 1258]), Ok(()));
-    let sent: [(usize, &[u8]); 3] = [(1, &[1, 2, 3]), (4, &[]), (1, &[7; 1258])];
-    for (number, wanted) in sent.iter().enumerate() {
-        assert_true_at(rt, number, channels.sent(number) == Some(*wanted));
-    }
-    assert_true(rt, channels.sent(3).is_none());
-    Ok(())
-}
-
-// What was put in is answered in order, cut to the buffer; an answer that nothing has come uses up room too.
-#[test]
-fn answers_what_was_put_in(rt: HostRuntime) -> Result<(), Fail> {
-    answers(&rt, &mut MemChannels::new(rt.alloc(), 4)?)
-}
-
-fn answers(rt: &impl Abort, channels: &mut MemChannels) -> Result<(), Fail> {
-    let mut buffer = [0; 4];
-    channels.add(3, &[5, 6])?;
-    channels.add(1, &[1, 2, 3, 4, 5, 6])?;
-    for (came, octets) in [((3, 2), [5, 6, 0, 0]), ((1, 4), [1, 2, 3, 4])] {
-        assert_equal(rt, channels.receive(&mut buffer), Ok(Some(came)));
-        assert_equal(rt, buffer, octets);
-    }
-    assert_equal(rt, channels.receive(&mut buffer), Ok(None));
-    channels.add(2, &[8])?;
-    assert_equal(rt, channels.receive(&mut buffer), Ok(Some((2, 1))));
-    assert_equal(rt, buffer, [8, 2, 3, 4]);
-    channels.add(2, &[9])?;
-    assert_equal(rt, channels.receive(&mut buffer), Err(ChannelFault::Room));
-    channels.reserve(1)?;
-    assert_equal(rt, channels.receive(&mut buffer), Ok(Some((2, 1))));
-    Ok(())
-}
 
 // Heaps of rising size: at some the channels are refused, and at some the room or the datagram; sending and receiving take no memory.
 #[test]

@@ -6,6 +6,8 @@
 #[cfg(test)]
 mod assertions;
 #[cfg(test)]
+mod counts_tests;
+#[cfg(test)]
 mod poor;
 #[cfg(test)]
 mod rasta_net_tests;
