@@ -9,6 +9,8 @@ FUNCTION = re.compile(r'`(\w+::\w+)(?:\([^`]*\))?`|`(\w+)\([^`]*\)`')
 DEFINITION = re.compile(r'`([A-Z]\w*)\.(\w+)`')
 OWNED = re.compile(r'((?:`\w+`(?:,| and|, and)?\s+)*`\w+`)\s+of\s+(?:the\s+)?`(\w+)`')
 FILE = re.compile(r'(?:[\w.*-]+/)*[\w.*-]+\.(?:rt|antt|edit|py|sim|toml|lua|c|h)')
+CITED = re.compile(r'(?:\*Rules\*:|\brules?)\s+((?:[A-Z]\d+(?:,?\s+|\s+to\s+|\s+and\s+)?)+)')
+RULE, RULES = re.compile(r'\b[ACDEFLMNORSTUX]\d{1,2}\b'), 'docs/protocol.md'
 STANDS_FOR_ANY = re.compile(r'\b[A-Z]{3,}(?=_|\b)|\.\.\.')  # as in crates/NAME/specs/FILE.antt
 
 
@@ -44,6 +46,17 @@ class Documents:
             for at, problem in [*self.of_forms(read(path)), *self.of_names(read(path)), *self.of_owners(read(path)), *self.of_files(path)]:
                 yield f'{path}:{at}: {problem}'
             yield from self.of_columns(path)
+        yield from self.of_rules()
+
+    def of_rules(self):
+        """Checks the numbers of rules: each is given once in docs/protocol.md, and those that it or a page cites (`rule M7`) are given there."""
+        text = read(RULES)
+        given = re.findall(r'^(?:\| )?([A-Z]\d+)(?: \||: | \(\*)', text, re.M)
+        yield from (f'{RULES}: rule {number} is given twice' for number in sorted(set(given)) if given.count(number) > 1)
+        cited = [(RULES, number) for number in RULE.findall(re.sub('`[^`]*`', '', text))]
+        for path in ['README.md', *listed('docs', '*.md'), *listed('crates', '*', 'README.md')]:
+            cited += [(path, number) for found in CITED.findall(read(path)) for number in re.findall(r'[A-Z]\d+', found)]
+        yield from (f'{path}: rule {number} is not in {RULES}' for path, number in dict.fromkeys(cited) if number not in given)
 
     def items_named(self, name, items, owner=''):
         """Returns the functions that a name may mean, all those of a type or trait; empty if nothing has the name."""
