@@ -372,7 +372,8 @@ int main(int argc, char **argv) {
     long size = 0;
     int i;
     seed = (argc > 2 ? strtoull(argv[2], NULL, 10) : 1) * 0x9e3779b97f4a7c15u + 1;
-    for (free_places = 0; free_places < WIRE; free_places++) unused[free_places] = &pool[free_places], memset(pool[free_places].octets, 0, BEK_DATAGRAM_MAX);
+    memset(sides, 0, sizeof sides), memset(pool, 0, sizeof pool), memset(wire, 0, sizeof wire); /* so that this test's own pages are there from the start */
+    for (free_places = 0; free_places < WIRE; free_places++) unused[free_places] = &pool[free_places];
     begins();
     while (truth < days * DAY) {
         int is_up = bek_phase(&sides[0].end) == BEK_ESTABLISHED && bek_phase(&sides[1].end) == BEK_ESTABLISHED;
