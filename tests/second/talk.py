@@ -171,7 +171,8 @@ class Talk:
 
     def examine_pdu(self, pdu):
         judge, last, now = self.findings.judge, self.seen[-1] if self.seen else None, self.now()
-        if not judge('F1', (pdu.receiver, pdu.sender) == (self.s.id, self.s.peer_id), f'{pdu.type} from {pdu.sender} for {pdu.receiver}, not from {self.s.peer_id} for {self.s.id}'):
+        if not judge('F1', (pdu.receiver, pdu.sender) == (self.s.id, self.s.peer_id),
+                     f'{pdu.type} from {pdu.sender} for {pdu.receiver}, not from {self.s.peer_id} for {self.s.id}'):
             return
         if last:
             judge('N1', pdu.sn == last.sn + 1 & MASK, f'{pdu.type} has SN {pdu.sn} after {last.sn}')
