@@ -30,6 +30,7 @@ int32_t bekr_confirmed_time(bek_end *end, uint64_t *time);
 int32_t bekr_departure(bek_end *end, bek_leaving *leaving);
 int32_t bekr_agreed(bek_end *end, bek_agreement *agreement);
 int32_t bekr_statistics(bek_end *end, bek_statistics *statistics);
+int32_t bekr_totals(bek_end *end, bek_statistics *totals);
 int32_t bekr_counts(bek_end *end, bek_counts *counts);
 int32_t bekr_hear_notes(bek_end *end, uint32_t hears);
 int32_t bekr_next_note(bek_end *end, bek_note *note);
@@ -295,6 +296,13 @@ int bek_statistics_of(const bek_end *end, bek_statistics *statistics) {
     if (end == NULL || statistics == NULL) return BEK_ERR_NULL;
     asked = *end;
     return bekr_statistics(&asked, statistics);
+}
+
+int bek_totals_of(const bek_end *end, bek_statistics *totals) {
+    bek_end asked;
+    if (end == NULL || totals == NULL) return BEK_ERR_NULL;
+    asked = *end;
+    return bekr_totals(&asked, totals);
 }
 
 /* The meaning of a detail beside a reason; NULL if it has none. */

@@ -21,11 +21,13 @@
  *         wait for a socket, or until the time of bek_next_deadline; without a time if it returns BEK_NOTHING;
  *         for each datagram received: { bek_arrive(&end, channel, octets, length, now()); drain(); }
  *         bek_tick(&end, now()); drain();
+ *         if bek_phase(&end) == BEK_INITIALISING, at a field element: { put the initial status; bek_init_done(&end, now()); drain(); }
  *         if there is something to say: { bek_put(&end, kind, payload, length, now()); drain(); }
- *         if bek_is_stale(&end) == 1: { bek_reopen(&end, a random number, now()); drain(); }
+ *         if bek_is_stale(&end) == 1: { log bek_departure and bek_confirmed; bek_reopen(&end, a random number, now()); drain(); }
  *     }
  *
- * Test each result: a value below 0 is a refusal, and bek_fault_text says why. The examples in capi/examples show the complete loop.
+ * Test each result: a value below 0 is a refusal, and bek_fault_text says why. bek_is_stale waits before each opening, so that this loop floods no peer.
+ * If no session begins, bek_departure and bek_totals_of say why. The examples in capi/examples show the complete loop.
  *
  * TIME is in whole milliseconds of a clock that never decreases, such as CLOCK_MONOTONIC, and is at most 2^62. A call with an earlier time
  * than the last accepted call of the same end returns BEK_ERR_TIME and does nothing.
@@ -179,11 +181,12 @@ typedef struct bek_end {
 } bek_end;
 #define BEK_END_INIT { 0, 0 }
 
-/* What waits for you, and what was lost. */
+/* What waits for you, what was lost, and how often the end was opened. */
 typedef struct bek_counts {
     uint64_t telegrams; /* telegrams that wait for bek_take */
     uint64_t datagrams; /* datagrams that wait for bek_next_datagram */
     uint64_t unsent;    /* datagrams that had no room since the end was opened, modulo 2^64 */
+    uint64_t openings;  /* how often the end was opened, modulo 2^64: bek_open is the first opening */
 } bek_counts;
 
 /* In place of a time, if there is none. */
@@ -338,8 +341,8 @@ BEK_MUST_USE int bek_rooms(const bek_settings *settings, uint32_t *telegrams, ui
 BEK_MUST_USE int bek_open(bek_end *end, const bek_settings *settings, uint64_t now);
 
 /* Opens an end again with the settings that bek_open had, and with another first_sn: draw a random one. It uses the memory that the end has. The end
- * is then as bek_open leaves it: nothing is put, confirmed or unsent yet, and an interlocking requests the connection at once. Call it if bek_is_stale
- * returns 1, or at any other time. Datagrams of the old connection that wait are dropped, and nothing more is sent on it: to inform the peer, call
+ * is then as bek_open leaves it: nothing is put, confirmed or unsent yet, and an interlocking requests the connection at once. Only the last departure and
+ * the sums of the counts are kept (bek_departure, bek_totals_of). Call it if bek_is_stale returns 1, or at any other time. Datagrams of the old connection that wait are dropped, and nothing more is sent on it: to inform the peer, call
  * bek_close before, and send what waits.
  *
  * BEK_OK; or the first that holds, and nothing has changed: BEK_ERR_NULL, BEK_ERR_NOT_OPEN, BEK_ERR_TIME, BEK_ERR_TAKE_FIRST (a telegram of the old
@@ -365,10 +368,11 @@ BEK_MUST_USE int bek_arrive(bek_end *end, uint32_t channel, const uint8_t *octet
 BEK_MUST_USE int bek_tick(bek_end *end, uint64_t now);
 
 /* Writes the next time at which bek_tick will do something, if nothing arrives, nothing is put and nothing is taken before. It may be in the past. If
- * bek_tick returns BEK_ERR_TAKE_FIRST or BEK_ERR_SEND_FIRST, it is the time at which t_max ends the connection.
+ * bek_tick returns BEK_ERR_TAKE_FIRST or BEK_ERR_SEND_FIRST, it is the time at which t_max ends the connection. If the end must be opened again, it is
+ * the time from which bek_is_stale returns 1.
  *
- * BEK_OK; BEK_NOTHING if no bek_tick does anything until something arrives: in BEK_CLOSED, in BEK_DOWN if no early part waits, and after
- * BEK_ERR_LOST. Then *deadline is not written: wait for a socket without a time limit. BEK_ERR_NULL; BEK_ERR_NOT_OPEN. */
+ * BEK_OK; BEK_NOTHING if no bek_tick does anything until something arrives: in BEK_CLOSED if bek_is_stale returns 1, in BEK_DOWN if no early part waits,
+ * and after BEK_ERR_LOST. Then *deadline is not written: wait for a socket without a time limit. BEK_ERR_NULL; BEK_ERR_NOT_OPEN. */
 BEK_MUST_USE int bek_next_deadline(const bek_end *end, uint64_t *deadline);
 
 /* Puts a command (interlocking) or status (field element) with a kind and 0 to BEK_PAYLOAD_MAX octets. It is copied, and sent after everything
@@ -412,8 +416,10 @@ BEK_MUST_USE int bek_state(const bek_end *end);
 /* Returns the phase of the session (bek_session), BEK_ERR_NOT_OPEN or BEK_ERR_NULL. */
 BEK_MUST_USE int bek_phase(const bek_end *end);
 
-/* Returns 1 if you must open this end again (bek_reopen), 0 if not: it is closed, or it is a field element in BEK_DOWN that has already accepted
- * a datagram and therefore may miss the next request. BEK_ERR_NOT_OPEN or BEK_ERR_NULL. */
+/* Returns 1 if you must open this end again now (bek_reopen), 0 if not: it is closed, or it is a field element in BEK_DOWN that has already accepted
+ * a datagram and therefore may miss the next request; and it has waited long enough, up to the time of the last accepted call. A field element waits
+ * t_max/8 after it was opened. An interlocking waits t_max/4 after it was closed, so that the field element is ready for its request, and also t_max/4
+ * after it was opened, t_max/2 after an opening that lasted less than 2 t_max, and t_max after several of those. BEK_ERR_NOT_OPEN or BEK_ERR_NULL. */
 BEK_MUST_USE int bek_is_stale(const bek_end *end);
 
 /* Returns 1 if the end is not closed and the peer has taken everything put, otherwise 0; BEK_ERR_NOT_OPEN or BEK_ERR_NULL. */
@@ -429,8 +435,8 @@ BEK_MUST_USE int bek_confirmed(const bek_end *end, uint64_t *count);
  * BEK_OK; BEK_ERR_NULL, BEK_ERR_NOT_OPEN. */
 BEK_MUST_USE int bek_confirmed_time(const bek_end *end, uint64_t *time);
 
-/* Writes who ended the connection, why and when. BEK_OK; BEK_NOTHING if the end was not closed, and nothing is written; BEK_ERR_NULL,
- * BEK_ERR_NOT_OPEN. */
+/* Writes who ended the last connection, why and when: the present one if it has ended, otherwise the last one before bek_reopen. BEK_OK; BEK_NOTHING if
+ * no connection of this end has ended, and nothing is written; BEK_ERR_NULL, BEK_ERR_NOT_OPEN. */
 BEK_MUST_USE int bek_departure(const bek_end *end, bek_leaving *leaving);
 
 /* Writes the PDI version that was agreed, and the checksum of the field element's reply. They are known before the first telegram is put or taken: at
@@ -443,11 +449,16 @@ BEK_MUST_USE int bek_agreed(const bek_end *end, bek_agreement *agreement);
  * If `leaving` is NULL, the text is empty. */
 size_t bek_leaving_text(const bek_leaving *leaving, char *text, size_t size);
 
-/* Writes what waits for you, and what was lost. BEK_OK; BEK_ERR_NULL, BEK_ERR_NOT_OPEN. */
+/* Writes what waits for you, what was lost, and how often the end was opened. BEK_OK; BEK_ERR_NULL, BEK_ERR_NOT_OPEN. */
 BEK_MUST_USE int bek_counts_of(const bek_end *end, bek_counts *counts);
 
-/* Writes what the end has counted since it was opened. BEK_OK; BEK_ERR_NULL, BEK_ERR_NOT_OPEN. */
+/* Writes what the end has counted since it was opened, by bek_open or bek_reopen. BEK_OK; BEK_ERR_NULL, BEK_ERR_NOT_OPEN. */
 BEK_MUST_USE int bek_statistics_of(const bek_end *end, bek_statistics *statistics);
+
+/* Writes the sums of these counts over all openings, that of now among them; `oldest` and `longest_wait` are the greatest, `last` is the latest. An end
+ * that never gets a session shows there why: `strangers` for a wrong identifier, `bad_code` for another code or initial value. BEK_OK; BEK_ERR_NULL,
+ * BEK_ERR_NOT_OPEN. */
+BEK_MUST_USE int bek_totals_of(const bek_end *end, bek_statistics *totals);
 
 /* Keeps notes of what the end does from now on if `on` is not 0, and no longer if it is 0; those that wait are dropped. A new end keeps none, and
  * bek_reopen leaves this as it is. As long as none is kept, this costs one test for each datagram.

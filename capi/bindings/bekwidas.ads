@@ -29,7 +29,7 @@ package Bekwidas is
    Settings_Size : constant size_t := Settings'Size / 8;
 
    type Counts is record
-      Telegrams, Datagrams, Unsent : Unsigned_64 := 0;
+      Telegrams, Datagrams, Unsent, Openings : Unsigned_64 := 0;
    end record with Convention => C;
 
    type Leaving is record
@@ -114,6 +114,8 @@ package Bekwidas is
      with Import, Convention => C, External_Name => "bek_counts_of";
    function Statistics_Of (E : access constant Bek_End; S : access Statistics) return int
      with Import, Convention => C, External_Name => "bek_statistics_of";
+   function Totals_Of (E : access constant Bek_End; S : access Statistics) return int
+     with Import, Convention => C, External_Name => "bek_totals_of";
    function Hear_Notes (E : access Bek_End; On : int) return int with Import, Convention => C, External_Name => "bek_hear_notes";
    function Next_Note (E : access Bek_End; N : access Note) return int with Import, Convention => C, External_Name => "bek_next_note";
    function Note_Text (N : access constant Note; Text : System.Address; Size : size_t) return size_t

@@ -51,7 +51,7 @@ class Settings(ctypes.Structure):
 
 
 class Counts(ctypes.Structure):
-    _fields_ = [("telegrams", c_uint64), ("datagrams", c_uint64), ("unsent", c_uint64)]
+    _fields_ = [(name, c_uint64) for name in "telegrams datagrams unsent openings".split()]
 
 
 class Reception(ctypes.Structure):
@@ -150,6 +150,7 @@ _declare(_Handle, {
     "take": [POINTER(c_uint16), c_char_p, c_size_t, POINTER(c_size_t)], "next_datagram": [POINTER(c_uint32), c_char_p, c_size_t, POINTER(c_size_t)],
     "state": [], "phase": [], "is_stale": [], "settled": [], "confirmed": [POINTER(c_uint64)], "confirmed_time": [POINTER(c_uint64)],
     "departure": [POINTER(Leaving)], "agreed": [POINTER(Agreement)], "counts_of": [POINTER(Counts)], "statistics_of": [POINTER(Statistics)],
+    "totals_of": [POINTER(Statistics)],
     "hear_notes": [c_int], "next_note": [POINTER(Note)]})
 
 
@@ -225,6 +226,7 @@ class End:
     agreed = property(lambda self: self._told("agreed", Agreement()))
     counts = property(lambda self: self._told("counts_of", Counts()))
     statistics = property(lambda self: self._told("statistics_of", Statistics()))
+    totals = property(lambda self: self._told("totals_of", Statistics()))
 
     def hear_notes(self, on):
         """Keeps notes from now on, or no longer."""

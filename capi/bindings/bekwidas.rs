@@ -24,7 +24,7 @@ pub struct Settings {
 
 #[repr(C)]
 #[derive(Clone, Copy, Debug, Default, PartialEq, Eq)]
-pub struct Counts { pub telegrams: u64, pub datagrams: u64, pub unsent: u64 }
+pub struct Counts { pub telegrams: u64, pub datagrams: u64, pub unsent: u64, pub openings: u64 }
 
 #[repr(C)]
 #[derive(Clone, Copy, Debug, Default, PartialEq, Eq)]
@@ -94,6 +94,7 @@ extern "C" {
     fn bek_agreed(e: *const Handle, agreement: *mut Agreement) -> c_int;
     fn bek_counts_of(e: *const Handle, counts: *mut Counts) -> c_int;
     fn bek_statistics_of(e: *const Handle, statistics: *mut Statistics) -> c_int;
+    fn bek_totals_of(e: *const Handle, totals: *mut Statistics) -> c_int;
     fn bek_hear_notes(e: *mut Handle, on: c_int) -> c_int;
     fn bek_next_note(e: *mut Handle, note: *mut Note) -> c_int;
     fn bek_note_text(note: *const Note, text: *mut c_char, size: usize) -> usize;
@@ -192,7 +193,7 @@ impl End {
     }
     pub fn state(&self) -> c_int { unsafe { bek_state(&*self.0) } }
     pub fn phase(&self) -> c_int { unsafe { bek_phase(&*self.0) } }
-    /// Whether the end must be opened again, by `reopen`.
+    /// Whether the end must be opened again now, by `reopen`.
     pub fn is_stale(&self) -> bool { unsafe { bek_is_stale(&*self.0) == 1 } }
     pub fn settled(&self) -> bool { unsafe { bek_settled(&*self.0) == 1 } }
     /// How many of the telegrams put are certain.
@@ -206,7 +207,7 @@ impl End {
         let result = unsafe { bek_confirmed_time(&*self.0, &mut time) };
         given(result, time)
     }
-    /// Who ended the connection, why and when, with its text; `Err(NOTHING)` if nobody did.
+    /// Who ended the last connection, why and when, with its text; `Err(NOTHING)` if none has ended.
     pub fn departure(&self) -> Result<(Leaving, String), c_int> {
         let mut leaving = Leaving::default();
         let result = unsafe { bek_departure(&*self.0, &mut leaving) };
@@ -228,7 +229,14 @@ impl End {
         let mut statistics = Statistics::default();
         let result = unsafe { bek_statistics_of(&*self.0, &mut statistics) };
         given(result, statistics)
-    }    /// Keeps notes from now on, or no longer.
+    }
+    /// The sums of these counts over all openings.
+    pub fn totals(&self) -> Result<Statistics, c_int> {
+        let mut totals = Statistics::default();
+        let result = unsafe { bek_totals_of(&*self.0, &mut totals) };
+        given(result, totals)
+    }
+    /// Keeps notes from now on, or no longer.
     pub fn hear_notes(&mut self, on: bool) -> c_int { unsafe { bek_hear_notes(&mut *self.0, on as c_int) } }
     /// The oldest note with its text.
     pub fn next_note(&mut self) -> Option<(Note, String)> {

@@ -54,6 +54,9 @@ fn main() {
     println!("rust: {taken} telegrams in order, {:.0} ns each", start.elapsed().as_nanos() as f64 / taken as f64);
     assert_eq!(il.close(now), OK);
     println!("rust: {} confirmed, {}", il.confirmed().unwrap(), il.departure().unwrap().1);
+    assert!(!il.is_stale()); // it waits t_max/4 before the next connection
+    now += 450;
+    assert_eq!(il.tick(now), OK);
     assert!(il.is_stale());
     assert_eq!((il.reopen(4711, now), il.state(), il.confirmed()), (OK, 2, Ok(0))); // for another connection
 }

@@ -182,7 +182,11 @@ static void deadlines(void) {
     must(now == confirmed + 1800);
     must(bek_departure(&il, &leaving) == BEK_OK && leaving.by == BEK_BY_OWN && leaving.reason == 3 && leaving.detail == 0 && leaving.time == now);
     must(bek_leaving_text(&leaving, text, sizeof text) > 0 && strncmp(text, "by this end, reason 3 (timeout", 30) == 0);
-    must(bek_next_deadline(&il, &a) == BEK_NOTHING && bek_is_stale(&il) == 1 && bek_settled(&il) == 0);
+    must(bek_next_deadline(&il, &a) == BEK_OK && a == now + 1800 / 4 && bek_is_stale(&il) == 0 && bek_settled(&il) == 0);
+    now = a - 1;
+    must(bek_tick(&il, now) == BEK_OK && bek_next_deadline(&il, &b) == BEK_OK && b == a && bek_is_stale(&il) == 0);
+    now = a;
+    must(bek_tick(&il, now) == BEK_OK && bek_next_deadline(&il, &b) == BEK_NOTHING && bek_is_stale(&il) == 1);
 }
 
 /* The peer closes: the other end reports the reason. */
@@ -193,7 +197,10 @@ static void closes(void) {
     both(1);
     must(bek_departure(&il, &leaving) == BEK_OK && leaving.by == BEK_BY_OWN && leaving.reason == 0);
     must(bek_departure(&fe, &leaving) == BEK_OK && leaving.by == BEK_BY_PEER && leaving.reason == 0 && leaving.time == now);
-    must(bek_is_stale(&fe) == 1 && bek_close(&fe, now) == BEK_OK && bek_put(&fe, 1, NULL, 0, now) == BEK_ERR_NOT_ESTABLISHED);
+    must(bek_is_stale(&fe) == 0 && bek_close(&fe, now) == BEK_OK && bek_put(&fe, 1, NULL, 0, now) == BEK_ERR_NOT_ESTABLISHED);
+    now += 1800 / 8 - 1; /* since it was opened */
+    must(bek_tick(&fe, now) == BEK_OK && bek_is_stale(&fe) == 1);
+    must(bek_reopen(&fe, 7, now) == BEK_OK && bek_departure(&fe, &leaving) == BEK_OK && leaving.by == BEK_BY_PEER && leaving.reason == 0);
 }
 
 /* What each version and checksum of a field element with two versions is agreed on: both ends say the same, and only from the version check on. */

@@ -141,10 +141,16 @@ int32_t bekr_statistics(bek_end *end, bek_statistics *statistics) {
     statistics->part_faults.bad_body = told[4];
     return notes("statistics", end, NULL, 0, 0, 0, 0);
 }
+int32_t bekr_totals(bek_end *end, bek_statistics *totals) {
+    totals->channels[0].received = told[0];
+    totals->part_faults.bad_body = told[1];
+    return notes("totals", end, NULL, 0, 0, 0, 0);
+}
 int32_t bekr_counts(bek_end *end, bek_counts *counts) {
     counts->telegrams = told[0];
     counts->datagrams = told[1];
     counts->unsent = told[2];
+    counts->openings = told[3];
     return notes("counts", end, NULL, 0, 0, 0, 0);
 }
 int32_t bekr_hear_notes(bek_end *end, uint32_t hears) { return notes("hear_notes", end, NULL, 0, hears, 0, 0); }
@@ -251,12 +257,15 @@ static void passes_on(void) {
     must(agreement.checksum[0] == (uint8_t)told[2] && agreement.checksum[15] == (uint8_t)told[3]);
     went("agreed", 1);
     AT, must(bek_counts_of(&end, &counts) == result);
-    must(counts.telegrams == told[0] && counts.datagrams == told[1] && counts.unsent == told[2]);
+    must(counts.telegrams == told[0] && counts.datagrams == told[1] && counts.unsent == told[2] && counts.openings == told[3]);
     went("counts", 1);
     AT, must(bek_statistics_of(&end, &statistics) == result);
     must(statistics.channels[0].received == told[0] && statistics.channels[3].last == told[1]);
     must(statistics.taken == told[2] && statistics.confirmed == told[3] && statistics.part_faults.bad_body == told[4]);
     went("statistics", 1);
+    AT, must(bek_totals_of(&end, &statistics) == result);
+    must(statistics.channels[0].received == told[0] && statistics.part_faults.bad_body == told[1]);
+    went("totals", 1);
     AT, must(bek_hear_notes(&end, (int)told[0]) == result);
     went("hear_notes", 0);
     must(got.numbers[0] == ((int)told[0] != 0));

@@ -20,4 +20,5 @@ returns-clause-does c =
       inbox = c.forget_loss.ensures;
       time = refl;
       reserve = refl;
+      openings = refl;
     }
