@@ -134,7 +134,7 @@ int bek_settings_fault(const bek_settings *settings, uint32_t *field, char *text
     static const char *const names[] = {"", "size", "side", "id", "peer_id", "first_sn", "protocol", "code", "channels", "n_sendmax", "n_maxpacket",
                                         "q", "t_max", "t_h", "t_seq", "mwa", "pdu_limit", "telegram_room", "datagram_room", "version_count",
                                         "checksum_length", "versions", "checksum", "initial_value", "name", "peer_name"};
-    enum { PEER_ID = 4, CODE = 7, Q = 11, T_SEQ = 14, MWA = 15, VERSIONS = 21, NAME = 24 };
+    enum { PEER_ID = 4, FIRST_SN = 5, CODE = 7, N_SENDMAX = 9, T_SEQ = 14, MWA = 15, VERSIONS = 21, NAME = 24 };
     setting_fault fault = {0, 0, 0, 0};
     said s;
     int result;
@@ -151,9 +151,11 @@ int bek_settings_fault(const bek_settings *settings, uint32_t *field, char *text
         say(&s, ": expected ");
         if (result == BEK_UNWISE && fault.field == T_SEQ) say(&s, "less than t_max");
         else if (result == BEK_UNWISE && fault.field == MWA) say(&s, "less than n_sendmax");
+        else if (result == BEK_UNWISE && fault.field == N_SENDMAX) say(&s, "n_sendmax + 2 + n_sendmax / mwa at most q, such as 5 with mwa 3 and q 8");
+        else if (result == BEK_UNWISE && fault.field == FIRST_SN) say(&s, "a random number for each opening");
         else {
             say_number(&s, fault.least);
-            if (fault.most == UINT32_MAX || result == BEK_UNWISE) say(&s, " or more");
+            if (fault.most == UINT32_MAX) say(&s, " or more");
             else if (fault.most > fault.least) {
                 say(&s, fault.field == CODE ? " or " : " to ");
                 say_number(&s, fault.most);
@@ -161,7 +163,8 @@ int bek_settings_fault(const bek_settings *settings, uint32_t *field, char *text
         }
         say(&s, ", found ");
         say_number(&s, fault.value);
-        if (result == BEK_UNWISE && fault.field == Q) say(&s, ": with n_sendmax and mwa a burst after a lost datagram overruns it");
+        if (result == BEK_UNWISE && fault.field == N_SENDMAX) say(&s, ": a burst after a lost datagram overruns the early parts");
+        if (result == BEK_UNWISE && fault.field == FIRST_SN) say(&s, ": two openings make the same octets");
     }
     ends(&s, size);
     return result;

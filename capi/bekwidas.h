@@ -321,9 +321,10 @@ BEK_MUST_USE int bek_settings_init(bek_settings *settings, size_t size);
  * is 0.
  *
  * BEK_OK; BEK_UNWISE if an end opens with these settings, but works badly: mwa is not below n_sendmax (the peer then stops until a
- * heartbeat), t_seq is not below t_max (parts are then too old), or q is below n_sendmax - 1 + n_sendmax / mwa (a burst after one lost datagram
- * can overrun the queue of early parts; the defaults are of this kind, see docs/choosing.md); BEK_ERR_NULL; BEK_ERR_LENGTH; or the result with
- * which bek_open refuses these settings: BEK_ERR_SETTINGS_SIZE, BEK_ERR_BAD_SETTINGS, BEK_ERR_ROOMS. */
+ * heartbeat), t_seq is not below t_max (parts are then too old), n_sendmax + 2 + n_sendmax / mwa is above q (a burst after one lost datagram can overrun
+ * the queue of early parts: choose a smaller window, such as n_sendmax 5, mwa 3 and q 8; the defaults are of this kind), or first_sn is 1, the default (a
+ * random one tells two openings apart); BEK_ERR_NULL; BEK_ERR_LENGTH; or the result with which bek_open refuses these settings: BEK_ERR_SETTINGS_SIZE,
+ * BEK_ERR_BAD_SETTINGS, BEK_ERR_ROOMS. */
 BEK_MUST_USE int bek_settings_fault(const bek_settings *settings, uint32_t *field, char *text, size_t size);
 
 /* Writes the rooms for as many channels as the settings have, with which no call returns BEK_UNSENT if you drain after each call: 27 telegrams,

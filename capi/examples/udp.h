@@ -92,6 +92,7 @@ static void opens(void) {
     s.peer_id = SIDE == BEK_INTERLOCKING ? 2 : 1;
     s.protocol = 1;
     s.first_sn = random_number();
+    s.n_sendmax = 5, s.mwa = 3, s.q = 8; /* so that one lost datagram does not overrun the early parts */
     s.version_count = 1;
     s.versions[0] = 1;
     strcpy(s.name, SIDE == BEK_INTERLOCKING ? "IL1" : "FE1");

@@ -517,7 +517,7 @@ static void note_texts(void) {
 }
 
 static void of_setting(uint32_t field, uint32_t value, uint32_t least, uint32_t most, int32_t is, const char *wanted) {
-    char text[120], cut_[5];
+    char text[200], cut_[5];
     static bek_settings settings;
     uint32_t found = 99;
     told_fault.field = field, told_fault.value = value, told_fault.least = least, told_fault.most = most;
@@ -557,7 +557,10 @@ static void settings_texts(void) {
     of_setting(21, 2, 1, 4, BEK_ERR_BAD_SETTINGS, "versions: expected different versions, found two equal ones");
     of_setting(24, 0, 1, 20, BEK_ERR_BAD_SETTINGS, "name: expected 1 to 20 characters 0x21 to 0x7e without '_', then a zero");
     of_setting(25, 0, 1, 20, BEK_ERR_BAD_SETTINGS, "peer_name: expected 1 to 20 characters 0x21 to 0x7e without '_', then a zero");
-    of_setting(11, 4, 21, 8, BEK_UNWISE, "q: expected 21 or more, found 4: with n_sendmax and mwa a burst after a lost datagram overruns it");
+    of_setting(9, 20, 1, 2, BEK_UNWISE, "n_sendmax: expected n_sendmax + 2 + n_sendmax / mwa at most q, such as 5 with mwa 3 and q 8, found 20: "
+                                        "a burst after a lost datagram overruns the early parts");
+    of_setting(9, 40, 1, 32, BEK_ERR_BAD_SETTINGS, "n_sendmax: expected 1 to 32, found 40");
+    of_setting(5, 1, 0, UINT32_MAX, BEK_UNWISE, "first_sn: expected a random number for each opening, found 1: two openings make the same octets");
     of_setting(15, 5, 1, 4, BEK_UNWISE, "mwa: expected less than n_sendmax, found 5");
     of_setting(15, 17, 1, 16, BEK_ERR_BAD_SETTINGS, "mwa: expected 1 to 16, found 17");
     of_setting(14, 500, 10, 399, BEK_UNWISE, "t_seq: expected less than t_max, found 500");
