@@ -221,6 +221,16 @@ int bek_next_datagram(bek_end *end, uint32_t *channel, uint8_t *octets, size_t s
     return result;
 }
 
+/* If a call is done, writes what it told to a struct of the caller's size: no octet after it is written, and members that this library does not know
+ * become 0. Returns the result of the call. */
+static int hands_out(int result, void *to, size_t size, const void *told, size_t length) {
+    const unsigned char *from = (const unsigned char *)told;
+    unsigned char *at = (unsigned char *)to;
+    size_t k;
+    for (k = 0; result == BEK_OK && k < size; k++) at[k] = k < length ? from[k] : 0;
+    return result;
+}
+
 /* The functions that only read use a copy of the handle, because the proved function takes the end out of its slot and puts it back. So nothing of
  * the caller's is written. The end itself does not move in memory. */
 
@@ -273,39 +283,49 @@ int bek_confirmed_time(const bek_end *end, uint64_t *time) {
     return bekr_confirmed_time(&asked, time);
 }
 
-int bek_departure(const bek_end *end, bek_leaving *leaving) {
+int bek_departure(const bek_end *end, bek_leaving *leaving, size_t size) {
     bek_end asked;
+    bek_leaving told;
     if (end == NULL || leaving == NULL) return BEK_ERR_NULL;
+    if (!IS_LENGTH(size)) return BEK_ERR_LENGTH;
     asked = *end;
-    return bekr_departure(&asked, leaving);
+    return hands_out(bekr_departure(&asked, &told), leaving, size, &told, sizeof told);
 }
 
-int bek_agreed(const bek_end *end, bek_agreement *agreement) {
+int bek_agreed(const bek_end *end, bek_agreement *agreement, size_t size) {
     bek_end asked;
+    bek_agreement told;
     if (end == NULL || agreement == NULL) return BEK_ERR_NULL;
+    if (!IS_LENGTH(size)) return BEK_ERR_LENGTH;
     asked = *end;
-    return bekr_agreed(&asked, agreement);
+    return hands_out(bekr_agreed(&asked, &told), agreement, size, &told, sizeof told);
 }
 
-int bek_counts_of(const bek_end *end, bek_counts *counts) {
+int bek_counts_of(const bek_end *end, bek_counts *counts, size_t size) {
     bek_end asked;
+    bek_counts told;
     if (end == NULL || counts == NULL) return BEK_ERR_NULL;
+    if (!IS_LENGTH(size)) return BEK_ERR_LENGTH;
     asked = *end;
-    return bekr_counts(&asked, counts);
+    return hands_out(bekr_counts(&asked, &told), counts, size, &told, sizeof told);
 }
 
-int bek_statistics_of(const bek_end *end, bek_statistics *statistics) {
+int bek_statistics_of(const bek_end *end, bek_statistics *statistics, size_t size) {
     bek_end asked;
+    bek_statistics told;
     if (end == NULL || statistics == NULL) return BEK_ERR_NULL;
+    if (!IS_LENGTH(size)) return BEK_ERR_LENGTH;
     asked = *end;
-    return bekr_statistics(&asked, statistics);
+    return hands_out(bekr_statistics(&asked, &told), statistics, size, &told, sizeof told);
 }
 
-int bek_totals_of(const bek_end *end, bek_statistics *totals) {
+int bek_totals_of(const bek_end *end, bek_statistics *totals, size_t size) {
     bek_end asked;
+    bek_statistics told;
     if (end == NULL || totals == NULL) return BEK_ERR_NULL;
+    if (!IS_LENGTH(size)) return BEK_ERR_LENGTH;
     asked = *end;
-    return bekr_totals(&asked, totals);
+    return hands_out(bekr_totals(&asked, &told), totals, size, &told, sizeof told);
 }
 
 /* The meaning of a detail beside a reason; NULL if it has none. */
@@ -353,7 +373,12 @@ size_t bek_leaving_text(const bek_leaving *leaving, char *text, size_t size) {
 
 int bek_hear_notes(bek_end *end, int on) { return end == NULL ? BEK_ERR_NULL : bekr_hear_notes(end, on != 0); }
 
-int bek_next_note(bek_end *end, bek_note *note) { return end == NULL || note == NULL ? BEK_ERR_NULL : bekr_next_note(end, note); }
+int bek_next_note(bek_end *end, bek_note *note, size_t size) {
+    bek_note told;
+    if (end == NULL || note == NULL) return BEK_ERR_NULL;
+    if (!IS_LENGTH(size)) return BEK_ERR_LENGTH;
+    return hands_out(bekr_next_note(end, &told), note, size, &told, sizeof told);
+}
 
 /* Says the word of a value, or its number if it has none. */
 static void say_word(said *s, const char *const *words, size_t count, int32_t value) {

@@ -50,7 +50,8 @@
  * --cpu. bek_open tests that and returns BEK_ERR_PROCESSOR if some are missing.
  *
  * VERSIONS. This header is of version BEK_VERSION; bek_version() returns that of the linked library. Libraries with the same major and minor
- * number have the same ABI. A later library accepts the settings of an earlier header, because bek_settings_init is given their size.
+ * number have the same ABI, and the shared library's name has both. bek_settings_init and each function that fills a struct are given the size of your
+ * header's struct, such as sizeof(bek_counts): no octet after it is written, and members that the library does not know become 0.
  */
 #ifndef BEKWIDAS_H
 #define BEKWIDAS_H
@@ -437,29 +438,29 @@ BEK_MUST_USE int bek_confirmed(const bek_end *end, uint64_t *count);
 BEK_MUST_USE int bek_confirmed_time(const bek_end *end, uint64_t *time);
 
 /* Writes who ended the last connection, why and when: the present one if it has ended, otherwise the last one before bek_reopen. BEK_OK; BEK_NOTHING if
- * no connection of this end has ended, and nothing is written; BEK_ERR_NULL, BEK_ERR_NOT_OPEN. */
-BEK_MUST_USE int bek_departure(const bek_end *end, bek_leaving *leaving);
+ * no connection of this end has ended, and nothing is written; BEK_ERR_NULL, BEK_ERR_LENGTH, BEK_ERR_NOT_OPEN. */
+BEK_MUST_USE int bek_departure(const bek_end *end, bek_leaving *leaving, size_t size);
 
 /* Writes the PDI version that was agreed, and the checksum of the field element's reply. They are known before the first telegram is put or taken: at
  * an interlocking from BEK_REQUESTING on, at a field element from BEK_AWAIT_REQUEST on. They stay after the end is closed, until bek_reopen.
  *
- * BEK_OK; BEK_NOTHING if nothing was agreed, and nothing is written; BEK_ERR_NULL, BEK_ERR_NOT_OPEN. */
-BEK_MUST_USE int bek_agreed(const bek_end *end, bek_agreement *agreement);
+ * BEK_OK; BEK_NOTHING if nothing was agreed, and nothing is written; BEK_ERR_NULL, BEK_ERR_LENGTH, BEK_ERR_NOT_OPEN. */
+BEK_MUST_USE int bek_agreed(const bek_end *end, bek_agreement *agreement, size_t size);
 
 /* Writes what a departure means, in ASCII, cut to `size` octets with a zero at the end, and returns the length of the whole text without the zero.
  * If `leaving` is NULL, the text is empty. */
 size_t bek_leaving_text(const bek_leaving *leaving, char *text, size_t size);
 
-/* Writes what waits for you, what was lost, and how often the end was opened. BEK_OK; BEK_ERR_NULL, BEK_ERR_NOT_OPEN. */
-BEK_MUST_USE int bek_counts_of(const bek_end *end, bek_counts *counts);
+/* Writes what waits for you, what was lost, and how often the end was opened. BEK_OK; BEK_ERR_NULL, BEK_ERR_LENGTH, BEK_ERR_NOT_OPEN. */
+BEK_MUST_USE int bek_counts_of(const bek_end *end, bek_counts *counts, size_t size);
 
-/* Writes what the end has counted since it was opened, by bek_open or bek_reopen. BEK_OK; BEK_ERR_NULL, BEK_ERR_NOT_OPEN. */
-BEK_MUST_USE int bek_statistics_of(const bek_end *end, bek_statistics *statistics);
+/* Writes what the end has counted since it was opened, by bek_open or bek_reopen. BEK_OK; BEK_ERR_NULL, BEK_ERR_LENGTH, BEK_ERR_NOT_OPEN. */
+BEK_MUST_USE int bek_statistics_of(const bek_end *end, bek_statistics *statistics, size_t size);
 
 /* Writes the sums of these counts over all openings, that of now among them; `oldest` and `longest_wait` are the greatest, `last` is the latest. An end
  * that never gets a session shows there why: `strangers` for a wrong identifier, `bad_code` for another code or initial value. BEK_OK; BEK_ERR_NULL,
- * BEK_ERR_NOT_OPEN. */
-BEK_MUST_USE int bek_totals_of(const bek_end *end, bek_statistics *totals);
+ * BEK_ERR_LENGTH, BEK_ERR_NOT_OPEN. */
+BEK_MUST_USE int bek_totals_of(const bek_end *end, bek_statistics *totals, size_t size);
 
 /* Keeps notes of what the end does from now on if `on` is not 0, and no longer if it is 0; those that wait are dropped. A new end keeps none, and
  * bek_reopen leaves this as it is. As long as none is kept, this costs one test for each datagram.
@@ -470,8 +471,8 @@ BEK_MUST_USE int bek_hear_notes(bek_end *end, int on);
 /* Fetches the oldest note. Fetch all after each call: then they are those of the call. Up to 128 wait; if a call makes more, the last one fetched says
  * how many had no room.
  *
- * BEK_OK; BEK_NOTHING if no note waits, and nothing is written; BEK_ERR_NULL, BEK_ERR_NOT_OPEN. */
-BEK_MUST_USE int bek_next_note(bek_end *end, bek_note *note);
+ * BEK_OK; BEK_NOTHING if no note waits, and nothing is written; BEK_ERR_NULL, BEK_ERR_LENGTH, BEK_ERR_NOT_OPEN. */
+BEK_MUST_USE int bek_next_note(bek_end *end, bek_note *note, size_t size);
 
 /* Writes what a note means, in ASCII, cut to `size` octets with a zero at the end, and returns the length of the whole text without the zero. If
  * `note` is NULL, the text is empty. */

@@ -107,11 +107,11 @@ static void says_why(void) {
     bek_leaving leaving;
     bek_statistics totals;
     char text[200];
-    if (bek_departure(&end, &leaving) == BEK_OK) {
+    if (bek_departure(&end, &leaving, sizeof leaving) == BEK_OK) {
         bek_leaving_text(&leaving, text, sizeof text);
         fprintf(stderr, "the connection was ended %s\n", text);
     }
-    if (bek_totals_of(&end, &totals) == BEK_OK && totals.damaged + totals.strangers > 0)
+    if (bek_totals_of(&end, &totals, sizeof totals) == BEK_OK && totals.damaged + totals.strangers > 0)
         fprintf(stderr, "dropped so far: %lu with another safety code, %lu damaged otherwise, %lu with other identifiers\n",
                 (unsigned long)totals.part_faults.bad_code, (unsigned long)(totals.damaged - totals.part_faults.bad_code), (unsigned long)totals.strangers);
 }
