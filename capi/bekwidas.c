@@ -176,39 +176,59 @@ int bek_rooms(const bek_settings *settings, uint32_t *telegrams, uint32_t *datag
 }
 
 int bek_open(bek_end *end, const bek_settings *settings, uint64_t now) {
+    int result;
     if (end == NULL || settings == NULL) return BEK_ERR_NULL;
     if (!is_processor()) return BEK_ERR_PROCESSOR;
-    return bekr_open(end, settings, now);
+    result = bekr_open(end, settings, now);
+    if (result == BEK_OK) end->place_ = end;
+    return result;
 }
 
-int bek_reopen(bek_end *end, uint32_t first_sn, uint64_t now) { return end == NULL ? BEK_ERR_NULL : bekr_reopen(end, first_sn, now); }
+/* The handle is open, and is not at the place where it was opened. */
+static int is_copy(const bek_end *end) { return end->is_open_ == 1 && end->place_ != end; }
+
+int bek_reopen(bek_end *end, uint32_t first_sn, uint64_t now) {
+    if (end == NULL) return BEK_ERR_NULL;
+    return is_copy(end) ? BEK_ERR_COPIED : bekr_reopen(end, first_sn, now);
+}
 
 void bek_free(bek_end *end) {
-    if (end != NULL) bekr_free(end);
+    if (end == NULL || is_copy(end)) return;
+    bekr_free(end);
+    end->place_ = NULL;
 }
 
 int bek_arrive(bek_end *end, uint32_t channel, const uint8_t *octets, size_t length, uint64_t now) {
     if (end == NULL || !IS_ROW(octets, length)) return BEK_ERR_NULL;
     if (!IS_LENGTH(length)) return BEK_ERR_LENGTH;
-    return bekr_arrive(end, channel, ROW(octets), length, now);
+    return is_copy(end) ? BEK_ERR_COPIED : bekr_arrive(end, channel, ROW(octets), length, now);
 }
 
-int bek_tick(bek_end *end, uint64_t now) { return end == NULL ? BEK_ERR_NULL : bekr_tick(end, now); }
+int bek_tick(bek_end *end, uint64_t now) {
+    if (end == NULL) return BEK_ERR_NULL;
+    return is_copy(end) ? BEK_ERR_COPIED : bekr_tick(end, now);
+}
 
 int bek_put(bek_end *end, uint16_t kind, const uint8_t *payload, size_t length, uint64_t now) {
     if (end == NULL || !IS_ROW(payload, length)) return BEK_ERR_NULL;
     if (!IS_LENGTH(length)) return BEK_ERR_LENGTH;
-    return bekr_put(end, kind, ROW(payload), length, now);
+    return is_copy(end) ? BEK_ERR_COPIED : bekr_put(end, kind, ROW(payload), length, now);
 }
 
-int bek_init_done(bek_end *end, uint64_t now) { return end == NULL ? BEK_ERR_NULL : bekr_init_done(end, now); }
+int bek_init_done(bek_end *end, uint64_t now) {
+    if (end == NULL) return BEK_ERR_NULL;
+    return is_copy(end) ? BEK_ERR_COPIED : bekr_init_done(end, now);
+}
 
-int bek_close(bek_end *end, uint64_t now) { return end == NULL ? BEK_ERR_NULL : bekr_close(end, now); }
+int bek_close(bek_end *end, uint64_t now) {
+    if (end == NULL) return BEK_ERR_NULL;
+    return is_copy(end) ? BEK_ERR_COPIED : bekr_close(end, now);
+}
 
 int bek_take(bek_end *end, uint16_t *kind, uint8_t *payload, size_t size, size_t *length) {
     if (end == NULL || kind == NULL || length == NULL || !IS_ROW(payload, size)) return BEK_ERR_NULL;
     if (!IS_LENGTH(size)) return BEK_ERR_LENGTH;
-    return bekr_take(end, kind, ROW(payload), size, length);
+    return is_copy(end) ? BEK_ERR_COPIED : bekr_take(end, kind, ROW(payload), size, length);
 }
 
 int bek_next_datagram(bek_end *end, uint32_t *channel, uint8_t *octets, size_t size, size_t *length) {
@@ -216,6 +236,7 @@ int bek_next_datagram(bek_end *end, uint32_t *channel, uint8_t *octets, size_t s
     int result;
     if (end == NULL || channel == NULL || length == NULL || !IS_ROW(octets, size)) return BEK_ERR_NULL;
     if (!IS_LENGTH(size)) return BEK_ERR_LENGTH;
+    if (is_copy(end)) return BEK_ERR_COPIED;
     result = bekr_next_datagram(end, &on, ROW(octets), size, length);
     if (result == BEK_OK) *channel = (uint32_t)on; /* 1 to BEK_CHANNELS_MAX */
     return result;
@@ -237,6 +258,7 @@ static int hands_out(int result, void *to, size_t size, const void *told, size_t
 int bek_next_deadline(const bek_end *end, uint64_t *deadline) {
     bek_end asked;
     if (end == NULL || deadline == NULL) return BEK_ERR_NULL;
+    if (is_copy(end)) return BEK_ERR_COPIED;
     asked = *end;
     return bekr_next_deadline(&asked, deadline);
 }
@@ -244,6 +266,7 @@ int bek_next_deadline(const bek_end *end, uint64_t *deadline) {
 int bek_state(const bek_end *end) {
     bek_end asked;
     if (end == NULL) return BEK_ERR_NULL;
+    if (is_copy(end)) return BEK_ERR_COPIED;
     asked = *end;
     return bekr_state(&asked);
 }
@@ -251,6 +274,7 @@ int bek_state(const bek_end *end) {
 int bek_phase(const bek_end *end) {
     bek_end asked;
     if (end == NULL) return BEK_ERR_NULL;
+    if (is_copy(end)) return BEK_ERR_COPIED;
     asked = *end;
     return bekr_phase(&asked);
 }
@@ -258,6 +282,7 @@ int bek_phase(const bek_end *end) {
 int bek_is_stale(const bek_end *end) {
     bek_end asked;
     if (end == NULL) return BEK_ERR_NULL;
+    if (is_copy(end)) return BEK_ERR_COPIED;
     asked = *end;
     return bekr_is_stale(&asked);
 }
@@ -265,6 +290,7 @@ int bek_is_stale(const bek_end *end) {
 int bek_settled(const bek_end *end) {
     bek_end asked;
     if (end == NULL) return BEK_ERR_NULL;
+    if (is_copy(end)) return BEK_ERR_COPIED;
     asked = *end;
     return bekr_settled(&asked);
 }
@@ -272,6 +298,7 @@ int bek_settled(const bek_end *end) {
 int bek_confirmed(const bek_end *end, uint64_t *count) {
     bek_end asked;
     if (end == NULL || count == NULL) return BEK_ERR_NULL;
+    if (is_copy(end)) return BEK_ERR_COPIED;
     asked = *end;
     return bekr_confirmed(&asked, count);
 }
@@ -279,6 +306,7 @@ int bek_confirmed(const bek_end *end, uint64_t *count) {
 int bek_confirmed_time(const bek_end *end, uint64_t *time) {
     bek_end asked;
     if (end == NULL || time == NULL) return BEK_ERR_NULL;
+    if (is_copy(end)) return BEK_ERR_COPIED;
     asked = *end;
     return bekr_confirmed_time(&asked, time);
 }
@@ -288,6 +316,7 @@ int bek_departure(const bek_end *end, bek_leaving *leaving, size_t size) {
     bek_leaving told;
     if (end == NULL || leaving == NULL) return BEK_ERR_NULL;
     if (!IS_LENGTH(size)) return BEK_ERR_LENGTH;
+    if (is_copy(end)) return BEK_ERR_COPIED;
     asked = *end;
     return hands_out(bekr_departure(&asked, &told), leaving, size, &told, sizeof told);
 }
@@ -297,6 +326,7 @@ int bek_agreed(const bek_end *end, bek_agreement *agreement, size_t size) {
     bek_agreement told;
     if (end == NULL || agreement == NULL) return BEK_ERR_NULL;
     if (!IS_LENGTH(size)) return BEK_ERR_LENGTH;
+    if (is_copy(end)) return BEK_ERR_COPIED;
     asked = *end;
     return hands_out(bekr_agreed(&asked, &told), agreement, size, &told, sizeof told);
 }
@@ -306,6 +336,7 @@ int bek_counts_of(const bek_end *end, bek_counts *counts, size_t size) {
     bek_counts told;
     if (end == NULL || counts == NULL) return BEK_ERR_NULL;
     if (!IS_LENGTH(size)) return BEK_ERR_LENGTH;
+    if (is_copy(end)) return BEK_ERR_COPIED;
     asked = *end;
     return hands_out(bekr_counts(&asked, &told), counts, size, &told, sizeof told);
 }
@@ -315,6 +346,7 @@ int bek_statistics_of(const bek_end *end, bek_statistics *statistics, size_t siz
     bek_statistics told;
     if (end == NULL || statistics == NULL) return BEK_ERR_NULL;
     if (!IS_LENGTH(size)) return BEK_ERR_LENGTH;
+    if (is_copy(end)) return BEK_ERR_COPIED;
     asked = *end;
     return hands_out(bekr_statistics(&asked, &told), statistics, size, &told, sizeof told);
 }
@@ -324,6 +356,7 @@ int bek_totals_of(const bek_end *end, bek_statistics *totals, size_t size) {
     bek_statistics told;
     if (end == NULL || totals == NULL) return BEK_ERR_NULL;
     if (!IS_LENGTH(size)) return BEK_ERR_LENGTH;
+    if (is_copy(end)) return BEK_ERR_COPIED;
     asked = *end;
     return hands_out(bekr_totals(&asked, &told), totals, size, &told, sizeof told);
 }
@@ -371,12 +404,16 @@ size_t bek_leaving_text(const bek_leaving *leaving, char *text, size_t size) {
     return ends(&s, size);
 }
 
-int bek_hear_notes(bek_end *end, int on) { return end == NULL ? BEK_ERR_NULL : bekr_hear_notes(end, on != 0); }
+int bek_hear_notes(bek_end *end, int on) {
+    if (end == NULL) return BEK_ERR_NULL;
+    return is_copy(end) ? BEK_ERR_COPIED : bekr_hear_notes(end, on != 0);
+}
 
 int bek_next_note(bek_end *end, bek_note *note, size_t size) {
     bek_note told;
     if (end == NULL || note == NULL) return BEK_ERR_NULL;
     if (!IS_LENGTH(size)) return BEK_ERR_LENGTH;
+    if (is_copy(end)) return BEK_ERR_COPIED;
     return hands_out(bekr_next_note(end, &told), note, size, &told, sizeof told);
 }
 

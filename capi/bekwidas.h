@@ -36,13 +36,14 @@
  * each datagram of datagram_room. Only bek_free returns memory; no other function uses the heap. A program without a heap defines malloc,
  * free and realloc over its own array (examples/arena.c). A call uses less than 22,000 octets of stack.
  *
- * THE HANDLE. A bek_end starts as BEK_END_INIT. While it is open you must not copy it or write to it. After bek_free you may open it again.
+ * THE HANDLE. A bek_end starts as BEK_END_INIT. While it is open you must not write to it, and a copy of it is refused: bek_open notes its place, and
+ * each function with an end at another place returns BEK_ERR_COPIED and does nothing (bek_free does nothing). After bek_free you may open it again.
  *
  * POINTERS. If a pointer is NULL, the function returns BEK_ERR_NULL and does nothing; but NULL with length 0 is an empty buffer. A length
  * above PTRDIFF_MAX returns BEK_ERR_LENGTH. Every other pointer must point to as many octets as its length says, and what is written must
  * not overlap anything else of the same call: no function can test that. No pointer is kept after a call.
  *
- * THREADS. Call the functions of one end from one thread, one at a time, and not from a signal handler during another call. Different ends
+ * THREADS. Call the functions of one end one at a time, from any thread, and not from a signal handler during another call. Different ends
  * are independent. No function waits or locks. Each call takes bounded time: it handles at most 64 messages, 32 units, 8 early parts and 4
  * channels.
  *
@@ -116,7 +117,8 @@ typedef enum bek_result {
     BEK_ERR_RESERVED_KIND = -16,     /* the kind is one of the five of the session's establishment, 0x0021 to 0x0025 */
     BEK_ERR_TOO_LONG = -17,          /* the payload has more than BEK_PAYLOAD_MAX octets */
     BEK_ERR_NOT_INITIALISING = -18,  /* this end is not a field element in BEK_INITIALISING */
-    BEK_ERR_PROCESSOR = -20          /* the processor lacks instructions that this library needs (-19 is in bekwidas_toml.h) */
+    BEK_ERR_PROCESSOR = -20,         /* the processor lacks instructions that this library needs (-19 is in bekwidas_toml.h) */
+    BEK_ERR_COPIED = -21             /* the bek_end is a copy: it was made while another one was open, or moved in memory */
 } bek_result;
 
 /* The state of the connection (RaSTA), as bek_state returns it. */
@@ -179,8 +181,9 @@ typedef struct bek_settings {
 typedef struct bek_end {
     void *station_;
     uint32_t is_open_;
+    const void *place_;
 } bek_end;
-#define BEK_END_INIT { 0, 0 }
+#define BEK_END_INIT { 0, 0, 0 }
 
 /* What waits for you, what was lost, and how often the end was opened. */
 typedef struct bek_counts {

@@ -180,9 +180,13 @@ static void passes_on(void) {
     int i;
     for (i = 0; i < 5; i++) told[i] = any();
     end.station_ = (void *)(uintptr_t)any();
-    end.is_open_ = (uint32_t)any();
+    end.is_open_ = any() % 2 ? 1 : (uint32_t)any();
+    end.place_ = &end;
 
+    end.place_ = NULL;
     AT, must(bek_open(&end, &settings, now) == result);
+    must(end.place_ == (result == BEK_OK ? &end : NULL));
+    end.place_ = &end;
     went("open", 0);
     must(got.settings == &settings && got.numbers[0] == now);
     AT, must(bek_reopen(&end, channel, now) == result);
@@ -254,6 +258,8 @@ static void passes_on(void) {
     went("version", 0);
     AT, bek_free(&end);
     went("free", 0);
+    must(end.place_ == NULL);
+    end.place_ = &end;
 }
 
 /* The least and the greatest of each number go on as they are. */
@@ -354,6 +360,35 @@ static void refuses(void) {
     must(bek_counts_of(&end, &counts, long_) == BEK_ERR_LENGTH && bek_statistics_of(&end, &statistics, long_) == BEK_ERR_LENGTH);
     must(bek_totals_of(&end, &statistics, long_) == BEK_ERR_LENGTH && bek_next_note(&end, &note, long_) == BEK_ERR_LENGTH);
     none_went(was);
+}
+
+/* A copy of an open handle is refused, and not passed on; of one that is not open, it is passed on. */
+static void copies(void) {
+    bek_end copy = {&copy, 1, &end};
+    bek_counts counts;
+    bek_leaving leaving;
+    bek_agreement agreement;
+    bek_statistics statistics;
+    bek_note note;
+    uint64_t number;
+    uint32_t channel;
+    uint16_t kind;
+    size_t length;
+    int was = got.calls;
+    must(bek_reopen(&copy, 1, 1) == BEK_ERR_COPIED && bek_arrive(&copy, 1, octets, 1, 1) == BEK_ERR_COPIED && bek_tick(&copy, 1) == BEK_ERR_COPIED);
+    must(bek_put(&copy, 1, octets, 1, 1) == BEK_ERR_COPIED && bek_init_done(&copy, 1) == BEK_ERR_COPIED && bek_close(&copy, 1) == BEK_ERR_COPIED);
+    must(bek_take(&copy, &kind, octets, 1, &length) == BEK_ERR_COPIED && bek_next_datagram(&copy, &channel, octets, 1, &length) == BEK_ERR_COPIED);
+    must(bek_next_deadline(&copy, &number) == BEK_ERR_COPIED && bek_state(&copy) == BEK_ERR_COPIED && bek_phase(&copy) == BEK_ERR_COPIED);
+    must(bek_is_stale(&copy) == BEK_ERR_COPIED && bek_settled(&copy) == BEK_ERR_COPIED && bek_confirmed(&copy, &number) == BEK_ERR_COPIED);
+    must(bek_confirmed_time(&copy, &number) == BEK_ERR_COPIED && bek_departure(&copy, &leaving, sizeof leaving) == BEK_ERR_COPIED);
+    must(bek_agreed(&copy, &agreement, sizeof agreement) == BEK_ERR_COPIED && bek_counts_of(&copy, &counts, sizeof counts) == BEK_ERR_COPIED);
+    must(bek_statistics_of(&copy, &statistics, sizeof statistics) == BEK_ERR_COPIED && bek_totals_of(&copy, &statistics, 8) == BEK_ERR_COPIED);
+    must(bek_hear_notes(&copy, 1) == BEK_ERR_COPIED && bek_next_note(&copy, &note, sizeof note) == BEK_ERR_COPIED);
+    bek_free(&copy);
+    must(copy.is_open_ == 1 && copy.place_ == &end);
+    none_went(was);
+    copy.is_open_ = 0;
+    must(bek_tick(&copy, 1) == result && got.calls == was + 1 && got.end == &copy);
 }
 
 /* Every member of the settings has its default, and no octet after them is written. */
@@ -561,6 +596,7 @@ int main(void) {
         empty();
     }
     refuses();
+    copies();
     defaults();
     texts();
     note_texts();
