@@ -44,6 +44,13 @@ static uint8_t none[1];
 #define BEK_COMMIT "unknown"
 #endif
 
+/* Whether the functions of the crate were compiled after their proof. capi/build says that they were not. */
+#ifdef BEK_NOT_PROVED
+#define BEK_PROOF ", NOT PROVED"
+#else
+#define BEK_PROOF ""
+#endif
+
 /* A buffer is NULL only if it is empty. No length is above half the address space. */
 #define IS_ROW(octets, length) ((octets) != NULL || (length) == 0)
 #define IS_LENGTH(length) ((length) <= PTRDIFF_MAX)
@@ -116,7 +123,7 @@ size_t bek_version_text(char *text, size_t size) {
     say_number(&s, version >> 8 & 0xff);
     say(&s, ".");
     say_number(&s, version & 0xff);
-    say(&s, ", commit " BEK_COMMIT);
+    say(&s, ", commit " BEK_COMMIT BEK_PROOF);
     return ends(&s, size);
 }
 

@@ -311,7 +311,7 @@ BEK_MUST_USE uint32_t bek_version(void);
 
 /* Writes the version of the library and the commit that it was built from, such as "0.3.0, commit 0123456789ab", in ASCII, cut to `size` octets with a
  * zero at the end, and returns the length of the whole text without the zero. The commit ends with "-changed" if sources were changed after it, and is
- * "unknown" if they were not in a clone. */
+ * "unknown" if they were not in a clone. ", NOT PROVED" follows if the library was compiled without a proof. */
 size_t bek_version_text(char *text, size_t size);
 
 /* Fills settings with the defaults above and zeros. `size` is sizeof(bek_settings) of your header: no octet after it is written.

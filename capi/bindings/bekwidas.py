@@ -3,7 +3,7 @@
     import bekwidas
     end = bekwidas.End(settings, now)
 
-It loads libbekwidas.so.0, or the file that the variable BEKWIDAS_SO names.
+It loads libbekwidas.so.0.3, or the file that the variable BEKWIDAS_SO names.
 """
 import ctypes
 import os
@@ -25,7 +25,7 @@ NOTE_STATE, NOTE_PHASE, NOTE_DATAGRAM, NOTE_PDU, NOTE_TAKE, NOTE_LEFT_OUT = rang
 (PDU_TAKEN, PDU_GAP, PDU_LEFT, PDU_CLOSED, PDU_DAMAGED, PDU_STRANGER, PDU_UNOPENED, PDU_FAR, PDU_UNREQUESTED, PDU_ANSWERED, PDU_BELOW) = range(11)
 BY_OWN, BY_PEER, NO_VERSION = 1, 2, 256
 
-_library = ctypes.CDLL(os.environ.get("BEKWIDAS_SO", "libbekwidas.so.0"))
+_library = ctypes.CDLL(os.environ.get("BEKWIDAS_SO", "libbekwidas.so.0.3"))
 
 
 class _Handle(ctypes.Structure):

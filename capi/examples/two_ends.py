@@ -1,7 +1,7 @@
 #!/usr/bin/env python3
 """Two ends in one process, by capi/bindings/bekwidas.py: a test bench whose first channel loses every tenth datagram.
 
-    BEKWIDAS_SO=PREFIX/lib/libbekwidas.so.0 python3 two_ends.py
+    BEKWIDAS_SO=PREFIX/lib/libbekwidas.so.0.3 python3 two_ends.py
 """
 import os
 import random
