@@ -203,7 +203,7 @@ int main(int argc, char **argv) {
     pass(&il, &fe);
     must(bek_state(&fe) == BEK_CLOSED && bek_state(&il) == BEK_CLOSED, "closed");
     uint64_t deadline;
-    must(bek_next_deadline(&il, &deadline) == BEK_NOTHING, "a closed end has no deadline");
+    must(bek_next_deadline(&il, &deadline) == BEK_OK && deadline == now + 1800 / 4, "a closed end is due after its wait");
     must(bek_reopen(&fe, 1, now) == BEK_ERR_TAKE_FIRST, "the empty telegram waits");
     while (bek_take(&fe, &kind, big, sizeof big, &length) == BEK_OK) {}
     before = allocations;
