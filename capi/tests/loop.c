@@ -1,17 +1,16 @@
-/* The loop of bekwidas.h at both ends, driven only by arrivals and by bek_next_deadline, with peers that cannot or do not work together: in 10 s the
- * interlocking is opened at most 12 times, and the field element, which sends nothing when it is opened, 20 times; the cause can be read after any number
- * of reopenings, and a peer that is mended gets a session. A pair that fits opens once, and comes back if either program is started again. */
+/* The loop of bekwidas.h at both ends, driven only by arrivals and by bek_next_deadline, with peers that cannot or do not work together: each end is opened
+ * at most 12 times in 10 s, the cause can be read after any number of reopenings, and a peer that is mended gets a session. A pair that fits opens once,
+ * and comes back if either program is started again. */
 #include "bekwidas.h"
 
 #include <stdio.h>
 #include <stdlib.h>
 #include <string.h>
 
-enum { IL = 0, FE = 1, ROOM = 4000, DELAY = 2, SECONDS = 10000, T_MAX = 1800 };
+enum { IL = 0, FE = 1, ROOM = 4000, DELAY = 2, SECONDS = 10000, T_MAX = 1800, OPENINGS_MOST = 12 };
 typedef enum fault { NONE, NAME, CODE, VALUE, IDENTIFIER, VERSION, CLOSES, DEAF, FAULTS } fault;
 static const char *const names[FAULTS] = {"none", "name", "code", "initial value", "identifier", "version", "closes at once", "deaf"};
 
-static const uint64_t openings_most[2] = {12, 20};
 static bek_end ends[2];
 static struct {
     int to;
@@ -95,17 +94,17 @@ static void turns(int i) {
 /* Lets both programs run until a time. */
 static void runs(uint64_t until) {
     for (; now < until; now++) {
-        int i;
+        int i, came[2] = {0, 0};
         for (; first < after && wire[first % ROOM].at <= now; first++) {
             size_t k = first % ROOM;
             if (wire[k].to < 0) continue;
             must(bek_arrive(&ends[wire[k].to], wire[k].channel, wire[k].octets, wire[k].length, now) == BEK_OK);
             drain(wire[k].to);
-            turns(wire[k].to);
+            came[wire[k].to] = 1;
         }
         for (i = 0; i < 2; i++) {
             uint64_t deadline;
-            if (bek_next_deadline(&ends[i], &deadline) == BEK_OK && deadline <= now) turns(i);
+            if (came[i] || (bek_next_deadline(&ends[i], &deadline) == BEK_OK && deadline <= now)) turns(i);
         }
     }
 }
@@ -154,7 +153,7 @@ static void tries(fault it) {
     runs(start + SECONDS);
     says_why();
     for (i = 0; i < 2; i++) {
-        must(bek_counts_of(&ends[i], &counts[i], sizeof counts[i]) == BEK_OK && counts[i].openings <= (it == NONE ? 1 : openings_most[i]));
+        must(bek_counts_of(&ends[i], &counts[i], sizeof counts[i]) == BEK_OK && counts[i].openings <= (it == NONE ? 1 : OPENINGS_MOST));
         must(wakes[i] < 1000);
     }
     must((it == NONE) == are_established());
