@@ -30,7 +30,8 @@
  * If no session begins, bek_departure and bek_totals_of say why. The examples in capi/examples show the complete loop.
  *
  * TIME is in whole milliseconds of a clock that never decreases, such as CLOCK_MONOTONIC, and is at most 2^62. A call with an earlier time
- * than the last accepted call of the same end returns BEK_ERR_TIME and does nothing.
+ * than the last accepted call of the same end returns BEK_ERR_TIME and does nothing. If your clock is a counter of 32 bits, count its wraps:
+ * `if (tick < last) high += (uint64_t)1 << 32; last = tick; now = high + tick;`.
  *
  * MEMORY. bek_open allocates all the memory of an end by malloc: about 77,000 octets, 373 for each telegram of telegram_room, and 1,274 for
  * each datagram of datagram_room. Only bek_free returns memory; no other function uses the heap. A program without a heap defines malloc,
