@@ -67,12 +67,7 @@ impl Openings {
     }
 
     /// Returns what is kept when the end is opened again: it has these counts, and this departure if it is closed.
-    pub fn next(
-        &self,
-        counts: &Statistics,
-        departed: Option<Departure>,
-        now: Milliseconds,
-    ) -> Self
+    pub fn next(&self, counts: &Statistics, departed: Option<Departure>, now: Milliseconds) -> Self
         // The opening is counted, and the counts are added. The row of openings that did not last goes on, or is 0 if
         // 2 * T_max passed from the last opening until the end was closed. The latest departure is kept.
         ensures { result ≡ kept.next_opening self.now counts.now departed now }
