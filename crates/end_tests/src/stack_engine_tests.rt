@@ -1,6 +1,6 @@
 //! Worked cases of two ends, all through `Pair::run`, and events for which there is no memory.
 
-use crate::assertions::{assert_equal, assert_equal_at, assert_true};
+use crate::assertions::{assert_equal, assert_equal_at};
 use crate::stack_end_tests::config;
 use end_settings::{EndConfig, Side};
 use linked_list_allocator::LocalHeap;
@@ -16,23 +16,63 @@ const IL: Side = Side::Interlocking;
 
 const FE: Side = Side::FieldElement;
 
-fn event<'a>(side: Side, time: u64, doing: Action<'a>) -> Event<'a> {
-    Event { side, time, doing }
-}
-
-fn opening<'a>(config: &EndConfig, first_sn: u32) -> Action<'a> {
-    Action::Open {
-        config: *config,
-        first_sn,
+fn ticking<'a>(time: u64) -> Event<'a> {
+    Event {
+        side: FE,
+        time,
+        doing: Action::Call(Call::Tick),
     }
 }
 
-fn command<'a>(payload: &'a [u8]) -> Action<'a> {
-    let kind = 0x100;
-    Action::Call(Call::Put { kind, payload })
+/// How many of the events happen in which time passes at the field element.
+fn ticks(pair: &mut Pair, time: u64) -> Option<usize> {
+    pair.run(&[ticking(time)]).ok()
 }
 
-const TICK: Action<'static> = Action::Call(Call::Tick);
+/// How many of the events happen in which the field element ends its initialisation.
+fn ends_initialisation(pair: &mut Pair) -> Option<usize> {
+    let event = Event {
+        side: FE,
+        time: 0,
+        doing: Action::Call(Call::InitDone),
+    };
+    pair.run(&[event]).ok()
+}
+
+/// How many of the events happen in which a command is put.
+fn puts(pair: &mut Pair, payload: &[u8]) -> Option<usize> {
+    let kind = 0x100;
+    let event = Event {
+        side: IL,
+        time: 0,
+        doing: Action::Call(Call::Put { kind, payload }),
+    };
+    pair.run(&[event]).ok()
+}
+
+/// How many of the events happen in which a datagram comes to an end on a channel.
+fn comes(pair: &mut Pair, side: Side, time: u64, channel: usize, octets: &[u8]) -> Option<usize> {
+    let event = Event {
+        side,
+        time,
+        doing: Action::Call(Call::Deliver { channel, octets }),
+    };
+    pair.run(&[event]).ok()
+}
+
+/// How many of three events happen: the field element is ticked before it is opened, then both ends are opened.
+fn opens_both(pair: &mut Pair, il: &EndConfig, fe: &EndConfig) -> Option<usize> {
+    let opening = |side, config: &EndConfig, first_sn| Event {
+        side,
+        time: 0,
+        doing: Action::Open {
+            config: *config,
+            first_sn,
+        },
+    };
+    let events = [ticking(5), opening(FE, fe, 500), opening(IL, il, 100)];
+    pair.run(&events).ok()
+}
 
 /// A datagram: the side to which it goes, and its octets.
 type Datagram = (Side, Vec<u8>);
@@ -66,23 +106,13 @@ fn keep(
     Ok(())
 }
 
-/// How many events happen: `Pair::run` without its long contract, which no test needs.
-fn run(pair: &mut Pair, events: &[Event<'_>]) -> Option<usize> {
-    pair.run(events).ok()
-}
-
 impl World {
     /// The field element is ticked before it is opened; then both ends are opened.
     fn open(rt: &impl AllocGlobal) -> Result<World, Fail> {
         let il = config(IL).ok_or("settings")?;
         let fe = config(FE).ok_or("settings")?;
         let mut pair = Pair::new(rt.alloc());
-        let events = [
-            event(FE, 5, TICK),
-            event(FE, 0, opening(&fe, 500)),
-            event(IL, 0, opening(&il, 100)),
-        ];
-        if run(&mut pair, &events) != Some(2) {
+        if opens_both(&mut pair, &il, &fe) != Some(2) {
             return Err("two of three events".into());
         }
         let mut world = World {
@@ -91,20 +121,16 @@ impl World {
             gone: 0,
             lines: Vec::new(rt.alloc()),
         };
-        world.keep(rt.alloc(), IL)?;
+        world.keep(rt.alloc(), IL, Some(1))?;
         Ok(world)
     }
 
-    fn keep(&mut self, alloc: Global, side: Side) -> Result<(), Fail> {
-        keep(alloc, &self.pair, side, &mut self.made, &mut self.lines)
-    }
-
-    /// An event happens.
-    fn happens(&mut self, alloc: Global, event: Event<'_>) -> Result<(), Fail> {
-        if run(&mut self.pair, &[event]) != Some(1) {
+    /// Keeps what an event of this side did, if it happened.
+    fn keep(&mut self, alloc: Global, side: Side, happened: Option<usize>) -> Result<(), Fail> {
+        if happened != Some(1) {
             return Err("refused".into());
         }
-        self.keep(alloc, event.side)
+        keep(alloc, &self.pair, side, &mut self.made, &mut self.lines)
     }
 
     /// The next datagram comes on these channels in turn; answers whether there was one.
@@ -113,12 +139,10 @@ impl World {
             return Ok(false);
         };
         let (side, octets) = (*side, Vec::from_slice(alloc, octets.as_slice())?);
-        let octets = octets.as_slice();
         self.gone = self.gone.wrapping_add(1);
         for channel in channels {
-            let channel = *channel;
-            let delivery = Action::Call(Call::Deliver { channel, octets });
-            self.happens(alloc, event(side, time, delivery))?;
+            let happened = comes(&mut self.pair, side, time, *channel, octets.as_slice());
+            self.keep(alloc, side, happened)?;
         }
         Ok(true)
     }
@@ -136,17 +160,25 @@ impl World {
     /// A session is established over the first channel, and commands are put into it.
     fn establish(&mut self, alloc: Global, commands: &[&[u8]]) -> Result<(), Fail> {
         self.flow(alloc, 0, &[1])?;
-        self.happens(alloc, event(FE, 0, Action::Call(Call::InitDone)))?;
+        let ended = ends_initialisation(&mut self.pair);
+        self.keep(alloc, FE, ended)?;
         self.flow(alloc, 0, &[1])?;
         self.lines.clear();
         for payload in commands {
-            self.happens(alloc, event(IL, 0, command(payload)))?;
+            let put = puts(&mut self.pair, payload);
+            self.keep(alloc, IL, put)?;
         }
         Ok(())
     }
 
+    /// Time passes at the field element.
+    fn tick(&mut self, alloc: Global, time: u64) -> Result<(), Fail> {
+        let ticked = ticks(&mut self.pair, time);
+        self.keep(alloc, FE, ticked)
+    }
+
     /// The session is established at both ends, and the field element took this number of commands, of which the first is 0.
-    fn has_taken(&self, rt: &impl Abort, count: usize) -> Result<(), Fail> {
+    fn has_taken(&self, rt: &impl Abort, count: u8) -> Result<(), Fail> {
         for side in [IL, FE] {
             let end = self.pair.end_of(side).ok_or("no end")?;
             let stands = (end.state(), end.phase());
@@ -154,13 +186,13 @@ impl World {
         }
         let entry = self.pair.report(FE, 0).ok_or("no entry")?;
         assert_equal(rt, entry.joined, Some(0));
-        assert_equal(rt, entry.taken.len(), count);
-        for place in 0..count {
+        assert_equal(rt, entry.taken.len(), usize::from(count));
+        for number in 0..count {
             let found = entry
                 .taken
-                .get(place)
+                .get(usize::from(number))
                 .map(|(kind, payload)| (*kind, payload));
-            assert_equal(rt, found, Some((0x100, [place as u8].as_slice())));
+            assert_equal(rt, found, Some((0x100, [number].as_slice())));
         }
         Ok(())
     }
@@ -213,15 +245,37 @@ fn loses_a_unit(rt: &(impl AllocGlobal + Abort), world: &mut World) -> Result<()
     world.establish(alloc, &[&[0], &[1]])?;
     world.gone = world.gone.wrapping_add(1);
     world.next(alloc, 0, &[1])?;
-    world.happens(alloc, event(FE, 50, TICK))?;
+    world.tick(alloc, 50)?;
     world.flow(alloc, 50, &[1])?;
     world.has_taken(rt, 2)?;
     for (time, is_settled) in [(50, false), (349, false), (350, true)] {
-        world.happens(alloc, event(FE, time, TICK))?;
+        world.tick(alloc, time)?;
         world.flow(alloc, time, &[1])?;
         assert_equal_at(rt, time, world.is_settled(IL), is_settled);
     }
     Ok(())
+}
+
+/// Time passes at the field element.
+fn tick<A: Allocator + Copy>(pair: &mut Pair<A>, time: u64) -> Result<(), ApplyFault> {
+    pair.apply(&ticking(time))
+}
+
+/// An end is opened at 10 milliseconds.
+fn open<A: Allocator + Copy>(
+    pair: &mut Pair<A>,
+    side: Side,
+    config: &EndConfig,
+    first_sn: u32,
+) -> Result<(), ApplyFault> {
+    pair.apply(&Event {
+        side,
+        time: 10,
+        doing: Action::Open {
+            config: *config,
+            first_sn,
+        },
+    })
 }
 
 /// How a pair stands: its events, its incarnations, and the phase of the field element.
@@ -236,18 +290,27 @@ fn standing<A: Allocator + Copy>(pair: &Pair<A>) -> Standing {
     )
 }
 
-/// How many of four events happen: both ends are opened, the interlocking twice. The first that finds no room changes nothing.
-fn count(rt: &impl Abort, pair: &mut Pair<&LocalHeap>, il: &EndConfig, fe: &EndConfig) -> usize {
-    let events = [
-        event(FE, 10, opening(fe, 500)),
-        event(FE, 20, TICK),
-        event(IL, 10, opening(il, 100)),
-        event(IL, 10, opening(il, 200)),
-    ];
+/// One of four events happens: both ends are opened, the interlocking twice.
+fn step(pair: &mut Pair<&LocalHeap>, place: u8, il: &EndConfig, fe: &EndConfig) -> bool {
+    let done = match place {
+        0 => open(pair, FE, fe, 500),
+        1 => tick(pair, 20),
+        2 => open(pair, IL, il, 100),
+        _ => open(pair, IL, il, 200),
+    };
+    done.is_ok()
+}
+
+/// How many of four events happen in a heap; the first that finds no room changes nothing.
+fn count_in(rt: &impl Abort, heap: &LocalHeap, il: &EndConfig, fe: &EndConfig) -> u8 {
+    let mut pair = Pair::new(heap);
+    count(rt, &mut pair, il, fe)
+}
+
+fn count(rt: &impl Abort, pair: &mut Pair<&LocalHeap>, il: &EndConfig, fe: &EndConfig) -> u8 {
     for place in 0..4 {
         let before = standing(pair);
-        if let Err(fault) = pair.apply(&events[place]) {
-            assert_equal(rt, fault, ApplyFault::Memory);
+        if !step(pair, place, il, fe) {
             assert_equal(rt, standing(pair), before);
             return place;
         }
@@ -263,8 +326,8 @@ fn refuses_for_want_of_memory(rt: HostRuntime) -> Result<(), Fail> {
     let mut found = [false; 5];
     for size in 0..500 {
         let heap = LocalHeap::new(rt.alloc(), size * 4_000)?;
-        let count = count(&rt, &mut Pair::new(&heap), &il, &fe);
-        if let Some(place) = found.get_mut(count) {
+        let count = count_in(&rt, &heap, &il, &fe);
+        if let Some(place) = found.get_mut(usize::from(count)) {
             *place = true;
         }
     }
