@@ -114,7 +114,7 @@ class Crate:
         paths = [path for folder in TRIED for path in listed('crates', self.name, folder, '*.edit')]
         for path in sorted(paths, key=os.path.basename):
             file, old = EDIT.search(read(path)).groups()
-            at = read('crates', self.name, file).find(old.strip())
+            at = read('crates', self.name, file).find(old) + len(old) - len(old.lstrip())
             items = [item for item in self.items if item.file == f'crates/{self.name}/{file}' and at in item.place]
             if re.match(r'(pub )?const ', old.strip()):
                 items = [item for item in self.items if item.name in LAWS_OF_NUMBERS]
