@@ -208,7 +208,7 @@ static void tests_counts(int i) {
     side *s = &sides[i];
     bek_statistics counts;
     int k;
-    must(bek_statistics_of(&s->end, &counts) == BEK_OK, "statistics");
+    must(bek_statistics_of(&s->end, &counts, sizeof counts) == BEK_OK, "statistics");
     for (k = 0; k < CHANNELS; k++) must(counts.channels[k].received == s->received[k], "channel %d: received", k + 1);
     must(counts.units == s->units && counts.resent == s->resent && counts.heartbeats == s->beats && counts.requests == s->requests &&
              counts.answers == s->answers, "counts of PDUs made");
@@ -251,7 +251,7 @@ static void opens(int i) {
     bek_leaving leaving;
     if (s->is_open) {
         tests_counts(i);
-        if (bek_departure(&s->end, &leaving) == BEK_OK) ended[leaving.reason & 7]++;
+        if (bek_departure(&s->end, &leaving, sizeof leaving) == BEK_OK) ended[leaving.reason & 7]++;
     }
     s->settings.first_sn = first_sn;
     s->incarnation++;
@@ -274,7 +274,7 @@ static void begins(void) {
         must(bek_settings_init(s, sizeof *s) == BEK_OK, "settings");
         s->side = i ? BEK_FIELD_ELEMENT : BEK_INTERLOCKING;
         s->id = 1 + (uint32_t)i, s->peer_id = 2 - (uint32_t)i, s->protocol = 1, s->channels = CHANNELS, s->version_count = 1, s->versions[0] = 1;
-        s->n_sendmax = 4, s->mwa = 3, s->q = Q, s->t_max = T_MAX, s->t_h = 1000, s->t_seq = 70, s->pdu_limit = 50000;
+        s->n_sendmax = 4, s->mwa = 3, s->q = Q, s->t_max = T_MAX, s->t_h = 1000, s->t_seq = 70, s->pdu_limit = 20000;
         strcpy(s->name, i ? "FE1" : "IL1");
         strcpy(s->peer_name, i ? "IL1" : "FE1");
         must(bek_rooms(s, &s->telegram_room, &s->datagram_room) == BEK_OK, "rooms");
@@ -400,7 +400,7 @@ int main(int argc, char **argv) {
     must(calm_up > calm_time / 100 * 99, "not connected, though the network is well");
     must(taken_all > put_all / 100 * 99, "too little is taken");
     must(fresh > taken_all / 100 * 99, "freshness is seldom seen");
-    must(size_of_process() <= size + 16, "the process has grown from %ld to %ld pages", size, size_of_process());
+    must(size_of_process() <= size + 64, "the process has grown from %ld to %ld pages", size, size_of_process());
     for (i = 0; i < 2; i++) bek_free(&sides[i].end);
     return 0;
 }
