@@ -70,7 +70,11 @@ fn accepts_the_words_of_short_runs(rt: HostRuntime) -> Result<(), Fail> {
     let script = "ends.sim";
     reads_as(&rt, "rasta sim ends.sim", Request::Sim { script })?;
     let file = "ends.toml";
-    reads_as(&rt, "rasta check ends.toml", Request::Check { file })
+    reads_as(
+        &rt,
+        "rasta check ends.toml",
+        Request::Check { file, peer: None },
+    )
 }
 
 // The defaults of `follow`, and each of its options.
