@@ -8,7 +8,7 @@ mod assertions;
 #[cfg(test)]
 mod capture_tests;
 #[cfg(test)]
-mod capture_text_tests;
+
 #[cfg(test)]
 mod channels_tests;
 #[cfg(test)]

@@ -1,0 +1,5 @@
+pub mod Numbers
+pub mod Lives
+pub mod Sessions
+pub mod Causes
+pub mod Laws
