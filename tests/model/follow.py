@@ -577,15 +577,6 @@ class Follower:
             self.out('connection', entry.sum_up())
 
 
-def words_of(value):
-    """The words of a value in a line of text."""
-    if isinstance(value, dict):
-        return [word for name, one in value.items() for word in words_of(one) if True] if not value else sum(([name, *words_of(one)] for name, one in value.items()), [])
-    if isinstance(value, bool):
-        return [str(value).lower()]
-    return [str(value)]
-
-
 def text_of(name, record):
     """A record as a line of text: names and values; a list has its name, then that of each item."""
     def pairs(name, value):
@@ -593,8 +584,14 @@ def text_of(name, record):
             return [name, *(word for one in value for word in pairs('', one))]
         if isinstance(value, dict):
             return [name] * bool(name) + [word for key, one in value.items() for word in pairs(key, one)]
-        return [name, *words_of(value)]
+        return [name, str(value).lower() if isinstance(value, bool) else str(value)]
     return ' '.join(pairs(name, record))
+
+
+def host_of(octets):
+    """An IPv6 address in brackets; one that stands for an address of IPv4 ends in it."""
+    address = ipaddress.ip_address(octets)
+    return '[%s]' % ('::ffff:%s' % address.ipv4_mapped if address.ipv4_mapped else address)
 
 
 def datagrams_in(octets):
@@ -608,7 +605,7 @@ def datagrams_in(octets):
             hosts = [str(ipaddress.ip_address(frame[head + at:head + at + 4])) for at in (12, 16)]
             udp = head + 4 * (frame[head] % 16)
         elif kind == 0x86dd and frame[head + 6] == 17:
-            hosts = ['[%s]' % ipaddress.ip_address(frame[head + at:head + at + 16]) for at in (8, 24)]
+            hosts = [host_of(frame[head + at:head + at + 16]) for at in (8, 24)]
             udp = head + 40
         else:
             yield line, None, None, None, None, None

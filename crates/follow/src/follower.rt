@@ -1,8 +1,8 @@
 //! All connections of a recording.
 
-ghost use Rattle.std.specs.Prelude.{◌≡◌, ◌≤◌, ◌<◌, vec_len};
-
-
+ghost use Rattle.std.specs.Prelude.{◌≡◌, ◌≤◌, ◌<◌, IfOk, IfSome, OnOk, vec_len};
+ghost use Rattle.follow.specs.Numbers.{limited_sum};
+ghost use Rattle.follow.specs.Followers.{damaged_with};
 
 use crate::connection::{Connection, Taken};
 use crate::life::{is_new, is_opening, missing};
@@ -88,7 +88,16 @@ impl Follower {
         record: &Record,
         heard: &DecodedDatagram,
         out: &mut O,
-    ) -> Result<(), AllocError> {
+    ) -> Result<(), AllocError>
+        // The datagram is counted.
+        ensures counted { self.new.datagrams ≡ limited_sum self.old.datagrams 1 }
+        // It is counted as damaged exactly if it is no PDU.
+        ensures damaged { OnOk result (self.new.damaged ≡ damaged_with self.old.damaged heard.now) }
+        // No connection is forgotten.
+        ensures kept { vec_len self.old.connections ≤ vec_len self.new.connections }
+        // There are never more than 256.
+        ensures most { vec_len self.old.connections ≤ CONNECTIONS → vec_len self.new.connections ≤ CONNECTIONS }
+    {
         self.datagrams = self.datagrams.saturating_add(1);
         self.tell_before(alloc, record.time, out)?;
         match *heard {
@@ -137,7 +146,11 @@ impl Follower {
         alloc: Global,
         time: u64,
         out: &mut O,
-    ) -> Result<(), AllocError> {
+    ) -> Result<(), AllocError>
+        ensures datagrams { self.new.datagrams ≡ self.old.datagrams }
+        ensures damaged { self.new.damaged ≡ self.old.damaged }
+        ensures connections { vec_len self.new.connections ≡ vec_len self.old.connections }
+    {
         if time.saturating_sub(self.looked) >= 1_000_000 {
             self.looked = time;
             for entry in self.connections.iter_mut() {
@@ -158,7 +171,9 @@ impl Follower {
     }
 
     /// Returns the place of the connection between two ends on a known channel.
-    fn between(&self, header: &Header, record: &Record) -> Option<usize> {
+    fn between(&self, header: &Header, record: &Record) -> Option<usize>
+        ensures { IfSome result (λ place. place < vec_len self.now.connections) }
+    {
         if let Some(newest) = self.connections.get(self.newest) {
             if is_of(newest, header) && newest.route(record.source, record.destination).is_some() {
                 return Some(self.newest);
@@ -170,7 +185,9 @@ impl Follower {
     }
 
     /// Returns the place of the connection that a PDU between new addresses goes on with.
-    fn continued(&self, red: u32, header: &Header) -> Option<usize> {
+    fn continued(&self, red: u32, header: &Header) -> Option<usize>
+        ensures { IfSome result (λ place. place < vec_len self.now.connections) }
+    {
         self.connections
             .iter()
             .position(|entry| is_of(entry, header) && entry.goes_on(red, None, header))
@@ -183,7 +200,13 @@ impl Follower {
         red: u32,
         header: &Header,
         record: &Record,
-    ) -> Result<Option<usize>, AllocError> {
+    ) -> Result<Option<usize>, AllocError>
+        ensures found { IfOk result (λ found. IfSome found (λ place. place < vec_len self.new.connections)) }
+        ensures datagrams { self.new.datagrams ≡ self.old.datagrams }
+        ensures damaged { self.new.damaged ≡ self.old.damaged }
+        ensures kept { vec_len self.old.connections ≤ vec_len self.new.connections }
+        ensures most { vec_len self.old.connections ≤ CONNECTIONS → vec_len self.new.connections ≤ CONNECTIONS }
+    {
         if let Some(place) = self.between(header, record) {
             return Ok(Some(place));
         }
@@ -210,7 +233,12 @@ impl Follower {
         red: u32,
         header: &Header,
         out: &mut O,
-    ) -> Result<(), AllocError> {
+    ) -> Result<(), AllocError>
+        ensures datagrams { self.new.datagrams ≡ self.old.datagrams }
+        ensures damaged { self.new.damaged ≡ self.old.damaged }
+        ensures kept { vec_len self.old.connections ≤ vec_len self.new.connections }
+        ensures most { vec_len self.old.connections ≤ CONNECTIONS → vec_len self.new.connections ≤ CONNECTIONS }
+    {
         let Some(place) = self.place(alloc, red, header, record)? else {
             self.left_out = self.left_out.saturating_add(1);
             return Ok(());
@@ -239,7 +267,11 @@ impl Follower {
         Ok(())
     }
 
-    fn damage(&mut self, record: &Record, number: Option<u32>) {
+    fn damage(&mut self, record: &Record, number: Option<u32>)
+        ensures datagrams { self.new.datagrams ≡ self.old.datagrams }
+        ensures damaged { self.new.damaged ≡ limited_sum self.old.damaged 1 }
+        ensures connections { vec_len self.new.connections ≡ vec_len self.old.connections }
+    {
         self.damaged = self.damaged.saturating_add(1);
         for entry in self.connections.iter_mut() {
             if let Some((_, low)) = entry.route(record.source, record.destination) {

@@ -4,6 +4,7 @@
 mod connection;
 mod cut;
 mod follower;
+mod law;
 mod life;
 mod moment;
 mod numbers;
@@ -14,6 +15,7 @@ mod text;
 pub use connection::{Connection, Counts, Sums, Taken, is_outage};
 pub use cut::decode_cut;
 pub use follower::{CONNECTIONS, Follower, Output, Told};
+pub use law::numbers_law;
 pub use life::{CHANNELS, Heard, KEPT, Leave, Life, News, Recent, SILENT, Said};
 pub use moment::{Moment, Place};
 pub use numbers::{Numbers, Order, WINDOW, span};
