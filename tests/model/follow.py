@@ -123,7 +123,9 @@ class Life:
             back, self.silent[channel] = max(0, time - since), None
             self.silences[channel] += back
         self.heard[channel] = time
-        news = dict(all=order, channel=on_channel, copy_of=None, differs=False, back=back, silent=None, age=None, waits=None, longest=False, after_damage=False)
+        gap = on_channel[1] if on_channel[0] == 'ahead' else 0
+        lost_here = max(0, gap - WINDOW + 1) + sum(self.all.judge((red - back) % RING)[0] not in NEW for back in range(1, min(gap, WINDOW - 1) + 1))
+        news = dict(all=order, lost_here=lost_here, copy_of=None, differs=False, back=back, silent=None, age=None, waits=None, longest=False, after_damage=False)
         if order[0] == 'repeat' and row:
             news['copy_of'], news['differs'] = row['line'], row['octets'] != pdu.octets
             self.differing += news['differs']
@@ -539,10 +541,10 @@ class Follower:
             self.out('damaged', told(time=date(time), line=line, source=source, destination=destination, red_=number, fault=fault))
 
     def tell_datagram(self, entry, time, line, red, pdu, session, channel, news):
-        missing = [order[1] if order[0] == 'ahead' else None for order in (news['all'], news['channel'])]
+        lost = news['all'][1] if news['all'][0] == 'ahead' else None
         self.out('datagram', told(time=date(time), line=line, connection=entry.number, session=session.number, from_=pdu.sender, to_=pdu.receiver,
                                   channel=channel + 1, red_=red, kind=pdu.kind, sn_=pdu.sn, cs_=pdu.cs, ts_=pdu.ts, cts_=pdu.cts, copy_of=news['copy_of'],
-                                  lost=missing[0], lost_here=missing[1], age_ms_=news['age'], waits_ms_=news['waits']))
+                                  lost=lost, lost_here=news['lost_here'], age_ms_=news['age'], waits_ms_=news['waits']))
 
     def tell_events(self, entry, time, line, pdu, session, channel, news):
         def tell(what, channel=channel, **values):
@@ -550,10 +552,10 @@ class Follower:
                                    channel=channel + 1, **values))
         if news['all'][0] == 'ahead':
             tell('lost', count=news['all'][1])
-        elif news['channel'][0] == 'ahead':
-            tell('lost_on_channel', count=news['channel'][1])
         elif news['all'][0] == 'late':
             tell('late')
+        if news['lost_here']:
+            tell('lost_on_channel', count=news['lost_here'])
         if news['back'] is not None:
             tell('back', ms_=news['back'] // 1000)
         if news['silent'] is not None:

@@ -382,7 +382,11 @@ fn tell_datagram<O: Output>(
         cts: header.cts,
         copy_of: news.copy_of,
         lost: missing(news.all),
-        lost_here: missing(news.channel),
+        lost_here: if news.lost_here > 0 {
+            Some(news.lost_here)
+        } else {
+            None
+        },
         age_ms: news.age,
         waits_ms: news.waits,
     }))
@@ -432,27 +436,25 @@ fn tell_events<O: Output>(
 
 /// Tells what the number of a PDU shows.
 fn tell_numbers<O: Output>(event: Event, taken: &Taken, out: &mut O) -> Result<(), AllocError> {
-    let news = taken.news;
-    match (news.all, news.channel) {
-        (Order::Ahead(missing), _) => tell(
-            Event {
+    match taken.news.all {
+        Order::Ahead(missing) => {
+            let lost = Event {
                 count: Some(missing as u64),
                 ..event
-            },
-            What::Lost,
-            out,
-        ),
-        (_, Order::Ahead(missing)) => tell(
-            Event {
-                count: Some(missing as u64),
-                ..event
-            },
-            What::LostOnChannel,
-            out,
-        ),
-        (Order::Late, _) => tell(event, What::Late, out),
-        _ => Ok(()),
+            };
+            tell(lost, What::Lost, out)?;
+        }
+        Order::Late => tell(event, What::Late, out)?,
+        _ => {}
     }
+    if taken.news.lost_here > 0 {
+        let lost = Event {
+            count: Some(taken.news.lost_here as u64),
+            ..event
+        };
+        return tell(lost, What::LostOnChannel, out);
+    }
+    Ok(())
 }
 
 /// Tells which channel is silent or back.

@@ -5,7 +5,7 @@ ghost use Rattle.std.specs.Prelude.{◌≡◌, ◌<◌, is_some, not, ◌&&◌};
 ghost use Rattle.follow.specs.Lives.{agrees, has_later_on, is_kept, is_new_order, is_newest, is_old_on, is_other_pdu, is_owned, is_sent, is_sent_by, kept_for, lost_on_all_in, lost_on_channel_in, numbers_on, opens};
 ghost use Rattle.follow.specs.Sessions.{is_anew};
 
-use crate::numbers::{Numbers, Order, span};
+use crate::numbers::{Numbers, Order, WINDOW, span};
 use capture::Header;
 use safe_pdu::{Kind, Leaving};
 
@@ -129,8 +129,8 @@ pub struct Heard {
 pub struct News {
     /// How it follows on all channels.
     pub all: Order,
-    /// How it follows on its channel.
-    pub channel: Order,
+    /// How many numbers before it are missing on its channel only.
+    pub lost_here: u32,
     /// Its first copy is in this line; with other octets if `differs`.
     pub copy_of: Option<u64>,
     /// Its first copy had other octets.
@@ -346,7 +346,7 @@ impl Life {
         self.heard[place] = heard.time;
         let mut news = News {
             all,
-            channel: order,
+            lost_here: self.count_lost(heard.red, order),
             copy_of: None,
             differs: false,
             back,
@@ -388,6 +388,19 @@ impl Life {
         {
             self.again = Some((heard.time, heard.header.ts));
         }
+    }
+
+    /// Returns how many of the numbers that are missing on a channel before this one came on another channel. Those too far
+    /// back to tell are among them.
+    fn count_lost(&self, red: u32, order: Order) -> u32 {
+        let gap = missing(order).unwrap_or(0);
+        let mut lost = gap.saturating_sub(WINDOW - 1);
+        for back in 1..WINDOW {
+            if back <= gap && !is_new(self.all.judge(red.wrapping_sub(back))) {
+                lost = lost.saturating_add(1);
+            }
+        }
+        lost
     }
 
     fn extend_back(&mut self, all: Order, red: u32) {

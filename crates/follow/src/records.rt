@@ -213,7 +213,7 @@ pub enum What {
     Up,
     /// Numbers before this one are missing on all channels.
     Lost,
-    /// Numbers before this one are missing on this channel.
+    /// Numbers before this one are missing on this channel, and came on another one.
     LostOnChannel,
     /// A channel is silent while others carry PDUs.
     Silent,
@@ -391,7 +391,7 @@ pub struct DatagramRecord {
     /// So many numbers are missing before it on all channels.
     #[serde(skip_serializing_if = "Option::is_none")]
     pub lost: Option<u32>,
-    /// So many are missing before it on its channel.
+    /// So many are missing before it on its channel only.
     #[serde(skip_serializing_if = "Option::is_none")]
     pub lost_here: Option<u32>,
     /// The age of the timestamp that it confirms.

@@ -1,8 +1,7 @@
 use crate::assertions::{assert_equal_at, assert_true, assert_true_at};
-use capture::{Instant, Span, read_ports};
-use capture_text::{Remarkable, TimeForm};
+use capture::read_ports;
 use rasta_words::{
-    Choice, CountsForm, CountsRequest, FollowRequest, FollowTimes, LogLevel, LogTime, Rejection,
+    Choice, CountsForm, CountsRequest, FollowRequest, LogLevel, LogTime, Rejection,
     Request, RunLength, RunRequest, WordsFault, command,
 };
 use safe_pdu::CodeLength;
@@ -68,25 +67,14 @@ fn only_prints(rt: &(impl AllocGlobal + Abort), line: &str, is_fault: bool) -> R
 /// Returns what `follow` is asked without an option.
 pub(crate) fn plain_follow(file: &str) -> FollowRequest<'_> {
     FollowRequest {
-        code: CodeLength::Eight,
+        code: None,
         iv: None,
-        messages: false,
-        only: None,
-        t_max: 1800,
-        file,
         ports: None,
         json: false,
         events: false,
-        choose: false,
-        times: FollowTimes {
-            form: TimeForm::Since,
-            span: Span {
-                from: None,
-                to: None,
-            },
-            every: None,
-        },
-        beside: None,
+        datagrams: false,
+        every: None,
+        file,
     }
 }
 
@@ -128,75 +116,43 @@ fn accepts_the_words_of_md4(rt: HostRuntime) -> Result<(), Fail> {
 // The defaults of `follow`, and each of its options.
 #[test]
 fn accepts_the_words_of_follow(rt: HostRuntime) -> Result<(), Fail> {
-    let plain = plain_follow("night.tsv");
-    reads_as(&rt, "rasta follow night.tsv", Request::Follow(plain))?;
+    let plain = plain_follow("night.pcap");
+    reads_as(&rt, "rasta follow night.pcap", Request::Follow(plain))?;
+    reads_as(
+        &rt,
+        "rasta follow --code auto night.pcap",
+        Request::Follow(plain),
+    )?;
     let line =
-        "rasta follow --messages --code 16 --only age --t-max 900 --iv 01000000020000000300000004000000 \
---ports 46101-46102,5000 --json --events --choose --time utc --from 90.5 --to 2026-11-27T03:12:00Z --every 60 -";
-    let times = FollowTimes {
-        form: TimeForm::Utc,
-        span: Span {
-            from: Some(Instant::Since(90_500_000)),
-            to: Some(Instant::At(1_795_749_120_000_000)),
-        },
-        every: Some(60),
-    };
+        "rasta follow --code 16 --iv 01000000020000000300000004000000 --ports 46101-46102,5000 \
+--json --events --datagrams --every 60 -";
     let wanted = FollowRequest {
-        code: CodeLength::Sixteen,
+        code: Some(CodeLength::Sixteen),
         iv: Some(OWN_VALUE),
-        messages: true,
-        only: Some(Remarkable::Age),
-        t_max: 900,
-        file: "-",
         ports: read_ports(b"46101-46102,5000"),
         json: true,
         events: true,
-        choose: true,
-        times,
-        beside: None,
+        datagrams: true,
+        every: Some(60),
+        file: "-",
     };
     reads_as(&rt, line, Request::Follow(wanted))
 }
 
 /// Options of `follow`, each with a value that it does not accept.
-const NO_VALUES: &str = "\
---code 9
---only lost
---t-max 0
---t-max 4294967296
---ports 2-1
---ports 1,2,3,4,5
---time run
---from 27.11.2026
---to 2026-02-30T00:00:00
---every 0
-";
-
-/// These options.
-const OPTIONS: [Choice; 10] = [
-    Choice::Code,
-    Choice::Only,
-    Choice::TMax,
-    Choice::TMax,
-    Choice::Ports,
-    Choice::Ports,
-    Choice::Times,
-    Choice::From,
-    Choice::To,
-    Choice::Period,
+const NO_VALUES: [(&str, Choice); 4] = [
+    ("--code 9", Choice::Code),
+    ("--ports 2-1", Choice::Ports),
+    ("--ports 1,2,3,4,5", Choice::Ports),
+    ("--every 0", Choice::Period),
 ];
 
 #[test]
 fn rejects_values_of_follow(rt: HostRuntime) -> Result<(), Fail> {
-    for (option, case) in OPTIONS.iter().zip(NO_VALUES.lines()) {
+    for (case, option) in NO_VALUES {
         let (_, value) = case.split_once(' ').ok_or("no value")?;
-        let line = format!(in rt.alloc(); "rasta follow {case} night.tsv")?;
-        let option = *option;
+        let line = format!(in rt.alloc(); "rasta follow {case} night.pcap")?;
         rejects(&rt, line.as_str(), Rejection::Value { option, value })?;
-    }
-    for times in ["--from 7 --to 6.9", "--to @7 --from 1970-01-01T00:00:08"] {
-        let line = format!(in rt.alloc(); "rasta follow {times} night.tsv")?;
-        rejects(&rt, line.as_str(), Rejection::Reversed)?;
     }
     Ok(())
 }
