@@ -1,785 +1,675 @@
 #!/usr/bin/env python3
-"""Reads a capture in the model, and prints what `rasta follow` must print: a line for each datagram, or its events, and the sums.
+"""`follow` once more, plain and slow: the records of a recording (docs/captures.md), from the rules as they are written there.
 
-    tests/model/follow.py follow [--code 0|8|16] [--only WORD] [--ports PORTS] [--t-max MS] [--time FORM] [--from INSTANT] [--to INSTANT] [--every N] [--choose] [--json] [--events] FILE
+    tests/model/follow.py follow [--code N] [--json] [--events] [--datagrams] [--every SECONDS] [--ports PORTS] FILE
+
+It reads only pcap files of Ethernet frames with IPv4 or IPv6 and UDP. Numbers that came are sets, fingerprints are the octets.
 """
-import argparse
 import datetime
 import ipaddress
 import json
-import re
+import os
+import struct
 import sys
 
 sys.dont_write_bytecode = True
+sys.path.insert(0, os.path.dirname(os.path.abspath(__file__)))
 from settings import Settings  # noqa: E402
-from texts import OPENINGS, red_seen, safe_seen  # noqa: E402
+from texts import KINDS, red_seen, safe_seen  # noqa: E402
 
-KEPT, PASSED_MAX, CHANNELS, CONNECTIONS, WRAP = 32, 65535, 4, 256, 2 ** 32
-DAMAGES = 8  # damaged datagrams of an end that are kept
-SESSIONS, TIMEOUT = 64, 3  # sessions that have ended and are printed
-CLASSES, MOMENTS = 24, 8  # classes of times, and PDUs of an end that are kept with their times
-MEASURED = ('round_trip', 'skew', 'silence', 'waits')
-LINE_MAX, PAYLOAD_MAX = 8192, 2048
-ONLY = ('opens', 'repeat', 'differs', 'ahead', 'late', 'stale', 'anew', 'resent', 'age', 'waits', 'reason', 'fault')
-FAULTS = {'red': ('Short', 'Length', 'Reserve'), 'safe': ('Short', 'Length', 'Code', 'Type', 'Body')}
-REASONS = ('closed by user', 'unexpected PDU', 'sequence error', 'timeout', 'service not allowed', 'wrong version',
-           'retransmission impossible', 'protocol error')
-DETAILS = {4: ('version differs', 'out of order', 'not of this pair'),
-           7: ('limit of PDUs', 'bad unit', 'confirmed number', 'confirmed timestamp')}
+RING, HALF = 2 ** 32, 2 ** 31
+WINDOW, KEPT, CHANNELS, SILENT, CONNECTIONS = 64, 32, 4, 8, 256
+LINGER, SECOND, NEAR = 2000000, 1000000, 65536
+OPENINGS = ('ConnReq', 'ConnResp')
+NEW = ('next', 'ahead', 'late')
+FAULTS = {'Code': 'code', 'Short': 'short', 'Length': 'length', 'Type': 'type', 'Body': 'body'}
 
 
 class Numbers:
-    """The numbers received or skipped lately: for each its line and octets, or that it is missing."""
+    """Redundancy numbers that came."""
 
     def __init__(self):
-        self.heard = self.missing = self.late = self.repeats = self.differing = self.stale = 0
-        self.begin()
+        self.newest, self.came, self.distinct, self.repeats = None, set(), 0, 0
 
-    def begin(self):
-        self.newest, self.known = None, {}
+    def judge(self, number):
+        if self.newest is None or (number - self.newest) % RING == 1:
+            return 'next', 0
+        ahead, behind = (number - self.newest) % RING, (self.newest - number) % RING
+        if 1 < ahead < HALF:
+            return 'ahead', ahead - 1
+        return 'stale' if behind >= WINDOW else 'repeat' if number in self.came else 'late', 0
 
-    def repeats_as(self, number, octets):
-        """Whether a number is kept with these octets."""
-        return (self.known.get(number) or (0, None))[1] == octets
-
-    def note(self, number, line, octets):
-        """Returns the remark on its order; empty if it is the first or the next."""
-        if self.known.get(number):
-            first = self.known[number]
-            if first[1] == octets:
-                self.repeats += 1
-                return 'repeat of line %d' % first[0]
-            self.differing += 1
-            return 'differs from line %d' % first[0]
-        if number in self.known:
-            self.missing, self.late = self.missing - 1, self.late + 1
-            self.keep(number, line, octets)
-            return 'late'
-        steps = 1 if self.newest is None else (number - self.newest) % WRAP
-        if steps >= WRAP // 2:
-            self.stale += 1
-            return 'stale'
-        self.heard += 1
-        said = 'anew' if steps > PASSED_MAX + 1 else 'ahead %d' % (steps - 1) if steps > 1 else ''
-        if said == 'anew':
-            self.begin()
-        elif said:
-            self.missing += steps - 1
-            self.known.update({(number - back) % WRAP: None for back in range(1, min(steps, KEPT))})
-        self.newest = number
-        self.keep(number, line, octets)
-        return said
-
-    def keep(self, number, line, octets):
-        """Keeps a received number until one is received that is a multiple of KEPT away; a skipped one for KEPT numbers."""
-        self.known = {known: first for known, first in self.known.items()
-                      if ((number - known) % KEPT if first else (self.newest - known) % WRAP < KEPT)}
-        self.known[number] = (line, octets)
-
-    def sums(self):
-        return 'PDUs %d missing %d repeats %d late %d differs %d stale %d' % self.counts()
-
-    def counts(self):
-        return self.heard, self.missing, self.repeats, self.late, self.differing, self.stale
-
-    def members(self):
-        return dict(zip(('PDUs', 'missing', 'repeats', 'late', 'differs', 'stale'), self.counts()))
+    def note(self, number):
+        order, missing = self.judge(number)
+        if order in ('next', 'ahead'):
+            self.newest = number
+            self.came = {one for one in self.came if (number - one) % RING < WINDOW}
+        if order in NEW:
+            self.came.add(number)
+            self.distinct += 1
+        self.repeats += order == 'repeat'
+        return order, missing
 
 
-class Direction:
-    """The PDUs that one end of a connection sent."""
+def span(first, newest):
+    return 0 if newest is None else (newest - first) % RING + 1
+
+
+class Life:
+    """What an end sends from one opening to the next."""
 
     def __init__(self):
-        self.opening = self.stamp = self.left = self.parting = None
-        self.damages = {}  # by remainder of the redundancy number: number and line of the last damaged datagram
-        self.since, self.confirming = None, {}  # the own timestamp last confirmed; by remainder of SN: SN, TS and CTS of the last PDU
-        self.channels = [Numbers() for _ in range(CHANNELS)]
-        self.together, self.sequence, self.damaged = Numbers(), Numbers(), [0] * CHANNELS
-        self.openings = self.oldest = self.longest = self.last = self.silence = self.opened = 0
-        self.kinds = {'HB': 0, 'RetrReq': 0, 'RetrData': 0, 'DiscReq': 0}
+        self.base = self.opening = self.again = self.alone = self.stamp = self.since = self.waited = self.confirms = self.asks = None
+        self.left = self.after = self.damage = self.skew = self.jump = None
+        self.began = self.first = self.last = self.alone_for = self.requests = self.resent = self.differing = self.damaged = 0
+        self.all, self.channels = Numbers(), [Numbers() for _ in range(CHANNELS)]
+        self.heard, self.silent, self.silences, self.recent = [0] * CHANNELS, [None] * CHANNELS, [0] * CHANNELS, {}
 
-    def opens(self, opening, time):
-        self.opening, self.openings, self.left, self.opened = opening, self.openings + 1, None, time
-        self.since, self.confirming, self.damages = opening[2], {}, {}
-        for numbers in self.channels + [self.together, self.sequence]:
-            numbers.begin()
+    def owns(self, red, pdu):
+        return self.base == (pdu.sn - red) % RING and (pdu.kind not in OPENINGS or self.opening in (None, (pdu.kind, pdu.octets)))
 
-    def is_copy(self, channel, number, octets):
-        """Whether this opening was received already, and nothing else of its end on its channel since."""
-        newest = self.channels[channel].newest if channel < CHANNELS else None
-        return self.together.repeats_as(number, octets) and newest in (None, number)
+    def kept(self, red):
+        row = self.recent.get(red % KEPT)
+        return row if row and row['red'] == red else None
 
-    def follow(self, time, line, channel, number, p, octets, peer):
-        """Returns the remarks on a PDU; `peer` is the direction of the other end."""
-        words = []
-        if p.kind in OPENINGS and not self.is_copy(channel, number, octets):
-            self.opens((p.kind, p.sn, p.ts), time)
-            words.append('opens')
-        if channel < CHANNELS:
-            words.append(named('channel', self.channels[channel].note(number, line, octets)))
-        together = self.together.note(number, line, octets)
-        is_new = not together.startswith(('repeat', 'differs', 'stale'))
-        words += [named('all', together), named('sn', self.sequence.note(p.sn, line, octets)) if is_new else '']
-        if is_new and together != 'late':
-            self.stamp = p.ts
-        again = ['resent' if p.kind == 'RetrData' else '']
-        if is_new:
-            damaged, damage = self.damages.get(number % DAMAGES, (None, None))
-            asked = peer.sequence.known.get((p.cs + 1) % WRAP) if p.kind == 'RetrReq' else None
-            again += ['after damage in line %d' % damage if damaged == number else '', 'asks for line %d' % asked[0] if asked else '']
-        age = None if self.confirms_nothing(p) or peer.opening and after(peer.opening[2], p.cts) is None else after(p.cts, peer.stamp)
-        waits = self.waits(p, peer) if is_new else None
-        left = leaving(*p.body[::-1]) if p.kind == 'DiscReq' else None
-        if is_new:
-            self.counts(time, p.kind, age, waits, left)
-            self.parting = (time, *p.body[::-1]) if left else self.parting
-        words += again + ['' if age is None else 'age %d ms' % age, '' if waits is None else 'waits %d ms' % waits, left]
-        return [word for word in words if word], is_new
+    def has_come(self, red, channel):
+        return channel is not None and self.channels[channel].judge(red)[0] not in NEW
 
-    def waits(self, p, peer):
-        """Returns the time since the own timestamp that was last confirmed: by the PDU of the other end that this one confirms."""
-        sn, ts, cts = peer.confirming.get(p.cs % KEPT, (None, None, None))
-        if (sn, ts) == (p.cs, p.cts) and not self.confirms_nothing(p):
-            self.since = cts
-        self.confirming[p.sn % KEPT] = (None, None, None) if p.kind == 'ConnReq' else (p.sn, p.ts, p.cts)
-        return after(self.since, p.ts)
+    def has_gone_on(self, red, channel):
+        return channel is not None and self.channels[channel].newest != red
 
-    def confirms_nothing(self, p):
-        """Whether it is a ConnReq, or the DiscReq of an end that before sent only its ConnReq."""
-        is_behind = self.opening is not None and self.opening[0] == 'ConnReq' and p.sn == (self.opening[1] + 1) % WRAP
-        return p.kind == 'ConnReq' or p.kind == 'DiscReq' and is_behind
+    def is_begun_anew(self, red, pdu):
+        if self.again is None or pdu.kind in OPENINGS:
+            return False
+        row = self.kept(red)
+        return row['octets'] != pdu.octets if row else self.all.judge(red)[0] not in NEW
 
-    def silent(self, until):
-        """Returns the longest time without a PDU."""
-        return max(self.silence, until - self.last) if self.last else self.silence
+    def has_sent(self, sn):
+        if self.base is None or self.all.newest is None:
+            return False
+        return (self.all.newest - (sn - self.base)) % RING <= (self.all.newest - self.first) % RING
 
-    def counts(self, time, kind, age, waits, left):
-        if kind in self.kinds:
-            self.kinds[kind] += 1
-        self.oldest, self.longest = max(self.oldest, age or 0), max(self.longest, waits or 0)
-        self.silence = self.silent(time)
-        self.last, self.left = time, left or self.left
+    def confirmed_by(self, pdu):
+        row = self.base is not None and self.kept((pdu.cs - self.base) % RING)
+        return row['cts'] if row and row['ts'] == pdu.cts else None
 
-    def members(self, until):
-        """Returns the sums as members of a JSON object; silence lasts up to the last PDU of either end."""
-        left = dict(zip(('time', 'reason', 'detail'), self.parting)) if self.left else None
-        return {'opening': self.opening and self.opening[0], 'openings': self.openings, 'opened': self.opened or None, **self.together.members(),
-                'heartbeats': self.kinds['HB'], 'requests': self.kinds['RetrReq'], 'resent': self.kinds['RetrData'],
-                'disconnects': self.kinds['DiscReq'], 'silence': self.silent(until), 'age': self.oldest, 'waits': self.longest, 'last': self.last or None, 'left': left}
+    def begin(self, time, red, first, pdu):
+        self.base, self.first, self.began = (pdu.sn - red) % RING, first, time
+        self.since = pdu.ts if pdu.kind in OPENINGS else None
 
-    def sums(self, first, t_max, until):
-        opened = 'opened by %s times %d' % (self.opening[0], self.openings) if self.opening else 'opening not seen'
-        kinds = 'heartbeats %d requests %d resent %d disconnects %d' % tuple(self.kinds.values())
-        near = ' '.join('%s %d of %d%s' % (word, most, t_max, ' reached' if most >= t_max else '') for word, most in (('age', self.oldest), ('waits', self.longest)))
-        last = 'last ' + first.said(self.last) if self.last else 'not heard'
-        return ' '.join((opened, self.together.sums(), kinds, 'silence ' + seconds(self.silent(until)), near, last,
-                         'DiscReq ' + self.left if self.left else 'no DiscReq'))
+    def begin_anew(self, before, time, ts, routes):
+        self.base, self.first, self.began, self.last, self.since, self.stamp = before.base, before.first, time, time, ts, ts
+        self.opening = before.opening
+        self.all.note(before.first)
+        for channel in range(routes):
+            self.channels[channel].note(before.first)
+            self.heard[channel] = time
+
+    def take(self, heard, other):
+        """Takes a PDU, and returns what is new."""
+        time, red, pdu, channel, routes = heard['time'], heard['red'], heard['pdu'], heard['channel'], heard['routes']
+        said = dict(heard=other.base is not None, left=other.left is not None, stamp=other.stamp, confirmed=other.confirmed_by(pdu))
+        row = self.kept(red)
+        if self.channels[channel].newest is None and span(self.first, self.all.newest) >= SILENT and self.silent[channel] is None:
+            self.silent[channel] = self.began
+            self.alone_for += max(0, time - self.began) * (routes == 2)
+        if pdu.kind in OPENINGS and self.has_come(red, channel) and self.has_gone_on(red, channel):
+            self.again = time, pdu.ts
+        order, on_channel = self.all.note(red), self.channels[channel].note(red)
+        if order[0] == 'late' and 0 < (self.first - red) % RING < HALF:
+            self.first = red
+        back, since = None, self.silent[channel]
+        if since is not None:
+            back, self.silent[channel] = max(0, time - since), None
+            self.silences[channel] += back
+        self.heard[channel] = time
+        gap = on_channel[1] if on_channel[0] == 'ahead' else 0
+        lost_here = max(0, gap - WINDOW + 1) + sum(self.all.judge((red - back) % RING)[0] not in NEW for back in range(1, min(gap, WINDOW - 1) + 1))
+        news = dict(all=order, lost_here=lost_here, copy_of=None, differs=False, back=back, silent=None, age=None, waits=None, longest=False, after_damage=False)
+        if order[0] == 'repeat' and row:
+            news['copy_of'], news['differs'] = row['line'], row['octets'] != pdu.octets
+            self.differing += news['differs']
+        if order[0] in NEW:
+            self.take_new(heard, said, order, news)
+            news['silent'] = self.begin_silence(routes, time)
+        self.note_alone(routes, time)
+        return news
+
+    def take_new(self, heard, said, order, news):
+        time, red, pdu = heard['time'], heard['red'], heard['pdu']
+        asks = pdu.kind == 'ConnReq'
+        self.recent[red % KEPT] = dict(red=red, ts=pdu.ts, cts=None if asks else pdu.cts, line=heard['line'], octets=pdu.octets)
+        if pdu.kind in OPENINGS:
+            self.opening, self.began = (pdu.kind, pdu.octets), time
+        if said['left'] and self.after is None:
+            self.after = order[1]
+        if order[0] != 'late':
+            self.stamp = pdu.ts
+        if not asks:
+            self.since = self.since if said['confirmed'] is None else said['confirmed']
+            if self.confirms is None or self.confirms[0] != pdu.cs:
+                self.confirms = pdu.cs, time
+            news['age'] = steps(pdu.cts, said['stamp'])
+        if said['heard']:
+            news['waits'] = steps(self.since, pdu.ts)
+            longer = news['waits'] is not None and (self.waited is None or news['waits'] > self.waited)
+            news['longest'] = longer and news['waits'] >= 500
+            self.waited = news['waits'] if longer else self.waited
+        self.resent += pdu.kind == 'RetrData'
+        if pdu.kind == 'RetrReq':
+            self.requests, self.asks = self.requests + 1, heard['line']
+        news['after_damage'] = self.damage == red
+        if pdu.kind == 'DiscReq' and self.left is None:
+            self.left = dict(time=time, line=heard['line'], reason=pdu.body[1], detail=pdu.body[0], waited=news['waits'])
+        self.note_skew(time, pdu.ts)
+        self.last = time
+
+    def note_skew(self, time, ts):
+        skew = (time // 1000 - ts) % RING
+        if self.skew is not None:
+            step = (skew - self.skew + HALF) % RING - HALF
+            self.jump = step if abs(step) >= 1000 and step != -HALF else self.jump
+        self.skew = skew
+
+    def lag(self, channel):
+        here = self.channels[channel].newest
+        return span(self.first, self.all.newest) if here is None else 0 if self.all.newest is None else (self.all.newest - here) % RING
+
+    def begin_silence(self, routes, time):
+        for channel in range(routes):
+            if self.silent[channel] is None and self.lag(channel) >= SILENT:
+                self.silent[channel] = min(time, max(self.heard[channel], self.began))
+                return channel
+        return None
+
+    def note_alone(self, routes, time):
+        silent = [since for since in self.silent[:routes] if since is not None]
+        if routes > 1 and len(silent) >= routes - 1:
+            self.alone = max(silent + [0]) if self.alone is None else self.alone
+        elif self.alone is not None:
+            self.alone_for, self.alone = self.alone_for + max(0, time - self.alone), None
+
+    def lost_on_all(self):
+        return max(0, span(self.first, self.all.newest) - self.all.distinct)
+
+    def lost_on(self, channel):
+        return max(0, self.all.distinct - self.channels[channel].distinct)
+
+    def silence_of(self, channel):
+        since = self.silent[channel]
+        return self.silences[channel] + (0 if since is None else max(0, self.last - since))
+
+    def alone_time(self):
+        return self.alone_for + (0 if self.alone is None else max(0, self.last - self.alone))
 
 
-def is_near(newest, number):
-    """Whether a number is not further from the newest one than over the largest gap."""
-    return newest is not None and min((number - newest) % WRAP, (newest - number) % WRAP) <= PASSED_MAX + 1
-
-
-def after(first, stamp):
-    """Returns how far a timestamp is after another, or None if it is before it or one is unknown."""
-    steps = None if first is None or stamp is None else (stamp - first) % WRAP
-    return steps if steps is not None and steps < WRAP // 2 else None
-
-
-def named(name, said):
-    return name + ' ' + said if said else ''
-
-
-def leaving(reason, detail):
-    why, more = REASONS[reason:reason + 1], DETAILS.get(reason, ())[detail - 1:detail] if detail else ()
-    return ' '.join(('reason', str(reason), *why, 'detail', str(detail), *more))
-
-
-class Side:
-    """What one end did in a session, by the remarks on its PDUs."""
-
-    def __init__(self):
-        self.left, self.waits, self.resent, self.repeats = None, 0, 0, 0
-        self.missing, self.lost = [0] * CHANNELS, 0
-
-    def take(self, time, channel, p, words, is_new, other):
-        for word in words:
-            first, _, rest = word.partition(' ')
-            if first == 'channel':
-                self.repeats += rest.startswith('repeat')
-                self.missing[channel] = missed(self.missing[channel], rest)
-            elif first == 'all':
-                self.lost = missed(self.lost, rest)
-            elif first == 'waits':
-                self.waits = max(self.waits, int(rest.split()[0]))
-        if is_new:
-            self.resent += p.kind == 'RetrData'
-            if p.kind == 'DiscReq' and self.left is None:
-                self.left = (time, *p.body[::-1], other.left is not None)
-
-    def alone(self):
-        """Returns how many datagrams one channel lost whose PDU came on another."""
-        return sum(max(0, missing - self.lost) for missing in self.missing)
-
-    def members(self):
-        return {'left': dict(zip(('time', 'reason', 'detail', 'follows'), self.left)) if self.left else None, 'waits': self.waits,
-                'lost_on_every_channel': self.lost, 'lost_on_one_channel': self.alone(), 'resent': self.resent, 'repeats': self.repeats}
-
-
-def missed(count, said):
-    """Returns how many numbers are missing after one that followed as the remark says."""
-    word, *number = said.split()
-    return count + int(number[0]) if word == 'ahead' else max(0, count - 1) if word == 'late' else count
+def steps(start, end):
+    """The steps from one number to another on the ring, if they are fewer than half of it."""
+    if start is None or end is None or (end - start) % RING >= HALF:
+        return None
+    return (end - start) % RING
 
 
 class Session:
-    """What happened from an opening to the next one."""
+    """A life of each end."""
 
-    def __init__(self, number, asked=None, up=None):
-        self.number, self.asked, self.up, self.sides = number, asked, up, (Side(), Side())
+    def __init__(self, number):
+        self.number, self.lives = number, {True: Life(), False: Life()}
+        self.asked = self.answers = self.asked_at = self.up = self.ending = self.next = self.clock_step = None
+        self.is_crossed = self.is_fixed = self.is_told = False
+        self.last = 0
 
-    def is_unanswered(self):
-        return self.asked is not None and self.up is None and self.sides[1 - self.asked[1]].left is None
+    def fit(self, low, red, channel, pdu):
+        """Returns None for a PDU that is foreign, 'owned', 'again', or the first number of the life that it begins."""
+        own, other = self.lives[low], self.lives[not low]
+        if not self.number:
+            return None
+        if own.owns(red, pdu):
+            if own.is_begun_anew(red, pdu):
+                return 'again'
+            is_over = self.ending is not None or self.is_fixed and own.has_gone_on(red, channel)
+            return 'again' if pdu.kind in OPENINGS and is_over and own.has_come(red, channel) else 'owned'
+        if own.base is not None:
+            return None
+        if pdu.kind == 'ConnReq':
+            return red if self.answers == pdu.sn else None
+        if not other.has_sent(pdu.cs):
+            return None
+        return red if pdu.kind in OPENINGS or red >= WINDOW or self.asked is None else 0
 
-    def is_timeout(self):
-        return any(side.left and side.left[1] == TIMEOUT for side in self.sides)
+    def take(self, low, fit, heard):
+        own, other, pdu, time = self.lives[low], self.lives[not low], heard['pdu'], heard['time']
+        if fit != 'owned':
+            own.begin(time, heard['red'], fit, pdu)
+        news = own.take(heard, other)
+        if news['all'][0] in NEW:
+            if pdu.kind == 'ConnReq':
+                self.asked, self.asked_at, self.answers = (low, pdu.sn), time, None
+            if pdu.kind == 'ConnResp':
+                self.up, self.answers = time, pdu.cs if self.asked is None else self.answers
+            if pdu.kind == 'RetrResp':
+                other.asks = None
+            if pdu.kind == 'DiscReq' and self.ending is None:
+                self.ending = dict(low=low, time=time, reason=pdu.body[1], waited=news['waits'],
+                                   quiet=None if other.base is None else max(0, time - other.last), stuck=[stuck(other, time), stuck(own, time)],
+                                   asks=[other.asks, own.asks], alone=own.alone is not None or other.alone is not None)
+            jumps = self.lives[True].jump, self.lives[False].jump
+            if None not in jumps:
+                self.clock_step = jumps[0] if abs(jumps[0] - jumps[1]) <= 200 else self.clock_step
+                self.lives[True].jump = self.lives[False].jump = None
+        self.last = time
+        return news
 
-    def line(self, ends, route, first):
-        def at(time):
-            return first.said(time)
+    def cause(self, ends):
+        """Returns why it ended: a word, or a word with its values. `ends` has the identifiers, the lower one under True."""
+        e = self.ending
+        if e is None:
+            if self.next is None:
+                return 'running'
+            low, at = self.next
+            quiet = max(0, at - self.lives[not low].last)
+            if self.lives[not low].base is not None and quiet >= SECOND:
+                return {'both_silent': {'ms': quiet // 1000}}
+            return {'restarted': {'end': ends[low]}}
+        own, other = ends[e['low']], ends[not e['low']]
+        life = self.lives[not e['low']]
+        if self.next and self.next[0] != e['low'] and self.next[1] < e['time']:
+            return {'restarted': {'end': other}}
+        if e['reason'] == 0:
+            return {'closed': {'end': own}}
+        if life.base is None:
+            confirms = self.lives[e['low']].confirms
+            if confirms and confirms[0]:
+                return {'one_way': {'end': own}}
+            return {'crossed': {'end': other}} if self.is_crossed else {'unanswered': {'end': own}}
+        if e['reason'] != 3:
+            return {'refused' if self.up is None else 'protocol': {'end': own}}
+        return self.timeout(e, own, other, life)
 
-        words = ['session %d of %d-%d' % (self.number, *ends) + (' at %s-%s' % route if route else ''),
-                 '%d asked at %s' % (ends[self.asked[1]], at(self.asked[0])) if self.asked else 'its ConnReq was not recorded',
-                 'came up at ' + at(self.up) if self.up is not None else 'nobody answered' if self.is_unanswered() else 'was not seen to come up']
-        left = ['%d left at %s %s %s' % (end, at(side.left[0]), 'after the other' if side.left[3] else 'by itself', leaving(*side.left[1:3]))
-                for end, side in zip(ends, self.sides) if side.left]
-        words += left or ['nobody left']
-        words += ['%d waited %d ms' % (end, side.waits) for end, side in zip(ends, self.sides)]
-        return ', '.join(words + [losses(sum(side.lost for side in self.sides), sum(side.alone() for side in self.sides)),
-                                  'sent again %d' % sum(side.resent for side in self.sides),
-                                  'repeats on one channel %d' % sum(side.repeats for side in self.sides)])
+    def timeout(self, e, own, other, life):
+        limit = (1800 if e['waited'] is None else e['waited']) * 1000 // 2
+        if self.asked and self.up is None:
+            return {'answer_lost': {'end': other if self.asked[0] == e['low'] else own}}
+        if (e['quiet'] or 0) >= limit:
+            then = {} if life.after is None else {'then_missing': life.after}
+            return {'silent': {'end': other, 'ms': (e['quiet'] or 0) // 1000, **then}}
+        for end, line in zip((other, own), e['asks']):
+            if line is not None:
+                return {'no_retransmission': {'end': end, 'line': line}}
+        others, owns = (one or 0 for one in e['stuck'])
+        if others >= limit and others >= owns:
+            return {'unconfirmed': {'end': own, 'ms': others // 1000}}
+        return {'unconfirmed': {'end': other, 'ms': owns // 1000}} if owns >= limit else 'late'
 
-    def members(self, ends):
-        return {'session': self.number, 'asked': self.asked and self.asked[0], 'asked_by': self.asked and ends[self.asked[1]], 'up': self.up,
-                'unanswered': self.is_unanswered(), 'low': self.sides[0].members(), 'high': self.sides[1].members()}
-
-
-class Measured:
-    """The times that are measured of an end, in milliseconds, and its last PDUs in this session."""
-
-    def __init__(self):
-        self.values, self.units, self.busiest = {name: [] for name in MEASURED}, 0, 0
-        self.begin()
-
-    def begin(self):
-        self.sent, self.last, self.confirmed = {}, 0, 0
-
-    def take(self, time, channel, p, words, is_new, peer):
-        """Adds a PDU, by the remarks on it; `peer` is what is measured of the other end."""
-        if 'opens' in words:
-            self.begin()
-        if is_new:
-            if p.kind not in ('RetrReq', 'RetrResp', 'RetrData') and has(words, 'age ') and not has(words, 'all late') and p.cts != self.confirmed:
-                self.add('round_trip', peer.moment(p.cs, p.cts), time)
-                self.confirmed = p.cts
-            self.add('silence', self.last, time)
-            self.values['waits'] += [int(word.split()[1]) for word in words if word.startswith('waits ')]
-            self.units = (self.units if time // 10 ** 6 == self.last // 10 ** 6 else 0) + (p.kind == 'Data')
-            self.busiest, self.last = max(self.busiest, self.units), time
-            self.sent[p.sn % MOMENTS] = p.ts, time
-        elif has(words, 'all repeat') and channel < CHANNELS and not has(words, 'channel repeat'):
-            self.add('skew', self.moment(p.sn, p.ts), time)
-
-    def moment(self, sn, ts):
-        """Returns when a PDU was recorded first; 0 if it is not kept."""
-        stamp, time = self.sent.get(sn % MOMENTS, (None, 0))
-        return time if stamp == ts else 0
-
-    def add(self, name, start, end):
-        if start:
-            self.values[name].append(min(max(0, end - start) // 1000, WRAP - 1))
-
-    def counts(self, name):
-        classes = [min(value.bit_length(), CLASSES - 1) for value in self.values[name]]
-        return [classes.count(place) for place in range(CLASSES)]
-
-    def lines(self, sender, receiver):
-        for name in MEASURED:
-            most = max(self.values[name], default=0)
-            yield 'times %d->%d %s %d greatest %d ms, below 1, 2, 4, .. ms: %s' % (
-                sender, receiver, name.replace('_', ' '), len(self.values[name]), most,
-                ' '.join(map(str, self.counts(name)[:min(most.bit_length(), CLASSES - 1) + 1])))
-
-    def members(self):
-        return {name: {'greatest': max(self.values[name], default=0), 'counts': self.counts(name)} for name in MEASURED}
-
-
-def has(words, start):
-    return any(word.startswith(start) for word in words)
-
-
-class Choice:
-    """The settings that fit a connection, by the rule of docs/choosing.md."""
-
-    def __init__(self, connection):
-        self.ends, self.measured, directions = connection.ends, connection.measured, connection.directions
-        self.pdus = sum(direction.together.heard for direction in directions)
-        self.lost = max(n.missing * 10 ** 6 // max(1, n.heard + n.late + n.missing) for direction in directions for n in direction.channels)
-        least = [next((2 ** place - 1 for place, count in enumerate(one.counts('round_trip')) if count), None) for one in self.measured]
-        skews = [value for one in self.measured for value in one.values['skew']]
-        self.has_trips, self.has_skews = None not in least, bool(skews)
-        shortest = (sum(least) + 1) // 2 if self.has_trips else 5
-        self.difference = max(skews) if skews else shortest
-        self.delay = shortest + self.difference
-        self.units = max(one.busiest for one in self.measured)
-        self.t_seq = max(self.difference + max(self.difference // 4, 5), 10)
-        self.t_h = max(2 * self.t_seq, 100)
-        self.t_max = 4 * self.t_h + 2 * self.t_seq + 6 * self.delay
-        self.fits = self.difference <= 800 and self.delay <= 8000
-
-    def lines(self):
-        for one, ends in zip(self.measured, (self.ends, self.ends[::-1])):
-            yield from one.lines(*ends)
-        few = ', too few to rely on: record some hundred with telegrams' if self.pdus < 300 else ''
-        within = (2 * self.delay * self.units + 999) // 1000
-        said = ['from %d PDUs%s; p %d of 1000000: the most that a channel lost' % (self.pdus, few, self.lost),
-                'D %d ms: %s' % (self.difference, 'the greatest skew' if self.has_skews else
-                                 'assumed to be the shortest time one way, since no copy came on another channel'),
-                'd %d ms: D and %s' % (self.delay, 'half of the shortest round trips of both ends' if self.has_trips else
-                                       '5 ms, assumed since an end has no round trip'),
-                'busiest second %d units one way, %d within 2 d%s' % (
-                    self.units, within, ': more than the window holds, so telegrams wait' if within > 7 else '')]
-        said += ['n_sendmax 7 mwa 3 q 8: 7 - 1 + 7/3 is at most 8',
-                 'T_seq %d ms: above D, %d ms, by a quarter and at least 5 ms' % (self.t_seq, self.difference),
-                 'T_h %d ms: twice T_seq, and at least 100 ms' % self.t_h,
-                 'T_max %d ms: 4 T_h + 2 T_seq + 6 d, for two repairs in a row' % self.t_max] if self.fits else [
-                     'no settings: D may be 800 ms and d 8000 ms at most, for T_seq and T_max in their ranges']
-        yield from ('choose %d-%d %s' % (*self.ends, one) for one in said)
-
-    def members(self):
-        return {'low': self.ends[0], 'high': self.ends[1], 'times': [one.members() for one in self.measured], 'PDUs': self.pdus, 'lost': self.lost,
-                'units': self.units, 'round_trips_seen': self.has_trips, 'skews_seen': self.has_skews, 'difference': self.difference, 'delay': self.delay,
-                'settings': {'n_sendmax': 7, 'mwa': 3, 'q': 8, 't_seq': self.t_seq, 't_h': self.t_h, 't_max': self.t_max} if self.fits else None}
+    def only_from(self):
+        for low in (True, False):
+            confirms = self.lives[low].confirms
+            if confirms and confirms[0] and self.lives[not low].base is None:
+                return low
+        return None
 
 
-def losses(everywhere, alone):
-    return 'PDUs lost on every channel %d, datagrams lost on one channel whose PDU came on another %d' % (everywhere, alone)
+def stuck(life, time):
+    return None if life.confirms is None else max(0, time - life.confirms[1])
+
+
+def date(time):
+    """A time in microseconds since 1970 as a date in UTC."""
+    if time is None:
+        return None
+    if time > 253402207200 * 10 ** 6:
+        return str(time)
+    return (datetime.datetime(1970, 1, 1) + datetime.timedelta(microseconds=time)).isoformat(timespec='microseconds') + 'Z'
+
+
+def told(**fields):
+    """A record: what is not known, 0, false or empty is left out; a name that ends in `_` keeps a 0."""
+    kept = {name: value for name, value in fields.items() if name.endswith('_') or value not in (None, 0, [])}
+    return {name.rstrip('_'): value for name, value in kept.items() if value is not None}
 
 
 class Connection:
-    """Two ends, by their identifiers, the lower one first, and the channels between their addresses."""
+    """The channels of two ends, their newest session and the one before."""
 
-    def __init__(self, ends):
-        self.ends, self.routes, self.directions, self.last, self.sessions = ends, [], (Direction(), Direction()), 0, []
-        self.measured = Measured(), Measured()
+    def __init__(self, number, ends):
+        self.number, self.ends, self.routes = number, ends, []
+        self.current, self.previous = Session(0), Session(0)
+        self.sums = dict(sessions=0, up=0, outages=0, lost=0, alone=0, waited=None)
+        self.of_channels = [dict(low=0, high=0, silent=0) for _ in range(CHANNELS)]
+        self.told, self.before = [0] * 5, [0] * 5
 
-    def known(self, source, destination):
-        """Returns the number of the channel between two addresses, in either direction."""
-        return next((place for place, route in enumerate(self.routes) if set(route) == {source, destination}), None)
+    def route(self, source, destination):
+        """Returns the channel between two addresses, and whether the lower end sent."""
+        for place, (low, high) in enumerate(self.routes):
+            if (low, high) in ((source, destination), (destination, source)):
+                return place, (low, high) == (source, destination)
+        return None
 
-    def channel(self, source, destination, is_from_low):
-        place = self.known(source, destination)
-        if place is not None:
-            return place
-        if len(self.routes) < CHANNELS:
-            self.routes.append((source, destination) if is_from_low else (destination, source))
-            return len(self.routes) - 1
-        return CHANNELS
+    def goes_on(self, red, channel, pdu):
+        low = pdu.sender == self.ends[True]
+        fit = self.current.fit(low, red, channel, pdu)
+        return fit != 'again' and (fit is not None or self.previous.fit(low, red, channel, pdu) is not None)
 
-    def is_continued(self, p):
-        """Whether a PDU goes on with what its end and the other end sent: an opening by its SN and TS, another PDU by numbers that are near."""
-        own, other = self.directions[::1 if p.sender == self.ends[0] else -1]
-        if p.kind in OPENINGS:
-            return own.opening is not None and own.opening[1:] == (p.sn, p.ts) or other.opening is not None and other.opening[1:] == (p.cs, p.cts)
-        return is_near(own.sequence.newest, p.sn) or is_near(other.sequence.newest, p.cs)
+    def is_near(self, pdu):
+        own = self.current.lives[pdu.sender == self.ends[True]]
+        if own.base is None or own.all.newest is None or pdu.kind in OPENINGS:
+            return False
+        ahead = (pdu.sn - own.base - own.all.newest) % RING
+        return min(ahead, -ahead % RING) <= NEAR
 
-    def damages(self, source, place, number, line):
-        """Counts a datagram that is not a PDU for the end whose address sent it, and keeps its redundancy number if it has one."""
-        direction = self.directions[self.routes[place][0] != source]
-        direction.damaged[place] += 1
-        if number is not None:
-            direction.damages[number % DAMAGES] = number, line
+    def begins(self, red, source, destination, pdu):
+        found = self.route(source, destination)
+        return not self.goes_on(red, found and found[0], pdu) and not self.is_near(pdu)
 
-    def up(self):
-        """Returns the time of the reply to the last ConnReq."""
-        asks, answers = ([d for d in self.directions if d.opening and d.opening[0] == kind] for kind in OPENINGS)
-        return answers[0].opened if asks and answers and asks[0].opened <= answers[0].opened else None
+    def place(self, low, red, source, destination):
+        found = self.route(source, destination)
+        if found:
+            return found[0]
+        route = (source, destination) if low else (destination, source)
+        life = self.current.lives[low]
+        for place, (near, far) in enumerate(self.routes):
+            if (near == route[0] or far == route[1]) and life.base is not None and life.channels[place].judge(red)[0] in NEW:
+                self.routes[place] = route
+                return place
+        if len(self.routes) == CHANNELS:
+            return CHANNELS - 1
+        self.routes.append(route)
+        return len(self.routes) - 1
 
-    def takes(self, time, channel, is_from_low, p, words, is_new):
-        """Adds a PDU to its session, by the remarks on it."""
-        end = 0 if is_from_low else 1
-        current = self.sessions[-1] if self.sessions else None
-        if 'opens' in words and p.kind == 'ConnResp' and current and current.up is None and current.asked and current.asked[1] != end:
-            current.up = time
-        elif 'opens' in words or not current:
-            asked, up = [time if 'opens' in words and p.kind == kind else None for kind in OPENINGS]
-            self.sessions.append(Session(len(self.sessions) + 1, None if asked is None else (asked, end), up))
-        session = self.sessions[-1]
-        session.sides[end].take(time, channel, p, words, is_new, session.sides[1 - end])
-        self.measured[end].take(time, channel, p, words, is_new, self.measured[1 - end])
+    def take(self, time, line, source, destination, red, pdu):
+        """Returns session, channel, and what is new."""
+        low = pdu.sender == self.ends[True]
+        channel = self.place(low, red, source, destination)
+        heard = dict(time=time, line=line, red=red, channel=channel, routes=len(self.routes), pdu=pdu)
+        fit = self.current.fit(low, red, channel, pdu)
+        if fit not in (None, 'again'):
+            return self.current, channel, self.current.take(low, fit, heard)
+        earlier = None if fit == 'again' else self.previous.fit(low, red, channel, pdu)
+        if earlier is not None:
+            if self.current.asked and self.current.asked[0] != low:
+                self.current.is_crossed = True
+            if earlier == 'again':
+                earlier = 'owned'
+            return self.previous, channel, self.previous.take(low, earlier, heard)
+        if fit is None and self.is_near(pdu):
+            return self.current, channel, self.current.take(low, 'owned', heard)
+        return self.begin(low, heard)
 
-    def session_sums(self):
-        """Returns how many sessions there were, came up, were not answered, were left, were left by a timeout."""
-        return (len(self.sessions), sum(one.up is not None for one in self.sessions), sum(one.is_unanswered() for one in self.sessions),
-                sum(any(side.left for side in one.sides) for one in self.sessions), sum(one.is_timeout() for one in self.sessions))
+    def begin(self, low, heard):
+        pdu = heard['pdu']
+        self.current.next = low, heard['time']
+        self.previous, self.current = self.current, Session(self.current.number + 1)
+        self.current.is_fixed = self.previous.is_fixed or self.previous.lives[low].base == (pdu.sn - heard['red']) % RING
+        self.ask_again(low, pdu)
+        fit = heard['red'] if self.current.lives[low].base is None else 'owned'
+        return self.current, heard['channel'], self.current.take(low, fit, heard)
 
-    def losses(self):
-        """Returns the PDUs lost on every channel, and the datagrams lost on one channel whose PDU came on another."""
-        return (sum(direction.together.missing for direction in self.directions),
-                sum(side.alone() for one in self.sessions for side in one.sides))
+    def ask_again(self, low, pdu):
+        asks = not low if pdu.kind == 'ConnResp' else low
+        life = self.previous.lives[asks]
+        if pdu.kind == 'ConnReq' or life.again is None or life.base is None or not life.opening or life.opening[0] != 'ConnReq':
+            return
+        time, ts = life.again
+        self.current.lives[asks].begin_anew(life, time, ts, len(self.routes))
+        self.current.asked, self.current.asked_at = (asks, (life.base + life.first) % RING), time
+        self.current.is_crossed = self.previous.lives[not asks].last > time
+        self.previous.next = asks, time
 
-    def sentence(self, first, t_max):
-        longest = max(direction.longest for direction in self.directions)
-        return ', '.join((
-            'connection %d-%d sessions %d, came up %d, nobody answered %d, ended by a DiscReq %d, by timeout %d' % (*self.ends, *self.session_sums()),
-            'last PDU at ' + first.said(self.last), losses(*self.losses()),
-            'waits %d of %d%s' % (longest, t_max, ' reached' if longest >= t_max else '')))
+    def counts(self, session):
+        lives = session.lives.values()
+        return [sum(life.all.distinct for life in lives), sum(life.lost_on_all() for life in lives),
+                sum(life.lost_on(place) for life in lives for place in range(len(self.routes))),
+                sum(life.alone_time() for life in lives), sum(life.damaged for life in lives)]
 
-    def members(self):
-        everywhere, alone = self.losses()
-        directions = []
-        for (sender, receiver), direction in zip((self.ends, self.ends[::-1]), self.directions):
-            routes = [{'channel': place + 1, 'low': route[0], 'high': route[1],
-                       'datagrams': sum(n.counts()) - n.missing + direction.damaged[place], **n.members(), 'damaged': direction.damaged[place]}
-                      for place, (route, n) in enumerate(zip(self.routes, direction.channels))]
-            directions.append({'from': sender, 'to': receiver, **direction.members(self.last), 'channels': routes})
-        sessions = dict(zip(('number', 'up', 'unanswered', 'left', 'timeouts'), self.session_sums()))
-        sessions['table'] = [one.members(self.ends) for one in self.sessions[-SESSIONS - 1:]]
-        return {'low': self.ends[0], 'high': self.ends[1], 'up': self.up(), 'last': self.last, 'lost_on_every_channel': everywhere, 'lost_on_one_channel': alone,
-                **{name: max(direction[name] for direction in directions) for name in ('age', 'waits')}, 'sessions': sessions, 'directions': directions}
+    def period(self, time):
+        now = self.told
+        for session in (self.previous, self.current):
+            if not session.is_told:
+                now = [one + more for one, more in zip(now, self.counts(session))]
+        since = [max(0, one - before) for one, before in zip(now, self.before)]
+        self.before = now
+        return told(time=date(time), connection=self.number, low_=self.ends[True], high_=self.ends[False], pdus_=since[0], lost_on_all=since[1],
+                    lost_on_channel=since[2], alone_ms=since[3] // 1000, damaged=since[4])
 
-    def sums(self, first, t_max, is_ambiguous):
-        for (sender, receiver), direction in zip((self.ends, self.ends[::-1]), self.directions):
-            yield 'sum %d->%d %s' % (sender, receiver, direction.sums(first, t_max, self.last))
-            for place, route in enumerate(self.routes):
-                n = direction.channels[place]
-                yield 'sum %d->%d ch %d %s-%s datagrams %d %s damaged %d' % (
-                    sender, receiver, place + 1, *route, sum(n.counts()) - n.missing + direction.damaged[place], n.sums(),
-                    direction.damaged[place])
-        for one in self.sessions[-SESSIONS - 1:]:
-            yield one.line(self.ends, tuple(self.routes[0]) if is_ambiguous else None, first)
-        yield self.sentence(first, t_max)
+    def side(self, session, low):
+        life = session.lives[low]
+        left = life.left and told(time=date(life.left['time']), line=life.left['line'], reason_=life.left['reason'], detail_=life.left['detail'],
+                                  after_ms_=life.left['waited'])
+        rows = [told(channel=place + 1, pdus_=life.channels[place].distinct, lost=life.lost_on(place), silent_ms=life.silence_of(place) // 1000,
+                     repeats=life.channels[place].repeats) for place in range(len(self.routes))]
+        return told(end_=self.ends[low], left=left, waited_ms_=life.waited, pdus_=life.all.distinct, lost_on_all=life.lost_on_all(),
+                    alone_ms=life.alone_time() // 1000, requests=life.requests, resent=life.resent, damaged=life.damaged, differing=life.differing,
+                    channels=[row for row in rows if 'lost' in row or 'repeats' in row])
 
-    def counts(self):
-        return [sum(pair) for pair in zip(*(direction.together.counts() for direction in self.directions))]
+    def tell(self, session):
+        """Returns the record of a session, and adds it to the sums."""
+        cause, low, high = session.cause(self.ends), self.side(session, True), self.side(session, False)
+        self.told = [one + more for one, more in zip(self.told, self.counts(session))]
+        self.sums['sessions'] += 1
+        self.sums['up'] += session.up is not None
+        self.sums['outages'] += cause != 'running' and 'closed' not in cause
+        self.sums['lost'] += low.get('lost_on_all', 0) + high.get('lost_on_all', 0)
+        self.sums['alone'] += max(low.get('alone_ms', 0), high.get('alone_ms', 0))
+        waits = [one for one in (self.sums['waited'], low.get('waited_ms'), high.get('waited_ms')) if one is not None]
+        self.sums['waited'] = max(waits, default=None)
+        for place, row in enumerate(self.of_channels[:len(self.routes)]):
+            row['low'] += session.lives[True].lost_on(place)
+            row['high'] += session.lives[False].lost_on(place)
+            row['silent'] += max(life.silence_of(place) for life in session.lives.values()) // 1000
+        session.is_told = True
+        e, only = session.ending, session.only_from()
+        alone = e['alone'] if e else any(life.alone is not None for life in session.lives.values())
+        return told(connection=self.number, number=session.number, asked=date(session.asked_at), asked_by_=session.asked and self.ends[session.asked[0]],
+                    up=date(session.up), ended=e and date(e['time']), cause=cause, alone=alone or None, clock_step_ms_=session.clock_step,
+                    only_from_=None if only is None else self.ends[only], low=low, high=high)
+
+    def sum_up(self):
+        channels = [told(channel=place + 1, low=near, high=far, lost_low=row['low'], lost_high=row['high'], silent_ms=row['silent'])
+                    for place, ((near, far), row) in enumerate(zip(self.routes, self.of_channels))]
+        s = self.sums
+        return told(number=self.number, low_=self.ends[True], high_=self.ends[False], sessions_=s['sessions'], up=s['up'], outages=s['outages'],
+                    lost_on_all=s['lost'], alone_ms=s['alone'], waited_ms_=s['waited'], channels_=channels)
 
 
 class Follower:
-    """All connections of a capture, in the order of their last PDUs."""
+    """All connections. `out` takes each record with its name."""
 
-    def __init__(self, rule):
-        self.rule, self.connections, self.damaged, self.forgotten, self.unreadable = rule, [], 0, 0, 0
-        self.miscoded = 0  # datagrams with another safety code or too short for one; None once one has the right code
-        self.frames, self.others = 0, [0, 0]  # lines, and how many of them have no chosen port, and another time than is asked for
-        self.datagrams, self.gone = 0, [0] * 6
-        self.events = []  # of the last datagram: the name and the members of each event
+    def __init__(self, out, events=False, datagrams=False, every=0):
+        self.out, self.events, self.datagrams, self.every = out, events, datagrams, every * SECOND
+        self.connections, self.newest, self.looked, self.ends = [], None, 0, 0
+        self.counts = dict(datagrams=0, damaged=0, left_out=0)
 
-    def line(self, time, line, source, destination, octets):
-        """Returns the contents of a datagram, and the words of its remarks."""
-        self.datagrams += 1
-        way, seen = '->'.join((source, destination)), red_seen(octets)
-        number, p = (None, None) if isinstance(seen, str) else (seen[0], safe_seen(seen[1], self.rule))
-        if p is None or isinstance(p, str):
-            self.damages(source, destination, number, line)
-            self.miscoded = self.coded(p)
-            layer, name = ('red', seen) if p is None else ('safe', p)
-            self.events = [('damaged', {'source': source, 'destination': destination, 'layer': layer, 'fault': FAULTS[layer].index(name) + 1, 'name': name})]
-            return way if p is None else '%s red %d' % (way, number), [fault('red', seen) if p is None else fault('safe', p)]
-        self.miscoded = None
-        connection = self.connection(p, source, destination)
-        connection.last = time
-        is_from_low = p.sender == connection.ends[0]
-        channel = connection.channel(source, destination, is_from_low)
-        own, other = connection.directions[::1 if is_from_low else -1]
-        words, is_new = own.follow(time, line, channel, number, p, seen[1], other)
-        connection.takes(time, channel, is_from_low, p, words, is_new)
-        place = {'from': p.sender, 'to': p.receiver, 'channel': channel + 1 if channel < CHANNELS else None}
-        self.events = [(name, {**place, **more}) for name, more in events(p, words, is_new)]
-        return '%d->%d ch %s red %d %s sn %d cs %d ts %d cts %d' % (
-            p.sender, p.receiver, channel + 1 if channel < CHANNELS else 'other', number, p.kind, p.sn, p.cs, p.ts, p.cts), words
+    def take(self, time, line, source, destination, number, seen):
+        """Takes a datagram: a PDU, or why it is none, with its redundancy number if it has one."""
+        self.counts['datagrams'] += 1
+        self.tell_before(time)
+        if isinstance(seen, str):
+            return self.damage(time, line, source, destination, number, seen)
+        entry = self.place(source, destination, number, seen)
+        if entry is None:
+            self.counts['left_out'] += 1
+            return None
+        self.newest = entry
+        previous = entry.previous
+        due = max(0, time - previous.last) >= LINGER or entry.begins(number, source, destination, seen)
+        if previous.number and not previous.is_told and due:
+            self.out('session', entry.tell(previous))
+        session, channel, news = entry.take(time, line, source, destination, number, seen)
+        if self.datagrams:
+            self.tell_datagram(entry, time, line, number, seen, session, channel, news)
+        if self.events:
+            self.tell_events(entry, time, line, seen, session, channel, news)
+        return None
 
-    def coded(self, fault):
-        """Returns how many datagrams have another safety code, after one with this fault."""
-        if self.miscoded is None or fault in (None, 'Length'):
-            return self.miscoded
-        return self.miscoded + 1 if fault in ('Code', 'Short') else None
+    def tell_before(self, time):
+        if time - self.looked >= SECOND:
+            self.looked = time
+            for entry in self.connections:
+                if entry.previous.number and not entry.previous.is_told and max(0, time - entry.previous.last) >= LINGER:
+                    self.out('session', entry.tell(entry.previous))
+                if entry.current.ending and not entry.current.is_told and max(0, time - entry.current.last) >= LINGER:
+                    self.out('session', entry.tell(entry.current))
+        if self.every and time >= self.ends:
+            for entry in self.connections if self.ends else []:
+                self.out('period', entry.period(time))
+            self.ends = time + self.every
 
-    def damages(self, source, destination, number, line):
-        """Handles a datagram that is not a PDU, on the channel of the latest connection that has it."""
-        self.damaged += 1
-        for connection in reversed(self.connections):
-            place = connection.known(source, destination)
-            if place is not None:
-                return connection.damages(source, place, number, line)
-
-    def closed(self):
-        """Returns the place of the connection that is forgotten: the first that an end has left, or else the first."""
-        return next((place for place, connection in enumerate(self.connections) if any(side.left for side in connection.sessions[-1].sides)), 0)
-
-    def connection(self, p, source, destination):
-        """Returns the connection of a PDU, now the last: between these addresses, or else the last one that it goes on with, or else a new one."""
-        ends = sorted((p.sender, p.receiver))
-        same = [connection for connection in self.connections if connection.ends == ends]
-        known = ([one for one in same if one.known(source, destination) is not None] or [one for one in same if one.is_continued(p)])[-1:]
-        if not known and len(self.connections) == CONNECTIONS:
-            self.forgotten += 1
-            self.gone = [sum(pair) for pair in zip(self.gone, self.connections.pop(self.closed()).counts())]
-        others = [connection for connection in self.connections if connection not in known]
-        self.connections = others + (known or [Connection(ends)])
+    def place(self, source, destination, red, pdu):
+        of = [entry for entry in self.connections if {pdu.sender, pdu.receiver} == set(entry.ends.values())
+              and (pdu.sender != pdu.receiver or entry.ends[True] == entry.ends[False])]
+        on_channel = [entry for entry in of if entry.route(source, destination)]
+        if self.newest in on_channel:
+            return self.newest
+        found = on_channel or [entry for entry in of if entry.goes_on(red, None, pdu)]
+        if found:
+            return found[0]
+        if len(self.connections) == CONNECTIONS:
+            return None
+        low, high = sorted((pdu.sender, pdu.receiver))
+        self.connections.append(Connection(len(self.connections) + 1, {True: low, False: high}))
         return self.connections[-1]
 
-    def members(self, first, t_max, choose):
-        """Returns all sums as one JSON object in one line."""
-        counts = [sum(column) for column in zip(self.gone, *(connection.counts() for connection in self.connections))]
-        names = ('PDUs', 'missing', 'repeats', 'late', 'differs', 'stale')
-        return json.dumps({'first': first.first or None, 't_max': t_max, 'all': {
-            'datagrams': self.datagrams, **dict(zip(names, counts)), 'damaged': self.damaged, 'forgotten': self.forgotten, 'unreadable': self.unreadable,
-                    'frames': self.frames, 'passed': {'ports': self.others[0], 'times': self.others[1], **dict.fromkeys(('no_ip', 'no_udp', 'tunnels', 'fragments', 'truncated', 'lengths', 'links'), 0)}},
-            'connections': [connection.members() for connection in self.connections],
-            **({'choosing': [Choice(connection).members() for connection in self.connections]} if choose else {})}, separators=(',', ':'))
+    def damage(self, time, line, source, destination, number, fault):
+        self.counts['damaged'] += 1
+        for entry in self.connections:
+            found = entry.route(source, destination)
+            if found:
+                life = entry.current.lives[found[1]]
+                life.damaged, life.damage = life.damaged + 1, life.damage if number is None else number
+                break
+        if self.events or self.datagrams:
+            self.out('damaged', told(time=date(time), line=line, source=source, destination=destination, red_=number, fault=fault))
 
-    def sums(self, first, t_max, choose):
-        if first.first:
-            yield 'sum first datagram at ' + utc(first.first)
-        for connection in self.connections:
-            yield from connection.sums(first, t_max, sum(connection.ends == other.ends for other in self.connections) > 1)
-        counts = [sum(column) for column in zip(self.gone, *(connection.counts() for connection in self.connections))]
-        assert sum(counts) - counts[1] + self.damaged == self.datagrams
-        if any(self.others):
-            yield 'sum passed over: other ports %d other times %d no IP 0 no UDP 0 tunnels 0 fragments 0 truncated 0 lengths 0 links 0' % tuple(self.others)
-        yield 'sum all datagrams %d PDUs %d missing %d repeats %d late %d differs %d stale %d damaged %d forgotten %d unreadable %d' % (
-            self.datagrams, *counts, self.damaged, self.forgotten, self.unreadable)
-        if choose and not self.connections:
-            yield 'choose nothing: no PDU of RaSTA was recorded; record both ends, and look at --ports and --code'
-        for connection in self.connections if choose else []:
-            yield from Choice(connection).lines()
+    def tell_datagram(self, entry, time, line, red, pdu, session, channel, news):
+        lost = news['all'][1] if news['all'][0] == 'ahead' else None
+        self.out('datagram', told(time=date(time), line=line, connection=entry.number, session=session.number, from_=pdu.sender, to_=pdu.receiver,
+                                  channel=channel + 1, red_=red, kind=pdu.kind, sn_=pdu.sn, cs_=pdu.cs, ts_=pdu.ts, cts_=pdu.cts, copy_of=news['copy_of'],
+                                  lost=lost, lost_here=news['lost_here'], age_ms_=news['age'], waits_ms_=news['waits']))
 
+    def tell_events(self, entry, time, line, pdu, session, channel, news):
+        def tell(what, channel=channel, **values):
+            self.out('event', told(what=what, time=date(time), line=line, connection=entry.number, session=session.number, from_=pdu.sender,
+                                   channel=channel + 1, **values))
+        if news['all'][0] == 'ahead':
+            tell('lost', count=news['all'][1])
+        elif news['all'][0] == 'late':
+            tell('late')
+        if news['lost_here']:
+            tell('lost_on_channel', count=news['lost_here'])
+        if news['back'] is not None:
+            tell('back', ms_=news['back'] // 1000)
+        if news['silent'] is not None:
+            tell('silent', channel=news['silent'])
+        what = {'ConnReq': 'asked', 'ConnResp': 'up', 'RetrReq': 'requests', 'DiscReq': 'left'}.get(pdu.kind)
+        if news['all'][0] in NEW and what:
+            tell(what, **({'reason_': pdu.body[1]} if what == 'left' else {}))
+        if news['after_damage']:
+            tell('after_damage')
+        if news['differs']:
+            tell('differs')
+        if news['longest']:
+            tell('waits', ms_=news['waits'])
 
-def fault(layer, name):
-    return '%s fault %d %s' % (layer, FAULTS[layer].index(name) + 1, name)
-
-
-def events(p, words, is_new):
-    """Returns the events of a PDU, by the remarks on it."""
-    for word in words:
-        first, _, rest = word.partition(' ')
-        if first == 'opens':
-            yield 'opens' if p.kind == 'ConnReq' else 'up', {}
-        elif first in ('channel', 'all') and rest.startswith('ahead'):
-            yield 'lost', {'on_every_channel': first == 'all', 'missing': int(rest.split()[1])}
-        elif first in ('channel', 'all') and rest == 'late':
-            yield 'late', {'on_every_channel': first == 'all'}
-        elif first == 'waits' or first == 'resent' and is_new:
-            yield first, {'waits': int(rest.split()[0])} if rest else {}
-        elif first == 'reason' and is_new:
-            yield 'left', dict(zip(('reason', 'detail'), p.body[::-1]))
-
-
-def seconds(micros):
-    return '%s%d.%06d' % ('-' if micros < 0 else '', abs(micros) // 1000000, abs(micros) % 1000000)
-
-
-def utc(micros):
-    days, rest = divmod(micros, 86400 * 10 ** 6)
-    cycles, days = divmod(days, 146097)  # of 400 years, since the library ends with the year 9999
-    day = datetime.date(1970, 1, 1) + datetime.timedelta(days)
-    clock = rest // 10 ** 6
-    return '%d-%02d-%02dT%02d:%02d:%02d.%06dZ' % (day.year + 400 * cycles, day.month, day.day, clock // 3600, clock // 60 % 60, clock % 60, rest % 10 ** 6)
+    def finish(self):
+        for entry in self.connections:
+            for session in (entry.previous, entry.current):
+                if session.number and not session.is_told:
+                    self.out('session', entry.tell(session))
+        for entry in sorted(self.connections, key=lambda entry: -entry.sums['outages']):
+            self.out('connection', entry.sum_up())
 
 
-class Times:
-    """The time of the first datagram, and the form in which times are printed."""
-
-    def __init__(self, form):
-        self.form, self.first = form, None
-
-    def said(self, time):
-        return utc(time) if self.form == 'utc' else seconds(time if self.form == 'epoch' else time - (self.first or 0))
-
-
-def instant(text):
-    """Returns the microseconds that a text names, and whether they are since the first datagram; or None."""
-    found = re.fullmatch(r'(@?)([0-9]+)(?:\.([0-9]{1,9}))?', text)
-    if found:
-        whole = number(found[2], 999999999999)
-        return None if whole is None else (10 ** 6 * whole + int((found[3] or '').ljust(6, '0')[:6]), not found[1])
-    found = re.fullmatch(r'([0-9]{4}-[0-9]{2}-[0-9]{2}T[0-9]{2}:[0-9]{2}:[0-9]{2})(?:\.([0-9]{1,9}))?Z?', text)
-    try:
-        time = datetime.datetime.fromisoformat(found[1] + '+00:00') if found else None
-    except ValueError:
-        time = None
-    if time is None or time.year < 1970:
-        return None
-    return (time - datetime.datetime(1970, 1, 1, tzinfo=datetime.timezone.utc)) // datetime.timedelta(seconds=1) * 10 ** 6 + int(
-        (found[2] or '').ljust(6, '0')[:6]), False
+def text_of(name, record):
+    """A record as a line of text: names and values; a list has its name, then that of each item."""
+    def pairs(name, value):
+        if isinstance(value, list):
+            return [name, *(word for one in value for word in pairs('', one))]
+        if isinstance(value, dict):
+            return [name] * bool(name) + [word for key, one in value.items() for word in pairs(key, one)]
+        return [name, str(value).lower() if isinstance(value, bool) else str(value)]
+    return ' '.join(pairs(name, record))
 
 
-def is_reversed(start, end):
-    """Whether both instants are given in one form, and the last is before the first."""
-    return start is not None and end is not None and start[1] == end[1] and end[0] < start[0]
+def host_of(octets):
+    """An IPv6 address in brackets; one that stands for an address of IPv4 ends in it."""
+    address = ipaddress.ip_address(octets)
+    return '[%s]' % ('::ffff:%s' % address.ipv4_mapped if address.ipv4_mapped else address)
 
 
-def is_within(first, time, start, end):
-    """Whether a time is not before one instant, and not after the other."""
-    from_time, to_time = (None if limit is None else limit[0] + (first if limit[1] else 0) for limit in (start, end))
-    return (from_time is None or from_time <= time) and (to_time is None or time <= to_time)
-
-
-def number(text, most):
-    """Reads decimal digits up to a limit."""
-    digits = text.lstrip('0') or text[:1]
-    return int(digits) if re.fullmatch('[0-9]{1,20}', digits) and int(digits) <= most else None
-
-
-def time(text):
-    """Reads microseconds: seconds, a point, and six to nine digits, of which the first six count."""
-    found = re.fullmatch(r'([0-9]+)\.([0-9]{6})[0-9]{0,3}', text)
-    whole = number(found[1], 999999999999) if found else None
-    return None if whole is None else 1000000 * whole + int(found[2])
-
-
-def address(host, port):
-    seen, port = host_v6(host) if ':' in host else host_v4(host), number(port, 65535)
-    return None if seen is None or port is None else '%s:%d' % (seen, port)
-
-
-def host_v4(host):
-    octets = [number(word, 255) for word in host.split('.')]
-    return None if len(octets) != 4 or None in octets else '%d.%d.%d.%d' % tuple(octets)
-
-
-def host_v6(host):
-    """Writes an IPv6 address as in RFC 5952, in brackets; an embedded IPv4 address has points."""
-    try:
-        seen = ipaddress.IPv6Address(host if re.fullmatch('[0-9a-fA-F:.]*', host) else '')
-    except ValueError:
-        return None
-    return '[%s]' % ('::ffff:%s' % seen.ipv4_mapped if seen.ipv4_mapped else seen.compressed)
-
-
-def read(raw):
-    """Returns time, source, destination and payload of a line, or its first fault."""
-    if len(raw) > LINE_MAX:
-        return 'too long'
-    fields = re.sub('\r?\n$', '', raw.decode('latin-1')).split('\t')
-    if len(fields) != 6:
-        return 'not six fields'
-    seen = time(fields[0]), address(*fields[1:3]), address(*fields[3:5])
-    for value, name in zip(seen, ('time', 'source', 'destination')):
-        if value is None:
-            return name
-    if len(fields[5]) > 2 * PAYLOAD_MAX:
-        return 'too long'
-    return (*seen, bytes.fromhex(fields[5])) if re.fullmatch('([0-9a-fA-F]{2})*', fields[5]) else 'payload'
-
-
-def is_wanted(only, t_max, words):
-    """Whether a line with these words is printed."""
-    if only in ('opens', 'resent', 'reason'):
-        return any(word.split()[0] == only for word in words)
-    if only == 'age':
-        return any(int(word.split()[1]) >= t_max for word in words if word.startswith('age '))
-    if only == 'waits':
-        return any(is_long(word, t_max) for word in words)
-    return only is None or any(word.split()[1] == only for word in words if word.startswith(('channel ', 'all ', 'sn ', 'red ', 'safe ')))
-
-
-def is_long(word, t_max):
-    """Whether this remark is a wait of half of T_max or more; a shorter one is not printed."""
-    return word.startswith('waits ') and 2 * int(word.split()[1]) >= t_max
-
-
-def ranges(text):
-    """Returns the ports that a text names, or None."""
-    found = [re.fullmatch('([0-9]+)(?:-([0-9]+))?', piece) for piece in text.split(',')]
-    pairs = [(number(piece[1], 65535), number(piece[2] or piece[1], 65535)) for piece in found if piece]
-    if len(pairs) < len(found) or len(pairs) > 4 or any(None in pair or pair[0] > pair[1] for pair in pairs):
-        return None
-    return [range(low, high + 1) for low, high in pairs]
-
-
-FOREIGN = {b'\x1f\x8b': 'it is compressed by gzip; use gzip -dc FILE | rasta follow -',
-           b'\x28\xb5\x2f\xfd': 'it is compressed by zstd; use zstd -dc FILE | rasta follow -',
-           b'snoo': 'it is a snoop file; use editcap -F pcapng FILE NEW',
-           b'\xa1\xb2\xcd\x34': 'it is a modified pcap file; use editcap -F pcapng FILE NEW',
-           b'\x34\xcd\xb2\xa1': 'it is a modified pcap file; use editcap -F pcapng FILE NEW'}
-
-
-def foreign(front):
-    """Returns why a file that begins with these octets is not followed, or None."""
-    return next((why for octets, why in FOREIGN.items() if front.startswith(octets)), None)
-
-
-def followed(raws, code=8, only=None, t_max=1800, ports=None, as_json=False, time='since', start=None, end=None, every=None, as_events=False, choose=False):
-    """Returns standard output, standard error and exit status."""
-    follower, times, due, out, err = Follower(Settings(code=code).rule), Times(time), None, [], []
-
-    def sums():
-        return [said + '\n' for said in ([follower.members(times, t_max, choose)] if as_json or as_events else follower.sums(times, t_max, choose))]
-
-    raws = list(raws)
-    why = foreign(raws[0]) if raws else None
-    if why:
-        follower.unreadable, raws = 1, []
-        err.append('recording: unreadable behind frame 0: %s\n' % why)
-    for line, raw in enumerate(raws, 1):
-        seen, follower.frames = read(raw), line
-        if isinstance(seen, str):
-            follower.unreadable += 1
-            err.append('line %d: unreadable: %s\n' % (line, seen))
+def datagrams_in(octets):
+    """Yields line, time, addresses and payload of each datagram of a pcap file of Ethernet frames; None for other frames."""
+    place, line = 24, 0
+    while place < len(octets):
+        seconds, micros, size, _ = struct.unpack_from('<IIII', octets, place)
+        frame, place, line = octets[place + 16:place + 16 + size], place + 16 + size, line + 1
+        kind, head = int.from_bytes(frame[12:14], 'big'), 14
+        if kind == 0x0800 and frame[head + 9] == 17:
+            hosts = [str(ipaddress.ip_address(frame[head + at:head + at + 4])) for at in (12, 16)]
+            udp = head + 4 * (frame[head] % 16)
+        elif kind == 0x86dd and frame[head + 6] == 17:
+            hosts = [host_of(frame[head + at:head + at + 16]) for at in (8, 24)]
+            udp = head + 40
+        else:
+            yield line, None, None, None, None, None
             continue
-        if ports and not any(int(end.rpartition(':')[2]) in some for end in seen[1:3] for some in ports):
-            follower.others[0] += 1
-            continue
-        if times.first is None:
-            times.first, due = seen[0], seen[0] + (every or 0) * 10 ** 6
-        if not is_within(times.first, seen[0], start, end):
-            follower.others[1] += 1
-            continue
-        said, words = follower.line(seen[0], line, *seen[1:])
-        if is_wanted(only, t_max, words) and as_events:
-            said = times.said(seen[0])
-            out += ['{"event":"%s","time":%s,%s\n' % (name, '"%s"' % said if time == 'utc' else said,
-                                                      json.dumps({'line': line, **more}, separators=(',', ':'))[1:])
-                    for name, more in follower.events if name != 'waits' or 2 * more['waits'] >= t_max]
-        elif is_wanted(only, t_max, words) and not as_json:
-            words = [word for word in words if not word.startswith('waits ') or is_long(word, t_max)]
-            out.append(' '.join([times.said(seen[0]), 'line', str(line), said] + words) + '\n')
-        if every and due <= seen[0]:
-            out += sums()
-            due = times.first + (max(0, seen[0] - times.first) // (every * 10 ** 6) + 1) * every * 10 ** 6
-    out += sums()
-    if follower.forgotten:
-        err.append('connections: %d were forgotten, since more than %d were recorded at once; choose some by --ports\n' % (follower.forgotten, CONNECTIONS))
-    if follower.miscoded:
-        err.append('datagrams: all %d of RaSTA have another safety code; choose it by --code or --iv\n' % follower.miscoded)
-    return ''.join(out), ''.join(err), 1 if err else 0
+        ports = struct.unpack_from('>HHH', frame, udp)
+        ends = ['%s:%d' % pair for pair in zip(hosts, ports)]
+        yield line, seconds * SECOND + micros, *ends, ports[:2], frame[udp + 8:udp + ports[2]]
+
+
+def seen_by(payload, rules):
+    """Returns the redundancy number, and the PDU with its octets or the word of its fault; by the first rule, or the second where the first fails."""
+    outer = red_seen(payload)
+    if isinstance(outer, str):
+        return None, 'red'
+    found = [safe_seen(outer[1], rule) for rule in rules]
+    best = next((one for one in found if not isinstance(one, str)), found[0])
+    if isinstance(best, str):
+        return outer[0], FAULTS[best]
+    best.octets = outer[1]
+    return outer[0], best
+
+
+def followed(octets, code=None, ports=None, **told_too):
+    """Returns name and record of each line."""
+    lines = []
+    follower = Follower(lambda name, record: lines.append((name, record)), **told_too)
+    rules = [Settings(code=one).rule for one in ((8, 16) if code is None else (code,))]
+    counts = dict(frames=0, no_udp=0, other_port=0)
+    for line, time, source, destination, both, payload in datagrams_in(octets):
+        counts['frames'] += 1
+        if payload is None:
+            counts['no_udp'] += 1
+        elif ports and not any(first <= port <= last for first, last in ports for port in both):
+            counts['other_port'] += 1
+        else:
+            follower.take(time, line, source, destination, *seen_by(payload, rules))
+    follower.finish()
+    c = follower.counts
+    lines.append(('recording', told(frames_=counts['frames'], no_udp=counts['no_udp'], other_port=counts['other_port'], datagrams_=c['datagrams'],
+                                    damaged=c['damaged'], left_out=c['left_out'])))
+    return lines
+
+
+def printed(lines, is_json):
+    return ''.join((json.dumps({name: record}, separators=(',', ':')) if is_json else text_of(name, record)) + '\n' for name, record in lines)
 
 
 def main(words):
-    parser = argparse.ArgumentParser(usage=__doc__)
-    parser.add_argument('word', choices=['follow'])
-    parser.add_argument('--code', type=int, choices=(0, 8, 16), default=8)
-    parser.add_argument('--only', choices=ONLY)
-    parser.add_argument('--ports', type=ranges)
-    parser.add_argument('--json', action='store_true')
-    parser.add_argument('--events', action='store_true')
-    parser.add_argument('--t-max', type=int, default=1800)
-    parser.add_argument('--time', choices=('since', 'epoch', 'utc'), default='since')
-    parser.add_argument('--from', dest='start', type=instant)
-    parser.add_argument('--to', dest='end', type=instant)
-    parser.add_argument('--every', type=int)
-    parser.add_argument('--choose', action='store_true')
-    parser.add_argument('file')
-    asked = parser.parse_args(words)
-    if is_reversed(asked.start, asked.end):
-        parser.error("'--to' is before '--from'")
-    with open(asked.file, 'rb') as file:
-        out, err, status = followed(file, asked.code, asked.only, asked.t_max, asked.ports, asked.json, asked.time, asked.start, asked.end, asked.every, asked.events, asked.choose)
-    sys.stdout.write(out)
-    sys.stderr.write(err)
-    return status
+    options, flags = {}, set()
+    words = words[1:]
+    while len(words) > 1:
+        word = words.pop(0)
+        if word in ('--json', '--events', '--datagrams'):
+            flags.add(word[2:])
+        else:
+            options[word[2:]] = words.pop(0)
+    ports = [tuple(int(port) for port in (one.split('-') * 2)[:2]) for one in options.get('ports', '').split(',') if one]
+    with open(words[0], 'rb') as file:
+        lines = followed(file.read(), None if options.get('code', 'auto') == 'auto' else int(options['code']), ports,
+                         events='events' in flags, datagrams='datagrams' in flags, every=int(options.get('every', 0)))
+    print(printed(lines, 'json' in flags), end='')
+    return 0
 
 
 if __name__ == '__main__':

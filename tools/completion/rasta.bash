@@ -4,16 +4,10 @@ _rasta() {
     case ${COMP_WORDS[1]}$before in
     show--code) words='0 8 16' ;;
     show--iv) words='' ;;
-    follow--code) words='0 8 16' ;;
+    follow--code) words='none' ;;
     follow--iv) words='' ;;
-    follow--only) words='opens repeat differs ahead late stale anew resent age waits reason fault' ;;
-    follow--t-max) words='' ;;
     follow--ports) words='' ;;
-    follow--time) words='since epoch utc' ;;
-    follow--from) words='' ;;
-    follow--to) words='' ;;
     follow--every) words='' ;;
-    follow--beside) words='' ;;
     il--turns) words='' ;;
     il--log) words='off state all' ;;
     il--time) words='' ;;
@@ -38,10 +32,10 @@ _rasta() {
         *,md4) words='-h --help' ;;
         *,show) words='--code --iv -h --help' ;;
         *,sim) words='-h --help' ;;
-        *,follow) words='--code --iv --only --t-max --messages --ports --json --choose --events --time --from --to --every --beside -h --help' ;;
-        *,il) words='--turns --until-end --end-on-3 --log --time --stamp --expect --keep --stats --every -h --help' ;;
-        *,fe) words='--turns --until-end --end-on-3 --log --time --stamp --expect --keep --stats --every -h --help' ;;
-        *,pair) words='--turns --until-end --end-on-3 --log --time --stamp --expect --keep --stats --every -h --help' ;;
+        *,follow) words='--code --iv --json --events --datagrams --ports --every -h --help' ;;
+        *,il) words='--turns --until-end --end-on- --log --time --stamp --expect --keep --stats --every -h --help' ;;
+        *,fe) words='--turns --until-end --end-on- --log --time --stamp --expect --keep --stats --every -h --help' ;;
+        *,pair) words='--turns --until-end --end-on- --log --time --stamp --expect --keep --stats --every -h --help' ;;
         *,check) words='-h --help' ;;
         2,help) words='md4 show sim follow il fe pair check' ;;
         2,--completion) words='bash' ;;

@@ -1,14 +1,5 @@
 pub mod Words
-pub mod Lines
 pub mod Datagrams
-pub mod Numbers
-pub mod Directions
-pub mod Continuation
-pub mod Sessions
-pub mod Measures
-pub mod Connections
-pub mod WholeCapture
-pub mod Laws
 pub mod Ports
 pub mod Places
 pub mod Packets
@@ -16,4 +7,3 @@ pub mod Encapsulations
 pub mod Frames
 pub mod Times
 pub mod Recordings
-pub mod Instants

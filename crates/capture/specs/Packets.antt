@@ -1,8 +1,8 @@
 -- The UDP datagram of an IP packet, by its places in the frame.
 use Rattle.std.specs.Prelude.{ℕ, ◌+◌, ◌*◌, ◌/◌, ◌%◌, ◌==◌, ◌||◌, Bool, not, nat_eq, nat_lt, List, length, if◌then◌else◌, Option, Some, Result, Ok, Err}
-use Rattle.capture.specs.declared.line.Address.{Address}
-use Rattle.capture.specs.declared.line.Host.{Host}
-use Rattle.capture.specs.declared.line.Host.TheVariants.{V4, V6}
+use Rattle.capture.specs.declared.address.Address.{Address}
+use Rattle.capture.specs.declared.address.Host.{Host}
+use Rattle.capture.specs.declared.address.Host.TheVariants.{V4, V6}
 use Rattle.capture.specs.Places.{big_at, octet_at, four_at, sixteen_at}
 use Rattle.capture.specs.declared.frame.TheConstants.{FRAGMENT, UDP, WITHIN_V4, WITHIN_V6}
 use Rattle.capture.specs.declared.frame.FoundDatagram.{FoundDatagram}

@@ -1,7 +1,7 @@
 -- The UDP ports whose datagrams are followed.
 use Rattle.std.specs.Prelude.{ℕ, ◌&&◌, ◌||◌, Bool, true, false, nat_eq, nat_le, nat_lt, List, [], ◌∷◌, if◌then◌else◌, Option, Some, None}
 use Rattle.std.specs.List.{list_any}
-use Rattle.capture.specs.declared.line.Record.{Record}
+use Rattle.capture.specs.declared.address.Record.{Record}
 use Rattle.capture.specs.declared.ports.PortRange.{PortRange}
 use Rattle.capture.specs.Words.{before, behind, marks, number_of}
 

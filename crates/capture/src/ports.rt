@@ -3,7 +3,7 @@
 ghost use Rattle.std.specs.Prelude.{◌≡◌, ◌≤◌, IfSome};
 ghost use Rattle.capture.specs.Ports.{has_port, holds_port, is_chosen, ports_of, range_between, range_of, slot_of};
 
-use crate::line::Record;
+use crate::address::Record;
 use crate::words::{are_parted_by, count_marks, number, part};
 
 /// Largest number of port ranges in a choice: one for each channel that a connection can have here.

@@ -1,4 +1,4 @@
-//! What is shown of channels, an end and a pair, and of settings files, texts of datagrams, captures and scripts by examples.
+//! What is shown of channels, an end and a pair, and of settings files, texts of datagrams, recordings and scripts by examples.
 //!
 //! A crate of its own, since a crate with tests is proved once more with them.
 #![tactic(auto)]
@@ -7,8 +7,6 @@
 mod assertions;
 #[cfg(test)]
 mod capture_tests;
-#[cfg(test)]
-mod capture_text_tests;
 #[cfg(test)]
 mod channels_tests;
 #[cfg(test)]

@@ -77,7 +77,7 @@ fn tells_a_failed_output(rt: HostRuntime) -> Result<(), Fail> {
 /// Returns what `follow` is asked for a capture of PDUs without a code on standard input.
 fn plain_following() -> FollowRequest<'static> {
     FollowRequest {
-        code: CodeLength::Zero,
+        code: Some(CodeLength::Zero),
         ..plain_follow("-")
     }
 }
@@ -100,12 +100,6 @@ const NO_FILE: &str = "fault: file\nfile: -: it cannot be read\n";
 
 const NO_OUTPUT: &str = "fault: output\n";
 
-/// A line of a datagram without octets.
-const EMPTY_DATAGRAM: &[u8] = b"1.000000\t10.0.0.1\t1\t10.0.0.2\t2\t\n";
-
-const HEARTBEAT: &[u8] =
-    b"1.000000\t10.0.0.1\t1\t10.0.0.2\t2\t24000000000000001c004c18020000000100000065000000f40100000a00000005000000\n";
-
 /// The header of a recording of Ethernet frames.
 const RECORDING: [u8; 24] = [
     0xd4, 0xc3, 0xb2, 0xa1, 2, 0, 4, 0, 0, 0, 0, 0, 0, 0, 0, 0, 255, 255, 0, 0, 1, 0, 0, 0,
@@ -119,16 +113,26 @@ fn stopped(octets: &[u8]) -> Chain<&[u8], Broken> {
     Read::chain(octets, broken)
 }
 
-// If a capture can't be read to its end, `follow` prints what it read, and then a fault of the file, also if a recording breaks off between two
-// frames. Want of memory is no fault of the file.
+// A recording that can't be read to its end is a fault of the file, though it breaks off between two frames.
 #[test]
-fn tells_what_stops_a_capture(rt: HostRuntime) {
+fn tells_what_stops_a_recording(rt: HostRuntime) {
     let mut out = Vec::new(rt.alloc());
-    follows(&rt, stopped(HEARTBEAT), &mut out, Status::Refused, NO_FILE);
-    let said = "0.000000 line 1 1->2 ch 1 red 0 HB sn 101 cs 500 ts 10 cts 5\n";
-    assert_equal(&rt, out.as_slice(), said.as_bytes());
-    out.clear();
     follows(&rt, stopped(&RECORDING), &mut out, Status::Refused, NO_FILE);
+    assert_true(&rt, out.is_empty());
+}
+
+// A recording without a frame has only its sums.
+#[test]
+fn sums_up_an_empty_recording(rt: HostRuntime) {
+    let mut out = Vec::new(rt.alloc());
+    follows(&rt, &RECORDING[..], &mut out, Status::Done, "");
+    assert_equal(&rt, out.as_slice(), b"recording frames 0 datagrams 0\n");
+}
+
+// Want of memory while a recording is read is no fault of its file.
+#[test]
+fn tells_want_of_memory_in_reading(rt: HostRuntime) {
+    let mut out = Vec::new(rt.alloc());
     let reader = Broken {
         kind: ErrorKind::OutOfMemory,
     };
@@ -136,38 +140,25 @@ fn tells_what_stops_a_capture(rt: HostRuntime) {
     assert_true(&rt, out.is_empty());
 }
 
-// If the output fails, `follow` fails: in mid-capture, after the last line, and if it prints only the sums of an empty capture. An output that
-// its reader has closed is no fault: that reader has what it wanted.
+// If the output fails, `follow` fails.
 #[test]
-fn tells_an_output_that_fails(rt: HostRuntime) -> Result<(), Fail> {
-    let mut lines = Vec::new(rt.alloc());
-    for _ in 0..400 {
-        lines.extend_from_slice(EMPTY_DATAGRAM)?;
-    }
-    for lines in [lines.as_slice(), EMPTY_DATAGRAM, b""] {
-        follows(&rt, lines, &mut Broken::new(), Status::Failed, NO_OUTPUT);
-    }
+fn tells_an_output_that_fails(rt: HostRuntime) {
+    follows(
+        &rt,
+        &RECORDING[..],
+        &mut Broken::new(),
+        Status::Failed,
+        NO_OUTPUT,
+    );
+}
+
+// An output that its reader has closed is no fault: that reader has what it wanted.
+#[test]
+fn ends_done_if_nobody_reads(rt: HostRuntime) {
     let mut unread = Broken {
         kind: ErrorKind::BrokenPipe,
     };
-    follows(&rt, EMPTY_DATAGRAM, &mut unread, Status::Done, "");
-    Ok(())
-}
-
-// The longest datagram has 1,258 octets; its line is not too long, by whatever addresses.
-#[test]
-fn reads_the_line_of_the_longest_datagram(rt: HostRuntime) -> Result<(), Fail> {
-    let mut out = Vec::new(rt.alloc());
-    let mut line = Vec::new(rt.alloc());
-    line.extend_from_slice(
-        b"1700000000.000000000\t2001:0db8:0000:0000:0000:0000:0000:0001\t46101\t2001:0db8:0000:0000:0000:0000:0000:0002\t46201\t",
-    )?;
-    for _ in 0..1258 {
-        line.extend_from_slice(b"ff")?;
-    }
-    line.push(b'\n')?;
-    follows(&rt, line.as_slice(), &mut out, Status::Done, "");
-    Ok(())
+    follows(&rt, &RECORDING[..], &mut unread, Status::Done, "");
 }
 
 /// A program's path and its words as octets, with one space before each word.
@@ -227,7 +218,7 @@ fn passes_over_its_path(rt: HostRuntime) {
 
 /// Words of runs that read a file.
 const READING: &str = "\
-rasta follow --code 8 night.tsv
+rasta follow --code 8 night.pcap
 rasta il --turns 1 il.toml
 rasta sim some.sim
 ";

@@ -1,9 +1,8 @@
 use crate::assertions::{assert_equal_at, assert_true_at};
-use capture::{Instant, Span, read_ports};
-use capture_text::{Remarkable, TimeForm};
+use capture::read_ports;
 use rasta_words::{
-    CountsForm, CountsRequest, ExpectedState, FollowRequest, FollowTimes, LogLevel, LogTime,
-    Request, RunLength, RunRequest, command,
+    CountsForm, CountsRequest, ExpectedState, FollowRequest, LogLevel, LogTime, Request, RunLength,
+    RunRequest, command,
 };
 use safe_pdu::CodeLength;
 use settings_file::Subcommand as Ends;
@@ -35,25 +34,14 @@ fn reads_as(rt: &(impl AllocGlobal + Abort), line: &str, wanted: Request<'_>) ->
 /// Returns what `follow` is asked without an option.
 pub(crate) fn plain_follow(file: &str) -> FollowRequest<'_> {
     FollowRequest {
-        code: CodeLength::Eight,
+        code: None,
         iv: None,
-        messages: false,
-        only: None,
-        t_max: 1800,
-        file,
         ports: None,
         json: false,
         events: false,
-        choose: false,
-        times: FollowTimes {
-            form: TimeForm::Since,
-            span: Span {
-                from: None,
-                to: None,
-            },
-            every: None,
-        },
-        beside: None,
+        datagrams: false,
+        every: None,
+        file,
     }
 }
 
@@ -76,32 +64,25 @@ fn accepts_the_words_of_short_runs(rt: HostRuntime) -> Result<(), Fail> {
 // The defaults of `follow`, and each of its options.
 #[test]
 fn accepts_the_words_of_follow(rt: HostRuntime) -> Result<(), Fail> {
-    let plain = plain_follow("night.tsv");
-    reads_as(&rt, "rasta follow night.tsv", Request::Follow(plain))?;
+    let plain = plain_follow("night.pcap");
+    reads_as(&rt, "rasta follow night.pcap", Request::Follow(plain))?;
+    reads_as(
+        &rt,
+        "rasta follow --code auto night.pcap",
+        Request::Follow(plain),
+    )?;
     let line =
-        "rasta follow --messages --code 16 --only age --t-max 900 --iv 01000000020000000300000004000000 \
---ports 46101-46102,5000 --json --events --choose --time utc --from 90.5 --to 2026-11-27T03:12:00Z --every 60 -";
-    let times = FollowTimes {
-        form: TimeForm::Utc,
-        span: Span {
-            from: Some(Instant::Since(90_500_000)),
-            to: Some(Instant::At(1_795_749_120_000_000)),
-        },
-        every: Some(60),
-    };
+        "rasta follow --code 16 --iv 01000000020000000300000004000000 --ports 46101-46102,5000 \
+--json --events --datagrams --every 60 -";
     let wanted = FollowRequest {
-        code: CodeLength::Sixteen,
+        code: Some(CodeLength::Sixteen),
         iv: Some(OWN_VALUE),
-        messages: true,
-        only: Some(Remarkable::Age),
-        t_max: 900,
-        file: "-",
         ports: read_ports(b"46101-46102,5000"),
         json: true,
         events: true,
-        choose: true,
-        times,
-        beside: None,
+        datagrams: true,
+        every: Some(60),
+        file: "-",
     };
     reads_as(&rt, line, Request::Follow(wanted))
 }

@@ -1,22 +1,21 @@
-//! The subcommand `follow`: a recorded connection, line by line.
+//! The subcommand `follow`: a recording, as what happened in it.
 
 ghost use Rattle.std.specs.Prelude.{◌≡◌, ◌≢◌, None};
 ghost use Rattle.std.specs.Option.{option_copied};
 ghost use Rattle.pdu_text.specs.HexText.{initial_value_of};
-ghost use Rattle.rasta_run.specs.FollowCommand.{options_under, end_of, form_of};
+ghost use Rattle.rasta_run.specs.FollowCommand.{end_of, options_under};
 
 use crate::program::report_file;
-use capture_text::{FollowOptions, FollowStatus, OutputForm};
+use follow_run::{FollowOptions, FollowStatus};
 use pdu_text::initial_value;
 use rasta_words::{Fault, FollowRequest, Status, report};
-use safe_pdu::CodeRule;
 use std::alloc::Global;
 use std::io::{Read, Write};
 
-/// Runs `follow` over the capture of a reader. The lines of its datagrams and the summary go to `out`, lines that
-/// are not datagrams to `err`. It returns `Done` if each line was a datagram, and `Refused` if one was not. It also
-/// returns `Done` if the reader of `out` has closed it, and else the status of the fault that stopped it: of the file,
-/// of memory or of an output. An initial value that is not 32 hex digits is `fault: hex`.
+/// Runs `follow` over the recording of a reader. Its lines go to `out`, what could not be read goes to `err`. It returns
+/// `Done` if all was followed, and `Refused` if something was not. It also returns `Done` if the reader of `out` has closed
+/// it, and else the status of the fault that stopped it: of the file, of memory or of an output. An initial value that is
+/// not 32 hex digits is `fault: hex`.
 ///
 /// It is not inlined, so that its stack is not that of every subcommand.
 #[inline(never)]
@@ -35,50 +34,31 @@ pub fn run_follow<R: Read + Drop, O: Write, E: Write>(
     let Some(asked) = options_for(following) else {
         return report(err, Fault::Hex);
     };
-    match capture_text::run(alloc, reader, &asked, out, err) {
+    match follow_run::run(alloc, reader, &asked, out, err) {
         FollowStatus::File => report_file(following.file, "it cannot be read", err),
         ended => end(err, ended),
     }
 }
 
-/// Returns the choices of `follow` in the form that `capture_text` expects; `None` if the initial value is not 32
-/// hex digits.
+/// Returns the choices of `follow` in the form that `follow_run` expects; `None` if the initial value is not 32 hex
+/// digits.
 fn options_for(following: &FollowRequest<'_>) -> Option<FollowOptions>
     ensures { result ≡ options_under following.now (initial_value_of (option_copied following.now.iv)) }
 {
     let initial_value = initial_value(following.iv)?;
     Some(FollowOptions {
-        rule: CodeRule {
-            length: following.code,
-            initial_value,
-        },
-        only: following.only,
-        t_max: following.t_max,
-        messages: following.messages,
+        code: following.code,
+        initial_value,
         ports: following.ports,
-        form: form(following.json, following.events),
-        time: following.times.form,
-        span: following.times.span,
-        every: following.times.every,
-        choose: following.choose,
+        json: following.json,
+        events: following.events,
+        datagrams: following.datagrams,
+        every: following.every,
     })
 }
 
-/// Returns the form of the output.
-fn form(json: bool, events: bool) -> OutputForm
-    ensures { result ≡ form_of json events }
-{
-    if events {
-        OutputForm::Events
-    } else if json {
-        OutputForm::Json
-    } else {
-        OutputForm::Lines
-    }
-}
-
 /// Prints the fault that stopped a run, and returns how the program ends.
-pub(crate) fn end<E: Write>(err: &mut E, ended: FollowStatus) -> Status
+fn end<E: Write>(err: &mut E, ended: FollowStatus) -> Status
     ensures { result ≡ end_of ended }
 {
     match ended {

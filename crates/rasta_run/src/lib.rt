@@ -5,7 +5,6 @@
 #![tactic(auto)]
 
 mod backlog;
-mod beside;
 mod calendar;
 mod channel_failures;
 mod check;
@@ -48,7 +47,6 @@ mod totals;
 mod turns;
 mod waits;
 
-pub use beside::run_beside;
 pub use check::run_check;
 pub use counts::{ChannelCounts, RunCounts};
 pub use follow::run_follow;

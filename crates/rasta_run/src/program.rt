@@ -8,7 +8,6 @@ ghost use Rattle.rasta_run.specs.RunResults.{IsRequestDone};
 ghost use Rattle.rasta_run.specs.Refusal.{EndsWithStatus};
 ghost use Rattle.rasta_run.specs.FilePaths.{path_to};
 
-use crate::beside::run_beside;
 use crate::check::{run_check, run_check_both};
 use crate::follow::run_follow;
 use crate::scripts::run_sim;
@@ -83,7 +82,7 @@ fn run_script<R: AllocGlobal + Files, O: Write, E: Write>(
     }
 }
 
-/// Follows the capture of a file, or pairs it with another one.
+/// Follows the recording of a file.
 fn run_capture<R: AllocGlobal + Files, O: Write, E: Write>(
     rt: &R,
     following: &FollowRequest<'_>,
@@ -92,10 +91,7 @@ fn run_capture<R: AllocGlobal + Files, O: Write, E: Write>(
 ) -> Status {
     let path = path_of(following.file);
     match fs::open(rt, path) {
-        Ok(file) => match following.beside {
-            None => run_follow(rt.alloc(), file, following, out, err),
-            Some(beside) => run_both(rt, file, following, beside, out, err),
-        },
+        Ok(file) => run_follow(rt.alloc(), file, following, out, err),
         Err(error) => refuse_file(path, &error, err),
     }
 }
@@ -105,22 +101,6 @@ fn path_of(file: &str) -> &str
     ensures { result.now ≡ path_to file.now }
 {
     if file == "-" { "/dev/stdin" } else { file }
-}
-
-/// Pairs the datagrams of an open recording with those of another one.
-fn run_both<R: AllocGlobal + Files, H: Read + Drop, O: Write, E: Write>(
-    rt: &R,
-    here: H,
-    following: &FollowRequest<'_>,
-    beside: &str,
-    out: &mut O,
-    err: &mut E,
-) -> Status {
-    let path = path_of(beside);
-    match fs::open(rt, path) {
-        Ok(there) => run_beside(rt.alloc(), here, there, following, beside, out, err),
-        Err(error) => refuse_file(path, &error, err),
-    }
 }
 
 /// Runs ends over the sockets that a settings file names. It is not inlined, so that no other command pays for its

@@ -3,8 +3,7 @@ use Rattle.std.specs.Prelude.{◌≡◌, ⊤, true, List, codes, Option, Some}
 use Rattle.std.specs.Option.{option_copied}
 use Rattle.clap.specs.Words.{App, HasKind, Row, Text, fault_of, first_of, new_app, subcommand_of}
 use Rattle.rasta_words.specs.Arguments.{with_command, with_last, with_operand, with_option, with_required}
-use Rattle.rasta_words.specs.BesideOptions.{HasChoices}
-use Rattle.rasta_words.specs.Choices.{code_word, follow_app}
+use Rattle.rasta_words.specs.Choices.{HasChoices, code_word, follow_app}
 use Rattle.rasta_words.specs.Runs.{IsRun, ends_word, net_app}
 use Rattle.rasta_words.specs.declared.command_line.Request.{Request}
 use Rattle.rasta_words.specs.declared.command_line.Request.TheVariants.{Check, Digest, Show, Sim, Follow, Net}

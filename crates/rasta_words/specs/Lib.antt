@@ -1,9 +1,7 @@
 pub mod Arguments
 pub mod Seconds
-pub mod Times
 pub mod Status
 pub mod Choices
-pub mod BesideOptions
 pub mod CommandLine
 pub mod Runs
 pub mod Rejections

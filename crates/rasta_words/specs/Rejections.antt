@@ -1,9 +1,6 @@
 -- Why the entries of a subcommand are not a request, and which reason comes first.
 use Rattle.std.specs.Prelude.{◌≡◌, ◌≢◌, ◌⊎◌, ℕ, Bool, false, true, List, codes, Option, None, Some}
-use Rattle.capture.specs.declared.instants.Instant.{Instant}
 use Rattle.capture.specs.declared.ports.PortRange.{PortRange}
-use Rattle.capture_text.specs.declared.choice.Remarkable.{Remarkable}
-use Rattle.capture_text.specs.declared.pieces.TimeForm.{TimeForm}
 use Rattle.safe_pdu.specs.declared.CodeLength.{CodeLength}
 use Rattle.clap.specs.Words.{Row, Text, first_of}
 use Rattle.settings_file.specs.declared.Subcommand.{Subcommand}
@@ -13,14 +10,11 @@ use Rattle.rasta_words.specs.declared.status.LogLevel.{LogLevel}
 use Rattle.rasta_words.specs.declared.status.LogTime as times
 use Rattle.rasta_words.specs.declared.status.RunLength.{RunLength}
 use Rattle.rasta_words.specs.declared.rejection.Choice.{Choice}
-use Rattle.rasta_words.specs.declared.rejection.Choice.TheVariants.{ShowCode, Turns, Log, LogTime, Expect, Stats, Every, Code, Only, TMax, Ports, Times, From, To, Period}
+use Rattle.rasta_words.specs.declared.rejection.Choice.TheVariants.{ShowCode, Turns, Log, LogTime, Expect, Stats, Every, Code, Ports, Period}
 use Rattle.rasta_words.specs.declared.rejection.Rejection.{Rejection}
-use Rattle.rasta_words.specs.declared.rejection.Rejection.TheVariants.{Value, NoLength, TwoLengths, EveryAlone, Missing, NotBeside, OneInput, Reversed}
-use Rattle.rasta_words.specs.Choices.{ArePortsChosen, IsAgeChosen, IsCodeChosen, IsMilliseconds, IsPorts, IsRemarkChosen, IsWritten, code_word, is_flagged}
-use Rattle.rasta_words.specs.Seconds.{IsSeconds}
-use Rattle.rasta_words.specs.Times.{HasEachTime, HasForm as HasTimeForm, HasFrom, HasTimes, HasTo, IsInstant, is_reversed, times_word}
-use Rattle.rasta_words.specs.BesideOptions.{IsBesideRejected}
-use Rattle.rasta_words.specs.declared.command_line.FollowTimes.{FollowTimes}
+use Rattle.rasta_words.specs.declared.rejection.Rejection.TheVariants.{Value, NoLength, TwoLengths, EveryAlone, Missing}
+use Rattle.rasta_words.specs.Choices.{ArePortsChosen, IsCode, IsCodeChosen, IsPorts, code_word, is_flagged}
+use Rattle.rasta_words.specs.Seconds.{AreSecondsChosen, IsSeconds}
 use Rattle.rasta_words.specs.Runs.{IsEndChosen, IsLengthChosen, IsLogChosen, IsTimeChosen, IsTurns, ends_word, expected_word, form_word, log_word, time_word}
 
 -- the name of an option, under which clap keeps its value
@@ -33,12 +27,7 @@ option_name Expect = codes "expect"
 option_name Stats = codes "stats"
 option_name Every = codes "every"
 option_name Code = codes "code"
-option_name Only = codes "only"
-option_name TMax = codes "t-max"
 option_name Ports = codes "ports"
-option_name Times = codes "time"
-option_name From = codes "from"
-option_name To = codes "to"
 option_name Period = codes "every"
 
 -- the option does not accept this value
@@ -50,13 +39,8 @@ IsUnfit LogTime word = (time : times.LogTime) → word ≢ time_word time
 IsUnfit Expect word = (expected : ExpectedState) → word ≢ expected_word expected
 IsUnfit Stats word = (form : CountsForm) → word ≢ form_word form
 IsUnfit Every word = (seconds : ℕ) → ¬ IsSeconds word seconds
-IsUnfit Code word = (code : CodeLength) → word ≢ code_word code
-IsUnfit Only word = (remark : Option Remarkable) → ¬ IsWritten word remark
-IsUnfit TMax word = (age : ℕ) → ¬ IsMilliseconds word age
+IsUnfit Code word = (code : Option CodeLength) → ¬ IsCode word code
 IsUnfit Ports word = (ports : Option (List (Option PortRange))) → ¬ IsPorts word ports
-IsUnfit Times word = (form : TimeForm) → word ≢ times_word form
-IsUnfit From word = (instant : Option Instant) → ¬ IsInstant word instant
-IsUnfit To word = (instant : Option Instant) → ¬ IsInstant word instant
 IsUnfit Period word = (seconds : ℕ) → ¬ IsSeconds word seconds
 
 -- the rejection names this option and this value, which the option does not accept
@@ -65,9 +49,6 @@ NamesOption choice word (Value option value) = (option ≡ choice) × (value.now
 NamesOption choice word NoLength = ⊥
 NamesOption choice word TwoLengths = ⊥
 NamesOption choice word EveryAlone = ⊥
-NamesOption choice word (NotBeside option) = ⊥
-NamesOption choice word OneInput = ⊥
-NamesOption choice word Reversed = ⊥
 NamesOption choice word Missing = ⊥
 
 -- the same, of an option that may be absent
@@ -116,15 +97,7 @@ HasEnd rows = (expected : Option ExpectedState) × IsEndChosen (first_of (codes 
 
 -- `--code` of `follow` is valid or absent
 abbrev pub HasCode : List Row → Type 0
-HasCode rows = (code : CodeLength) × IsCodeChosen (first_of (codes "code") rows) code
-
--- `--only` is valid or absent
-abbrev pub HasRemark : List Row → Type 0
-HasRemark rows = (remark : Option Remarkable) × IsRemarkChosen (first_of (codes "only") rows) remark
-
--- `--t-max` is valid or absent
-abbrev pub HasAge : List Row → Type 0
-HasAge rows = (age : ℕ) × IsAgeChosen (first_of (codes "t-max") rows) age
+HasCode rows = (code : Option CodeLength) × IsCodeChosen (first_of (codes "code") rows) code
 
 -- why the entries of `show` are not a request
 abbrev pub IsShowRejected : List Row → Rejection → Type 0
@@ -136,37 +109,18 @@ IsShowRejected rows r =
 abbrev pub HasPorts : List Row → Type 0
 HasPorts rows = (ports : Option (List (Option PortRange))) × ArePortsChosen (first_of (codes "ports") rows) ports
 
--- why the times of `follow` are not valid: the first of its options, in the order --time, --from, --to, --every; if
--- each is valid, that `--to` is before `--from`
-abbrev pub AreTimesRejected : List Row → Rejection → Type 0
-AreTimesRejected rows r =
-    NamesGivenOption Times (first_of (codes "time") rows) r
-    ⊎ (HasTimeForm rows × NamesGivenOption From (first_of (codes "from") rows) r)
-    ⊎ (HasTimeForm rows × HasFrom rows × NamesGivenOption To (first_of (codes "to") rows) r)
-    ⊎ (HasTimeForm rows × HasFrom rows × HasTo rows × NamesGivenOption Period (first_of (codes "every") rows) r)
-    ⊎ ((t : FollowTimes) × HasEachTime rows t × (is_reversed t.span ≡ true) × (r ≡ Reversed))
-
--- the times of `follow` are valid
-abbrev pub HasAllTimes : List Row → Type 0
-HasAllTimes rows = (t : FollowTimes) × HasTimes rows t
-
--- why `--beside` does not go with the other entries
-abbrev pub IsBesideRejectedFor : Option Text → List Row → Rejection → Type 0
-IsBesideRejectedFor None rows r = ⊥
-IsBesideRejectedFor (Some file) rows r = IsBesideRejected rows file r
+-- `--every` of `follow` is valid or absent
+abbrev pub HasPeriod : List Row → Type 0
+HasPeriod rows = (every : Option ℕ) × AreSecondsChosen (first_of (codes "every") rows) every
 
 -- why the entries of `follow` are not a request: the first of its options that is not valid, in the order --code,
--- --only, --t-max, --ports, its times, then --beside
+-- --ports, --every, or that the file is missing
 abbrev pub IsFollowRejected : List Row → Rejection → Type 0
 IsFollowRejected rows r =
     NamesGivenOption Code (first_of (codes "code") rows) r
-    ⊎ (HasCode rows × NamesGivenOption Only (first_of (codes "only") rows) r)
-    ⊎ (HasCode rows × HasRemark rows × NamesGivenOption TMax (first_of (codes "t-max") rows) r)
+    ⊎ (HasCode rows × NamesGivenOption Ports (first_of (codes "ports") rows) r)
+    ⊎ (HasCode rows × HasPorts rows × NamesGivenOption Period (first_of (codes "every") rows) r)
     ⊎ LacksArgument (codes "file") rows r
-    ⊎ (HasCode rows × HasRemark rows × HasAge rows × NamesGivenOption Ports (first_of (codes "ports") rows) r)
-    ⊎ (HasCode rows × HasRemark rows × HasAge rows × HasPorts rows × AreTimesRejected rows r)
-    ⊎ (HasCode rows × HasRemark rows × HasAge rows × HasPorts rows × HasAllTimes rows
-    × IsBesideRejectedFor (first_of (codes "file") rows) rows r)
 
 -- why the entries of `il`, `fe` and `pair` are not a request: their length, or the first option that is not valid, in
 -- the order --log, --time, --expect, --stats, --every

@@ -12,8 +12,7 @@ use crate::program_command::rasta_command;
 use crate::rejection::{Choice, Rejection};
 use crate::run_options::ends_run;
 use crate::{CountsRequest, ExpectedState, LogLevel, LogTime, RunLength};
-use capture::{Ports, Span};
-use capture_text::{Remarkable, TimeForm};
+use capture::Ports;
 use clap::ArgMatches;
 use safe_pdu::CodeLength;
 use settings_file::Subcommand;
@@ -43,7 +42,7 @@ pub enum Request<'a> {
         /// The name of the script file.
         script: &'a str,
     },
-    /// `follow FILE` with its options: analyses a recorded connection.
+    /// `follow FILE` with its options: follows a recording.
     Follow(FollowRequest<'a>),
     /// `check FILE [PEER]`: prints the settings in force, or compares those of an interlocking and its field element.
     Check {
@@ -81,44 +80,25 @@ pub struct RunRequest<'a> {
     pub counts: Option<CountsRequest>,
 }
 
-/// How a recorded connection is analysed. Its defaults are those of a settings file.
+/// How a recording is followed.
 #[derive(Clone, Copy, Debug, PartialEq, Eq)]
 pub struct FollowRequest<'a> {
-    /// `--code`: the length of the safety code; 8 bytes by default.
-    pub code: CodeLength,
+    /// `--code`: the length of the safety code; without it 8 bytes, or 16 where those do not fit.
+    pub code: Option<CodeLength>,
     /// `--iv`: the initial value of the safety code as hex digits; `None` for that of RFC 1320.
     pub iv: Option<&'a str>,
-    /// `--messages`: the telegrams of a datagram are printed after its line.
-    pub messages: bool,
-    /// `--only`: only lines with this remark are printed.
-    pub only: Option<Remarkable>,
-    /// `--t-max`: confirmed timestamps of this age or older get a remark, in milliseconds; 1,800 by default.
-    pub t_max: u32,
-    /// The name of the capture file; `-` is standard input.
-    pub file: &'a str,
-    /// `--ports`: only datagrams of these UDP ports are read.
+    /// `--ports`: only datagrams of these UDP ports are followed.
     pub ports: Option<Ports>,
-    /// `--json`: only the summary is printed, as one JSON object.
+    /// `--json`: the lines are JSON.
     pub json: bool,
-    /// `--events`: the events are printed as JSON objects, then the summary as with `--json`.
+    /// `--events`: events are printed.
     pub events: bool,
-    /// `--choose`: distributions of times and the settings that fit are printed with the summary.
-    pub choose: bool,
-    /// Which times are read, and how they are printed.
-    pub times: FollowTimes,
-    /// `--beside`: the name of the recording whose datagrams are paired with those of the file.
-    pub beside: Option<&'a str>,
-}
-
-/// The times of a recorded connection that is analysed.
-#[derive(Clone, Copy, Debug, PartialEq, Eq)]
-pub struct FollowTimes {
-    /// `--time`: the form of times in lines; seconds since the first datagram by default.
-    pub form: TimeForm,
-    /// `--from` and `--to`: only datagrams between these instants are read.
-    pub span: Span,
-    /// `--every`: the sums so far are also printed each time that these seconds have passed in the recording.
+    /// `--datagrams`: each datagram is printed.
+    pub datagrams: bool,
+    /// `--every`: after so many seconds of the recording the counts since the last time are printed.
     pub every: Option<u32>,
+    /// The name of the recording; `-` is standard input.
+    pub file: &'a str,
 }
 
 /// Why words are not a command. Its text is for standard error, except that of a call for help.

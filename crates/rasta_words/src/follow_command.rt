@@ -19,30 +19,25 @@ pub fn follow_command<'a>(alloc: Global) -> Result<Command<'a>, AllocError>
     ensures local { IfOk result (λ command. (fields_of command).has_globals ≡ false) }
 {
     let command = Command::new(alloc, "follow").about(
-        "Analyse a recorded connection: what was lost, repeated or resent, who disconnected and why",
+        "Follow a recording: who left and when, why, and which channel was dead",
     );
     let command = with_code(alloc, command)?;
-    let command = with_remarks(alloc, command)?;
-    let command = with_ports(alloc, command)?;
     let command = with_forms(alloc, command)?;
-    let command = with_times(alloc, command)?;
-    with_recordings(alloc, command)
+    with_choice(alloc, command)
 }
 
 /// Adds `--code` and `--iv`.
 #[inline(never)]
 fn with_code<'a>(alloc: Global, command: Command<'a>) -> Result<Command<'a>, AllocError>
     requires { (fields_of command).has_globals ≡ false }
-    // The command that `with_code` returns has `--code` and `--iv` after its other arguments.
     ensures app { IfOk result (λ made. app_of made ≡ spec.with_code (app_of command.entry)) }
-    // No argument of the command that `with_code` returns is global.
     ensures local { IfOk result (λ made. (fields_of made).has_globals ≡ false) }
 {
     let command = with_option(
         alloc,
         command,
         "code",
-        "Length of the safety code in bytes: 0 (none), 8 or 16 [default: 8]",
+        "Length of the safety code in bytes: 0 (none), 8, 16, or auto for 8 and where that fails 16 [default: auto]",
     )?;
     with_option(
         alloc,
@@ -52,136 +47,46 @@ fn with_code<'a>(alloc: Global, command: Command<'a>) -> Result<Command<'a>, All
     )
 }
 
-/// Adds `--only`, `--t-max` and `--messages`.
-#[inline(never)]
-fn with_remarks<'a>(alloc: Global, command: Command<'a>) -> Result<Command<'a>, AllocError>
-    requires { (fields_of command).has_globals ≡ false }
-    // The command that `with_remarks` returns has `--only`, `--t-max` and `--messages` after its other arguments.
-    ensures app { IfOk result (λ made. app_of made ≡ spec.with_remarks (app_of command.entry)) }
-    // No argument of the command that `with_remarks` returns is global.
-    ensures local { IfOk result (λ made. (fields_of made).has_globals ≡ false) }
-{
-    let command = with_option(
-        alloc,
-        command,
-        "only",
-        "Print only lines with this remark: opens, repeat, differs, ahead, late, stale, anew, resent, age, waits, reason or fault [default: all lines]",
-    )?;
-    let command = with_option(
-        alloc,
-        command,
-        "t-max",
-        "T_max in milliseconds, for remarks on ages and waits [default: 1800]",
-    )?;
-    with_flag(
-        alloc,
-        command,
-        "messages",
-        "Print the telegrams of each datagram after its line",
-    )
-}
-
-/// Adds `--ports`.
-#[inline(never)]
-fn with_ports<'a>(alloc: Global, command: Command<'a>) -> Result<Command<'a>, AllocError>
-    requires { (fields_of command).has_globals ≡ false }
-    // The command that `with_ports` returns has `--ports` after its other arguments.
-    ensures app { IfOk result (λ made. app_of made ≡ spec.with_ports (app_of command.entry)) }
-    // No argument of the command that `with_ports` returns is global.
-    ensures local { IfOk result (λ made. (fields_of made).has_globals ≡ false) }
-{
-    with_option(
-        alloc,
-        command,
-        "ports",
-        "Read only datagrams of these UDP ports: 1 to 4 ranges, for example 46101-46102,46201-46202 [default: all]",
-    )
-}
-
-/// Adds `--json`, `--choose` and `--events`.
+/// Adds `--json`, `--events` and `--datagrams`.
 #[inline(never)]
 fn with_forms<'a>(alloc: Global, command: Command<'a>) -> Result<Command<'a>, AllocError>
     requires { (fields_of command).has_globals ≡ false }
-    // The command that `with_forms` returns has `--json`, `--choose` and `--events` after its other arguments.
     ensures app { IfOk result (λ made. app_of made ≡ spec.with_forms (app_of command.entry)) }
-    // No argument of the command that `with_forms` returns is global.
     ensures local { IfOk result (λ made. (fields_of made).has_globals ≡ false) }
 {
+    let command = with_flag(alloc, command, "json", "Print each line as JSON")?;
     let command = with_flag(
-        alloc,
-        command,
-        "json",
-        "Print only the summary, as one line of JSON",
-    )?;
-    let command = with_flag(
-        alloc,
-        command,
-        "choose",
-        "Also print how times are distributed, and the settings that fit this recording, with the reasons",
-    )?;
-    with_flag(
         alloc,
         command,
         "events",
-        "Print events in place of datagrams, each as one line of JSON, then the summary as with --json",
-    )
+        "Also print what happens, as it happens",
+    )?;
+    with_flag(alloc, command, "datagrams", "Also print each datagram")
 }
 
-/// Adds `--time`, `--from`, `--to` and `--every`.
+/// Adds `--ports`, `--every` and the file.
 #[inline(never)]
-fn with_times<'a>(alloc: Global, command: Command<'a>) -> Result<Command<'a>, AllocError>
+fn with_choice<'a>(alloc: Global, command: Command<'a>) -> Result<Command<'a>, AllocError>
     requires { (fields_of command).has_globals ≡ false }
-    // The command that `with_times` returns has `--time`, `--from`, `--to` and `--every` after its other arguments.
-    ensures app { IfOk result (λ made. app_of made ≡ spec.with_times (app_of command.entry)) }
-    // No argument of the command that `with_times` returns is global.
+    ensures app { IfOk result (λ made. app_of made ≡ spec.with_choice (app_of command.entry)) }
     ensures local { IfOk result (λ made. (fields_of made).has_globals ≡ false) }
 {
     let command = with_option(
         alloc,
         command,
-        "time",
-        "Form of times in lines: since (seconds since the first datagram), epoch (seconds since 1970) or utc [default: since]",
+        "ports",
+        "Follow only datagrams of these UDP ports: 1 to 4 ranges, for example 46101-46102,46201-46202 [default: all]",
     )?;
     let command = with_option(
-        alloc,
-        command,
-        "from",
-        "Read only datagrams from this instant on: seconds since the first datagram, @ and seconds since 1970, or a date and time in UTC such as 2026-11-27T03:12:00 [default: the first datagram]",
-    )?;
-    let command = with_option(
-        alloc,
-        command,
-        "to",
-        "Read only datagrams up to this instant, which must not be before --from [default: the end]",
-    )?;
-    with_option(
         alloc,
         command,
         "every",
-        "Also print the summary so far each time that so many seconds have passed in the recording: 1 to 86400",
-    )
-}
-
-/// Adds `--beside` and the file.
-#[inline(never)]
-fn with_recordings<'a>(alloc: Global, command: Command<'a>) -> Result<Command<'a>, AllocError>
-    requires { (fields_of command).has_globals ≡ false }
-    // The command that `with_recordings` returns has `--beside` and the required argument `file` after its other
-    // arguments.
-    ensures app { IfOk result (λ made. app_of made ≡ spec.with_recordings (app_of command.entry)) }
-    // No argument of the command that `with_recordings` returns is global.
-    ensures local { IfOk result (λ made. (fields_of made).has_globals ≡ false) }
-{
-    let command = with_option(
-        alloc,
-        command,
-        "beside",
-        "Pair its datagrams with those of this recording, taken at another place, and print what was lost in between and how long it took; only --ports and --json go with it",
+        "Also print what came in each connection since the last time, each time that so many seconds have passed in the recording: 1 to 86400",
     )?;
     with_operand(
         alloc,
         command,
         "file",
-        "Capture file, or - for standard input: pcap, pcapng, or the output of `tshark -T fields -e frame.time_epoch -e ip.src -e udp.srcport -e ip.dst -e udp.dstport -e udp.payload`",
+        "Recording, or - for standard input: pcap or pcapng",
     )
 }

@@ -2,19 +2,17 @@
 #![tactic(auto)]
 
 mod arguments;
-mod beside_options;
 mod command_line;
 mod entries;
 mod follow_command;
 mod follow_options;
-mod follow_times;
 mod program_command;
 mod rejection;
 mod run_command;
 mod run_options;
 mod status;
 
-pub use command_line::{FollowRequest, FollowTimes, Request, RunRequest, WordsFault, command};
+pub use command_line::{FollowRequest, Request, RunRequest, WordsFault, command};
 pub use program_command::VERSION;
 pub use rejection::{Choice, Rejection};
 pub use status::{

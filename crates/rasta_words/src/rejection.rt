@@ -24,18 +24,8 @@ pub enum Choice {
     Every,
     /// `--code` of `follow`.
     Code,
-    /// `--only` of `follow`.
-    Only,
-    /// `--t-max` of `follow`.
-    TMax,
     /// `--ports` of `follow`.
     Ports,
-    /// `--time` of `follow`.
-    Times,
-    /// `--from` of `follow`.
-    From,
-    /// `--to` of `follow`.
-    To,
     /// `--every` of `follow`.
     Period,
 }
@@ -56,15 +46,6 @@ pub enum Rejection<'a> {
     TwoLengths,
     /// `--every` is given without `--stats`.
     EveryAlone,
-    /// An option is given with `--beside` that does not go with it.
-    NotBeside {
-        /// The name of the option, without dashes.
-        option: &'static str,
-    },
-    /// Both recordings are standard input.
-    OneInput,
-    /// `--to` of `follow` is before its `--from`.
-    Reversed,
     /// A subcommand or a required argument is missing. clap reports that itself, so this is never printed.
     Missing,
 }
@@ -79,35 +60,26 @@ impl Choice {
             Choice::ShowCode | Choice::Code => "code",
             Choice::Turns => "turns",
             Choice::Log => "log",
-            Choice::LogTime | Choice::Times => "time",
+            Choice::LogTime => "time",
             Choice::Expect => "expect",
             Choice::Stats => "stats",
             Choice::Every | Choice::Period => "every",
-            Choice::Only => "only",
-            Choice::TMax => "t-max",
             Choice::Ports => "ports",
-            Choice::From => "from",
-            Choice::To => "to",
         }
     }
 
     /// Returns the values that the option accepts, in words.
     fn accepted_values(self) -> &'static str {
         match self {
-            Choice::ShowCode | Choice::Code => "0, 8 or 16",
+            Choice::ShowCode => "0, 8 or 16",
+            Choice::Code => "auto, 0, 8 or 16",
             Choice::Turns => "1 to 1000000",
             Choice::Log => "off, state or all",
             Choice::LogTime => "utc or run",
             Choice::Expect => "up or settled",
             Choice::Stats => "text, json or prometheus",
             Choice::Every | Choice::Period => "1 to 86400",
-            Choice::Only => {
-                "opens, repeat, differs, ahead, late, stale, anew, resent, age, waits, reason or fault"
-            }
-            Choice::TMax => "1 to 4294967295",
             Choice::Ports => "1 to 4 ranges such as 46101-46102",
-            Choice::Times => "since, epoch or utc",
-            Choice::From | Choice::To => "90.5, @1795749120 or 2026-11-27T03:12:00",
         }
     }
 
@@ -115,8 +87,7 @@ impl Choice {
     fn usage(self) -> &'static str {
         match self {
             Choice::ShowCode => SHOW_USAGE,
-            Choice::Code | Choice::Only | Choice::TMax | Choice::Ports => FOLLOW_USAGE,
-            Choice::Times | Choice::From | Choice::To | Choice::Period => FOLLOW_USAGE,
+            Choice::Code | Choice::Ports | Choice::Period => FOLLOW_USAGE,
             _ => RUN_USAGE,
         }
     }
@@ -128,7 +99,7 @@ const SHOW_USAGE: &str =
 
 /// The usage of `follow`.
 const FOLLOW_USAGE: &str =
-    "Usage: rasta follow [--code <0|8|16>] [--iv <iv>] [--json] [--events] [--choose] [--messages] [--only <word>] [--ports <ports>] [--t-max <ms>] [--time <since|epoch|utc>] [--from <instant>] [--to <instant>] [--every <seconds>] [--beside <recording>] <file>\n\nFor more information, try 'rasta follow --help'.";
+    "Usage: rasta follow [--code <auto|0|8|16>] [--iv <iv>] [--json] [--events] [--datagrams] [--ports <ports>] [--every <seconds>] <file>\n\nFor more information, try 'rasta follow --help'.";
 
 /// The usage of `il`, `fe` and `pair`.
 const RUN_USAGE: &str =
@@ -164,15 +135,6 @@ impl fmt::Display for Rejection<'_> {
                 f,
                 "error: '--every' requires '--stats'\n\n{RUN_USAGE}"
             ),
-            Rejection::NotBeside { option } => write!(
-                f,
-                "error: '--{option}' does not go with '--beside'\n\n{FOLLOW_USAGE}"
-            ),
-            Rejection::OneInput => write!(
-                f,
-                "error: only one of both recordings can be standard input\n\n{FOLLOW_USAGE}"
-            ),
-            Rejection::Reversed => write!(f, "error: '--to' is before '--from'\n\n{FOLLOW_USAGE}"),
             Rejection::Missing => write!(f, "error: an argument is missing\n\n{USAGE}"),
         }
     }

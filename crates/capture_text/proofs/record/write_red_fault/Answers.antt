@@ -1,4 +1,0 @@
-use Rattle.capture_text.proofs.record.write_red_fault.Goals as goal
-
-pub returns : goal.returns
-returns g c = rw (c.number-number.ensures, c.name-name.ensures) at c.write_fault.ensures
