@@ -33,9 +33,9 @@ _rasta() {
         *,show) words='--code --iv -h --help' ;;
         *,sim) words='-h --help' ;;
         *,follow) words='--code --iv --json --events --datagrams --ports --every -h --help' ;;
-        *,il) words='--turns --until-end --end-on- --log --time --stamp --expect --keep --stats --every -h --help' ;;
-        *,fe) words='--turns --until-end --end-on- --log --time --stamp --expect --keep --stats --every -h --help' ;;
-        *,pair) words='--turns --until-end --end-on- --log --time --stamp --expect --keep --stats --every -h --help' ;;
+        *,il) words='--turns --until-end --end-on-3 --log --time --stamp --expect --keep --stats --every -h --help' ;;
+        *,fe) words='--turns --until-end --end-on-3 --log --time --stamp --expect --keep --stats --every -h --help' ;;
+        *,pair) words='--turns --until-end --end-on-3 --log --time --stamp --expect --keep --stats --every -h --help' ;;
         *,check) words='-h --help' ;;
         2,help) words='md4 show sim follow il fe pair check' ;;
         2,--completion) words='bash' ;;
