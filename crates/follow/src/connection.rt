@@ -113,7 +113,7 @@ impl Sums {
 
 impl Connection {
     /// Returns a connection without sessions.
-    pub fn new(number: u64, low: u32, high: u32) -> Self {
+    pub(crate) fn new(number: u64, low: u32, high: u32) -> Self {
         Connection {
             number,
             low,
@@ -535,6 +535,6 @@ fn at_session(session: &Session, channel: usize, low: bool, news: News) -> Taken
 }
 
 /// Returns whether a session ended without being asked to.
-pub fn is_outage(cause: Cause) -> bool {
+pub(crate) fn is_outage(cause: Cause) -> bool {
     !matches!(cause, Cause::Running | Cause::Closed { .. })
 }

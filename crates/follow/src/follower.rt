@@ -120,7 +120,12 @@ impl Follower {
     /// # Errors
     ///
     /// `AllocError` if there is too little memory for a line.
-    pub fn finish<O: Output>(&mut self, alloc: Global, out: &mut O) -> Result<(), AllocError> {
+    pub fn finish<O: Output>(&mut self, alloc: Global, out: &mut O) -> Result<(), AllocError>
+        // No datagram is counted.
+        ensures datagrams { self.new.datagrams ≡ self.old.datagrams }
+        // No connection is forgotten.
+        ensures connections { vec_len self.new.connections ≡ vec_len self.old.connections }
+    {
         for entry in self.connections.iter_mut() {
             if entry.has_untold() {
                 tell_previous(alloc, entry, out)?;

@@ -12,7 +12,7 @@ mod records;
 mod session;
 mod text;
 
-pub use connection::{Connection, Counts, Sums, Taken, is_outage};
+pub use connection::{Connection, Counts, Sums, Taken};
 pub use cut::decode_cut;
 pub use follower::{CONNECTIONS, Follower, Output, Told};
 pub use law::numbers_law;

@@ -164,7 +164,7 @@ pub struct Said {
 
 impl Life {
     /// Returns a life before its first PDU.
-    pub fn new() -> Self {
+    pub(crate) fn new() -> Self {
         Life {
             base: None,
             opening: None,
@@ -574,7 +574,7 @@ impl Life {
     }
 
     /// Returns how long a channel was silent up to the last PDU.
-    pub fn silence_of(&self, channel: usize) -> u64 {
+    pub(crate) fn silence_of(&self, channel: usize) -> u64 {
         let place = channel % CHANNELS;
         let open = match self.silent[place] {
             Some(since) => self.last.saturating_sub(since),
@@ -584,7 +584,7 @@ impl Life {
     }
 
     /// Returns how long there was only one channel.
-    pub fn alone_time(&self) -> u64 {
+    pub(crate) fn alone_time(&self) -> u64 {
         let open = match self.alone {
             Some(since) => self.last.saturating_sub(since),
             None => 0,

@@ -83,7 +83,7 @@ pub enum Fit {
 
 impl Session {
     /// Returns a session before its first PDU.
-    pub fn new(number: u64) -> Self {
+    pub(crate) fn new(number: u64) -> Self {
         Session {
             number,
             low: Life::new(),
@@ -351,7 +351,7 @@ impl Session {
     }
 
     /// Returns the end, as low or not, of which alone PDUs were recorded, although the other one spoke.
-    pub fn only_from(&self) -> Option<bool> {
+    pub(crate) fn only_from(&self) -> Option<bool> {
         let is_low = is_alone(&self.low, &self.high);
         let is_high = is_alone(&self.high, &self.low);
         if is_low || is_high {
