@@ -92,7 +92,14 @@ impl Kept {
 }
 
 /// A PDU of one of two ends: the lower one has identifier 1, and begins with sequence number 100, the other one with 500.
-fn pdu(kind: Kind, low: bool, red: u32, cs: u32, ts: u32, leaving: Option<Leaving>) -> DecodedDatagram {
+fn pdu(
+    kind: Kind,
+    low: bool,
+    red: u32,
+    cs: u32,
+    ts: u32,
+    leaving: Option<Leaving>,
+) -> DecodedDatagram {
     let (sender, receiver, first) = if low { (1, 2, 100) } else { (2, 1, 500) };
     DecodedDatagram::Pdu(
         red,
@@ -152,7 +159,12 @@ fn tells_who_was_silent_and_what_was_lost(rt: HostRuntime) -> Result<(), Fail> {
         (1, false, 1, pdu(Kind::ConnResp, false, 0, 100, 0, None)),
         (2, true, 1, pdu(Kind::Heartbeat, true, 1, 500, 2, None)),
         (900, true, 1, pdu(Kind::Heartbeat, true, 2, 500, 900, None)),
-        (1800, true, 1, pdu(Kind::DiscReq, true, 3, 500, 1800, timeout)),
+        (
+            1800,
+            true,
+            1,
+            pdu(Kind::DiscReq, true, 3, 500, 1800, timeout),
+        ),
     ];
     for (line, (time, low, channel, heard)) in rows.iter().enumerate() {
         let place = record(*time, *low, *channel);
@@ -160,11 +172,13 @@ fn tells_who_was_silent_and_what_was_lost(rt: HostRuntime) -> Result<(), Fail> {
     }
     follower.finish(rt.alloc(), &mut kept)?;
     let is_told = match kept.cause {
-        Some(Cause::Silent {
-            end,
-            ms,
-            then_missing,
-        }) => end == 2 && ms == 1799 && then_missing.is_none(),
+        Some(
+            Cause::Silent {
+                end,
+                ms,
+                then_missing,
+            },
+        ) => end == 2 && ms == 1799 && then_missing.is_none(),
         _ => false,
     };
     assert_true(&rt, is_told);

@@ -1,5 +1,5 @@
 -- Lives: which PDUs belong to one, and what is lost in it.
-use Rattle.std.specs.Prelude.{ℕ, ◌-◌, ◌%◌, ◌+◌, ◌^◌, ◌==◌, ◌&&◌, ◌||◌, not, nat_eq, nat_le, List, slice_index, if◌then◌else◌, Bool, true, false, Option, Some, None}
+use Rattle.std.specs.Prelude.{ℕ, ◌-◌, ◌%◌, ◌+◌, ◌^◌, ◌==◌, ◌&&◌, ◌||◌, not, nat_eq, nat_le, List, slice_index_or, if◌then◌else◌, Bool, true, false, Option, Some, None}
 use Rattle.safe_pdu.specs.declared.Kind.{Kind}
 use Rattle.safe_pdu.specs.declared.Kind.TheVariants.{ConnReq, ConnResp}
 use Rattle.capture.specs.declared.datagram.Header.{Header}
@@ -9,7 +9,7 @@ use Rattle.follow.specs.declared.life.TheConstants.{CHANNELS, KEPT}
 use Rattle.follow.specs.declared.numbers.Numbers.{Numbers}
 use Rattle.follow.specs.declared.numbers.Order.{Order}
 use Rattle.follow.specs.declared.numbers.Order.TheVariants.{Next, Ahead, Late, Repeat, Stale}
-use Rattle.follow.specs.Numbers.{ahead, order_of, span_of}
+use Rattle.follow.specs.Numbers.{ahead, no_numbers, order_of, span_of}
 
 -- A PDU of this type opens a life.
 abbrev pub opens : Kind → Bool
@@ -45,7 +45,7 @@ is_owned life red h = has_base life.base (base_of red h) && (not (opens h.kind) 
 
 -- The numbers of a channel; a fifth one is not distinguished.
 abbrev pub numbers_on : Life → ℕ → Numbers
-numbers_on life channel = slice_index life.channels (channel % CHANNELS)
+numbers_on life channel = slice_index_or life.channels (channel % CHANNELS) no_numbers
 
 -- On a channel the number came before, or is too far back to tell.
 abbrev pub is_old_on : Life → ℕ → Option ℕ → Bool
@@ -62,19 +62,24 @@ abbrev pub has_later_on : Life → ℕ → Option ℕ → Bool
 has_later_on life red None = false
 has_later_on life red (Some channel) = not (is_newest (numbers_on life channel).newest red)
 
--- What is kept in the place of a number.
-abbrev pub kept_for : Life → ℕ → Recent
-kept_for life red = slice_index life.recent (red % KEPT)
+-- A place without a PDU.
+abbrev pub no_recent : Recent
+no_recent = record { red = 0; ts = 0; cts = None; line = 0; fingerprint = 0 }
 
--- That is this number.
-abbrev pub is_kept : Recent → ℕ → Bool
-is_kept kept red = not (nat_eq kept.line 0) && nat_eq kept.red red
+-- What is kept in the place of a number, if it is this number.
+abbrev pub kept_if : Recent → ℕ → Option Recent
+kept_if kept red = if not (nat_eq kept.line 0) && nat_eq kept.red red then Some kept else None
 
--- A PDU that is no opening has a number of this life, but is not the one that came with it.
+abbrev pub kept_of : Life → ℕ → Option Recent
+kept_of life red = kept_if (slice_index_or life.recent (red % KEPT) no_recent) red
+
+-- A PDU is not the one that was kept of its number; without one, its number came before.
+abbrev pub differs_from : Option Recent → Life → ℕ → Header → Bool
+differs_from (Some kept) life red h = not (nat_eq kept.fingerprint h.fingerprint)
+differs_from None life red h = not (is_new_order (order_of life.all red))
+
 abbrev pub is_other_pdu : Life → ℕ → Header → Bool
-is_other_pdu life red h =
-    if is_kept (kept_for life red) red then not (nat_eq (kept_for life red).fingerprint h.fingerprint)
-    else not (is_new_order (order_of life.all red))
+is_other_pdu life red h = differs_from (kept_of life red) life red h
 
 -- A sequence number is one from the first to the newest of a life.
 abbrev pub is_sent_by : Option ℕ → Option ℕ → ℕ → ℕ → Bool

@@ -435,7 +435,7 @@ fn tell_numbers<O: Output>(event: Event, taken: &Taken, out: &mut O) -> Result<(
     match taken.news.all {
         Order::Ahead(missing) => {
             let lost = Event {
-                count: Some(missing as u64),
+                count: Some(widen(missing)),
                 ..event
             };
             tell(lost, What::Lost, out)?;
@@ -445,7 +445,7 @@ fn tell_numbers<O: Output>(event: Event, taken: &Taken, out: &mut O) -> Result<(
     }
     if taken.news.lost_here > 0 {
         let lost = Event {
-            count: Some(taken.news.lost_here as u64),
+            count: Some(widen(taken.news.lost_here)),
             ..event
         };
         return tell(lost, What::LostOnChannel, out);
@@ -503,13 +503,18 @@ fn tell_oddities<O: Output>(event: Event, taken: &Taken, out: &mut O) -> Result<
     match news.waits {
         Some(waits) if news.is_longest => {
             let waiting = Event {
-                ms: Some(waits as u64),
+                ms: Some(widen(waits)),
                 ..event
             };
             tell(waiting, What::Waits, out)
         }
         _ => Ok(()),
     }
+}
+
+/// Returns a number in 64 bits.
+fn widen(count: u32) -> u64 {
+    count as u64
 }
 
 fn tell<O: Output>(event: Event, what: What, out: &mut O) -> Result<(), AllocError> {

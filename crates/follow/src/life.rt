@@ -1,8 +1,8 @@
 //! What one end sent from one opening to the next: a life of it. Within a life the sequence number of a PDU less its
 //! redundancy number is always the same, its base. So each PDU names its life, however late it comes.
 
-ghost use Rattle.std.specs.Prelude.{◌≡◌, ◌<◌, is_some, not, ◌&&◌};
-ghost use Rattle.follow.specs.Lives.{agrees, has_later_on, is_kept, is_new_order, is_newest, is_old_on, is_other_pdu, is_owned, is_sent, is_sent_by, kept_for, lost_on_all_in, lost_on_channel_in, numbers_on, opens};
+ghost use Rattle.std.specs.Prelude.{◌≡◌, ◌<◌};
+ghost use Rattle.follow.specs.Lives.{has_later_on, is_new_order, is_newest, is_old_on, is_owned, is_sent, kept_of, lost_on_all_in, lost_on_channel_in, opens};
 ghost use Rattle.follow.specs.Sessions.{is_anew};
 
 use crate::numbers::{Numbers, Order, WINDOW, span};
@@ -246,7 +246,7 @@ impl Life {
 
     /// Returns what is kept of a number, if it is this one.
     fn kept(&self, red: u32) -> Option<Recent>
-        ensures { result ≡ (if is_kept (kept_for self.now red) red then Some (kept_for self.now red) else None) }
+        ensures { result ≡ kept_of self.now red }
     {
         let kept = self.recent[red as usize % KEPT];
         if kept.line != 0 && kept.red == red {

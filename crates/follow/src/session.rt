@@ -1,8 +1,8 @@
 //! A session: a life of each end, and why it ended.
 
-ghost use Rattle.std.specs.Prelude.{◌≡◌, not};
+ghost use Rattle.std.specs.Prelude.{◌≡◌};
 ghost use Rattle.follow.specs.Sessions.{first_of, fit_by, fit_of, fit_owned, side_of};
-ghost use Rattle.follow.specs.Causes.{cause_by, cause_asked, cause_of, cause_of_leaving, cause_one_sided, cause_timeout, cause_unconfirmed, cause_unended, end_of, is_asker, is_overtaken, known, limit_of};
+ghost use Rattle.follow.specs.Causes.{cause_asked, cause_of, cause_of_leaving, cause_one_sided, cause_timeout, cause_unconfirmed, cause_unended, end_of, is_asker, is_overtaken, limit_of};
 
 use crate::life::{Heard, Life, News, is_at, is_new, is_opening};
 use crate::records::Cause;

@@ -1,8 +1,8 @@
 use crate::assertions::{assert_equal_at, assert_true_at};
 use capture::read_ports;
 use rasta_words::{
-    CountsForm, CountsRequest, ExpectedState, FollowRequest, LogLevel, LogTime, Request, RunLength,
-    RunRequest, command,
+    Choice, CountsForm, CountsRequest, FollowRequest, LogLevel, LogTime, Rejection, Request,
+    RunLength, RunRequest, WordsFault, command,
 };
 use safe_pdu::CodeLength;
 use settings_file::Subcommand as Ends;
