@@ -117,7 +117,7 @@ fn pdu(
     )
 }
 
-/// Where a datagram was recorded, on one of two channels.
+/// The place of a datagram that was recorded on one of two channels.
 fn record(milliseconds: u64, low: bool, channel: u8) -> Record {
     let near = Address {
         host: Host::V4([10, 0, channel, 1]),

@@ -27,7 +27,7 @@ is_asker None low = false
 is_asker (Some asked) true = asked.0
 is_asker (Some asked) false = not asked.0
 
--- Nobody left, and an end asked again: the other one was not heard for a second, or it began anew.
+-- Nobody left, and an end asked again: nothing came from the other one for a second, or it began again.
 abbrev pub cause_unended : ℕ → Life → ℕ → Cause
 cause_unended end other at =
     if is_some other.base && nat_le 1000000 (at - other.last) then cause.BothSilent ((at - other.last) / 1000)
@@ -41,7 +41,7 @@ cause_one_sided (Some confirms) crossed own other =
     if not (nat_eq confirms.0 0) then cause.OneWay own
     else if crossed then cause.Crossed other else cause.Unanswered own
 
--- Both were heard: what one of them sent was not confirmed for long, or all came too late. The longer of both.
+-- PDUs of both came: what one of them sent was not confirmed for long, or all came too late. The longer of both.
 abbrev pub cause_unconfirmed : ℕ → ℕ → ℕ → ℕ → ℕ → Cause
 cause_unconfirmed limit other_stuck own_stuck own other =
     if nat_le limit other_stuck && nat_le own_stuck other_stuck then cause.Unconfirmed own (other_stuck / 1000)
@@ -55,7 +55,7 @@ cause_asked None (Some line) e own other = cause.NoRetransmission own line
 cause_asked None None e own other =
     cause_unconfirmed (limit_of e.waited) (known e.other_stuck) (known e.own_stuck) own other
 
--- An end left by a timeout, and the other one was heard before.
+-- An end left by a timeout, after PDUs of the other one.
 abbrev pub cause_timeout : Session → Ending → ℕ → ℕ → Cause
 cause_timeout s e own other =
     if is_some s.asked && is_none s.up then cause.AnswerLost (if is_asker s.asked e.by_low then other else own)

@@ -17,11 +17,11 @@ ahead from to = (to + (2 ^ 32 - from)) % 2 ^ 32
 abbrev pub no_numbers : Numbers
 no_numbers = record { newest = None; came = 0; distinct = 0; repeats = 0; stale = 0 }
 
--- Of the last 64 numbers, the one so many behind the newest came.
+-- Of the last 64 numbers, the one that far behind the newest came.
 abbrev pub has_come : ℕ → ℕ → Bool
 has_come came behind = nat_eq (came / 2 ^ behind % 2) 1
 
--- A number that is not ahead of the newest: so many behind it.
+-- A number that is not ahead of the newest, by how far it is behind it.
 abbrev pub order_behind : ℕ → ℕ → Order
 order_behind came behind =
     if nat_le WINDOW behind then Stale
@@ -39,7 +39,7 @@ order_after (Some newest) came number =
 abbrev pub order_of : Numbers → ℕ → Order
 order_of numbers number = order_after numbers.newest numbers.came number
 
--- The bits when so many numbers are skipped before the newest: they move up, and the lowest one stands for it.
+-- The bits when a number of numbers is skipped before the newest: they move up, and the lowest one stands for it.
 abbrev pub moved_bits : Option ℕ → ℕ → ℕ → ℕ
 moved_bits None came missing = 1
 moved_bits (Some newest) came missing =
@@ -50,11 +50,11 @@ abbrev pub behind_of : Option ℕ → ℕ → ℕ
 behind_of None number = 0
 behind_of (Some newest) number = ahead number newest
 
--- The bits with that of a number so many behind the newest.
+-- The bits with that of a number that far behind the newest.
 abbrev pub bits_with : ℕ → ℕ → ℕ
 bits_with came behind = (came + 2 ^ (behind % WINDOW)) % 2 ^ 64
 
--- A number is the newest, and so many before it are skipped.
+-- A number is the newest, and that many before it are skipped.
 abbrev pub go_on_to : Numbers → ℕ → ℕ → Numbers
 go_on_to n missing number =
     record n {

@@ -13,7 +13,7 @@ use capture::{Address, Header, Record};
 use safe_pdu::Kind;
 use std::alloc::{AllocError, Global};
 
-/// A session that has ended is told so many microseconds after its last PDU.
+/// A session that has ended is printed this many microseconds after its last PDU.
 pub const LINGER: u64 = 2_000_000;
 
 /// A connection.
@@ -31,17 +31,17 @@ pub struct Connection {
     pub count: usize,
     /// The newest session.
     pub current: Session,
-    /// The one before it, until it is told.
+    /// The one before it, until it is printed.
     pub previous: Session,
-    /// The sums over the sessions that were told.
+    /// The sums over the sessions that were printed.
     pub sums: Sums,
-    /// The counts of the sessions that were told.
+    /// The counts of the sessions that were printed.
     pub told: Counts,
     /// The counts at the end of the last period.
     pub before: Counts,
 }
 
-/// Sums over the sessions that were told.
+/// Sums over the sessions that were printed.
 #[derive(Clone, Copy)]
 pub struct Sums {
     sessions: u64,
@@ -84,7 +84,7 @@ pub struct Taken {
 }
 
 impl Sums {
-    /// Adds a session that is told.
+    /// Adds a session that is printed.
     fn add(&mut self, session: &Session, cause: Cause, low: &Side, high: &Side, channels: usize) {
         self.sessions = self.sessions.saturating_add(1);
         self.up = self.up.saturating_add(count_if(session.up.is_some()));
@@ -230,7 +230,7 @@ impl Connection {
         None
     }
 
-    /// Returns whether the session before the newest one was not told yet.
+    /// Returns whether the session before the newest one was not printed yet.
     pub(crate) fn has_untold(&self) -> bool {
         self.previous.number > 0 && !self.previous.is_told
     }
@@ -242,7 +242,7 @@ impl Connection {
             && time.saturating_sub(self.current.last) >= LINGER
     }
 
-    /// Returns whether a session must be told before the next PDU is taken.
+    /// Returns whether a session must be printed before the next PDU is taken.
     pub(crate) fn has_due(&self, time: u64) -> bool {
         self.has_untold() && time.saturating_sub(self.previous.last) >= LINGER
     }
@@ -269,7 +269,7 @@ impl Connection {
         }
     }
 
-    /// Takes a PDU. If it begins a session, the one before must have been told.
+    /// Takes a PDU. If it begins a session, the one before must have been printed.
     pub(crate) fn take(&mut self, line: u64, record: &Record, red: u32, header: &Header) -> Taken {
         let low = header.sender == self.low;
         let channel = self.place(low, red, record);

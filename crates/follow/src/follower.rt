@@ -26,14 +26,14 @@ pub trait Output {
     fn put(&mut self, line: &Line) -> Result<(), AllocError>;
 }
 
-/// What is told beside sessions and sums.
+/// What is printed beside sessions and sums.
 #[derive(Clone, Copy)]
 pub struct Told {
     /// Events.
     pub events: bool,
     /// Each datagram.
     pub datagrams: bool,
-    /// The length of a period, in microseconds, whose counts are told; 0 for none.
+    /// The length of a period, in microseconds, whose counts are printed; 0 for none.
     pub every: u64,
 }
 
@@ -46,15 +46,15 @@ pub struct Follower {
     pub newest: usize,
     /// Datagrams.
     pub datagrams: u64,
-    /// Datagrams that are no PDUs.
+    /// Datagrams that are not PDUs.
     pub damaged: u64,
     /// PDUs of connections for which there was no room.
     pub left_out: u64,
-    /// What is told.
+    /// What is printed.
     pub told: Told,
     /// When the period ends.
     pub ends: u64,
-    /// When it was last looked for sessions to tell.
+    /// When it was last looked for sessions to print.
     pub looked: u64,
 }
 
@@ -76,7 +76,7 @@ impl Follower {
         }
     }
 
-    /// Takes a datagram, and tells what it shows. Each is told before the next one is taken.
+    /// Takes a datagram, and gives `out` what it shows.
     ///
     /// # Errors
     ///
@@ -115,15 +115,15 @@ impl Follower {
         }
     }
 
-    /// Tells what is left at the end: the sessions, then the connections, those with most outages first.
+    /// Prints what is left at the end: the sessions, then the connections, those with most outages first.
     ///
     /// # Errors
     ///
     /// `AllocError` if there is too little memory for a line.
     pub fn finish<O: Output>(&mut self, alloc: Global, out: &mut O) -> Result<(), AllocError>
-        // No datagram is counted.
+        // The count of datagrams stays.
         ensures datagrams { self.new.datagrams ≡ self.old.datagrams }
-        // No connection is forgotten.
+        // The connections stay.
         ensures connections { vec_len self.new.connections ≡ vec_len self.old.connections }
     {
         for entry in self.connections.iter_mut() {
@@ -145,7 +145,7 @@ impl Follower {
         Ok(())
     }
 
-    /// Tells the sessions that have ended a while ago, once a second, and the period that has ended.
+    /// Prints the sessions that have ended a while ago, once a second, and the period that has ended.
     fn tell_before<O: Output>(
         &mut self,
         alloc: Global,
@@ -304,7 +304,7 @@ fn is_of(connection: &Connection, header: &Header) -> bool {
         || (header.sender == connection.high && header.receiver == connection.low)
 }
 
-/// Tells the sessions of a connection that have ended a while ago.
+/// Prints the sessions of a connection that have ended a while ago.
 fn tell_due<O: Output>(
     alloc: Global,
     entry: &mut Connection,
@@ -401,7 +401,7 @@ fn name_of(kind: Kind) -> &'static str {
     }
 }
 
-/// Tells what a PDU shows.
+/// Prints what a PDU shows.
 fn tell_events<O: Output>(
     connection: u64,
     line: u64,
@@ -430,7 +430,7 @@ fn tell_events<O: Output>(
     tell_oddities(event, taken, out)
 }
 
-/// Tells what the number of a PDU shows.
+/// Prints what the number of a PDU shows.
 fn tell_numbers<O: Output>(event: Event, taken: &Taken, out: &mut O) -> Result<(), AllocError> {
     match taken.news.all {
         Order::Ahead(missing) => {
@@ -453,7 +453,7 @@ fn tell_numbers<O: Output>(event: Event, taken: &Taken, out: &mut O) -> Result<(
     Ok(())
 }
 
-/// Tells which channel is silent or back.
+/// Prints which channel is silent or back.
 fn tell_channels<O: Output>(event: Event, taken: &Taken, out: &mut O) -> Result<(), AllocError> {
     if let Some(lasted) = taken.news.back {
         let back = Event {
@@ -474,7 +474,7 @@ fn tell_channels<O: Output>(event: Event, taken: &Taken, out: &mut O) -> Result<
     }
 }
 
-/// Tells what the type of a PDU shows.
+/// Prints what the type of a PDU shows.
 fn tell_kind<O: Output>(event: Event, header: &Header, out: &mut O) -> Result<(), AllocError> {
     match (header.kind, header.leaving) {
         (Kind::ConnReq, _) => tell(event, What::Asked, out),
@@ -491,7 +491,7 @@ fn tell_kind<O: Output>(event: Event, header: &Header, out: &mut O) -> Result<()
     }
 }
 
-/// Tells what else is remarkable.
+/// Prints what else is remarkable.
 fn tell_oddities<O: Output>(event: Event, taken: &Taken, out: &mut O) -> Result<(), AllocError> {
     let news = taken.news;
     if news.after_damage {

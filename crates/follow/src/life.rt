@@ -15,7 +15,7 @@ pub const CHANNELS: usize = 4;
 /// How many PDUs are kept of a life.
 pub const KEPT: usize = 32;
 
-/// So many PDUs must pass a channel before it is called silent.
+/// How many PDUs must pass a channel before it is called silent.
 pub const SILENT: u64 = 8;
 
 /// A PDU that came.
@@ -107,7 +107,7 @@ pub struct Life {
     pub jump: Option<i64>,
 }
 
-/// A PDU that came, and where.
+/// A PDU that came, with its place.
 #[derive(Clone, Copy)]
 pub struct Heard {
     /// When it was recorded, in microseconds.
@@ -135,7 +135,7 @@ pub struct News {
     pub copy_of: Option<u64>,
     /// Its first copy had other octets.
     pub differs: bool,
-    /// Its channel was silent for so many microseconds.
+    /// How long its channel was silent, in microseconds.
     pub back: Option<u64>,
     /// This channel is silent now.
     pub silent: Option<usize>,
@@ -152,7 +152,7 @@ pub struct News {
 /// What the other end said.
 #[derive(Clone, Copy)]
 pub struct Said {
-    /// It was heard.
+    /// A PDU of it came.
     pub is_heard: bool,
     /// It has left.
     pub has_left: bool,
@@ -369,7 +369,7 @@ impl Life {
         news
     }
 
-    /// Notes a channel that is heard first, after others, and an opening that came before.
+    /// Notes a channel whose first PDU comes after others, and an opening that came before.
     fn see_channel(&mut self, place: usize, heard: &Heard)
         requires { place < CHANNELS }
     {
@@ -391,7 +391,7 @@ impl Life {
     }
 
     /// Returns how many of the numbers that are missing on a channel before this one came on another channel. Those too far
-    /// back to tell are among them.
+    /// back are among them.
     fn count_lost(&self, red: u32, order: Order) -> u32 {
         let gap = missing(order).unwrap_or(0);
         let mut lost = gap.saturating_sub(WINDOW - 1);

@@ -3,7 +3,7 @@
 ghost use Rattle.std.specs.Prelude.{◌≡◌};
 ghost use Rattle.follow.specs.Numbers.{go_on_to, no_numbers, note_as, note_number, order_of, span_of};
 
-/// How many numbers back from the newest are told apart.
+/// How many numbers back from the newest are kept.
 pub const WINDOW: u32 = 64;
 
 /// How a number follows those that came.
@@ -11,7 +11,7 @@ pub const WINDOW: u32 = 64;
 pub enum Order {
     /// It is the first one, or the next one.
     Next,
-    /// It is further ahead; so many numbers are missing before it.
+    /// It is further ahead; this many numbers are missing before it.
     Ahead(u32),
     /// It was missing, and comes after a later number.
     Late,

@@ -13,7 +13,7 @@ fn is_empty(channels: &Vec<ChannelSide>) -> bool {
     channels.is_empty()
 }
 
-/// Returns whether nothing is to be told.
+/// Returns whether a value is `false`: it is left out.
 fn is_false(told: &bool) -> bool {
     !*told
 }
@@ -60,7 +60,7 @@ pub enum Cause {
         end: u32,
         /// For how long, in milliseconds.
         ms: u64,
-        /// It spoke again later, and so many of its PDUs were missing between.
+        /// How many of its PDUs were missing when it spoke again.
         #[serde(skip_serializing_if = "Option::is_none")]
         then_missing: Option<u32>,
     },
@@ -78,7 +78,7 @@ pub enum Cause {
         /// In which line.
         line: u64,
     },
-    /// Neither end was heard for so long, and then one asked again.
+    /// Nothing came from either end, and then one asked again.
     BothSilent {
         /// For how long, in milliseconds.
         ms: u64,
@@ -191,7 +191,7 @@ pub struct SessionRecord {
     /// Only one channel carried an end's PDUs when it ended.
     #[serde(skip_serializing_if = "is_false")]
     pub alone: bool,
-    /// The recorder's clock stepped by so many milliseconds.
+    /// By how many milliseconds the recorder's clock stepped.
     #[serde(skip_serializing_if = "Option::is_none")]
     pub clock_step_ms: Option<i64>,
     /// Only what this end sent was recorded.
@@ -261,14 +261,14 @@ pub struct Event {
     pub reason: Option<u16>,
 }
 
-/// A channel of a connection, over all its sessions that were told.
+/// A channel of a connection, over all its sessions that were printed.
 #[derive(Clone, Copy, Drop, Serialize)]
 pub struct ConnectionChannel {
-    /// Its number, in the order heard.
+    /// Its number, in the order of their first PDUs.
     pub channel: u64,
-    /// Where the end with the lower identifier sends from.
+    /// The address of the end with the lower identifier.
     pub low: Place,
-    /// Where the other one does.
+    /// The address of the other one.
     pub high: Place,
     /// PDUs of the lower end that came only on another channel.
     #[serde(skip_serializing_if = "is_zero")]
@@ -311,21 +311,21 @@ pub struct ConnectionRecord {
     pub channels: Vec<ConnectionChannel>,
 }
 
-/// A datagram that is no PDU.
+/// A datagram that is not a PDU.
 #[derive(Clone, Copy, Drop, Serialize)]
 pub struct DamagedRecord {
     /// When it was recorded.
     pub time: Moment,
     /// The number of its frame.
     pub line: u64,
-    /// Where it came from.
+    /// Its source.
     pub source: Place,
-    /// Where it went to.
+    /// Its destination.
     pub destination: Place,
     /// Its redundancy number, if it is a redundancy PDU.
     #[serde(skip_serializing_if = "Option::is_none")]
     pub red: Option<u32>,
-    /// Why it is no PDU.
+    /// Why it is not a PDU.
     pub fault: &'static str,
 }
 
@@ -388,10 +388,10 @@ pub struct DatagramRecord {
     /// The line of its first copy.
     #[serde(skip_serializing_if = "Option::is_none")]
     pub copy_of: Option<u64>,
-    /// So many numbers are missing before it on all channels.
+    /// How many numbers are missing before it on all channels.
     #[serde(skip_serializing_if = "Option::is_none")]
     pub lost: Option<u32>,
-    /// So many are missing before it on its channel only.
+    /// How many are missing before it on its channel only.
     #[serde(skip_serializing_if = "Option::is_none")]
     pub lost_here: Option<u32>,
     /// The age of the timestamp that it confirms.
@@ -427,7 +427,7 @@ pub struct RecordingRecord {
     /// Those that the recorder cut; their safety code was not tested.
     #[serde(skip_serializing_if = "is_zero")]
     pub cut: u64,
-    /// Those that are no PDUs.
+    /// Those that are not PDUs.
     #[serde(skip_serializing_if = "is_zero")]
     pub damaged: u64,
     /// PDUs of connections for which there was no room.
@@ -441,7 +441,7 @@ pub struct RecordingRecord {
 pub enum Line {
     /// A datagram.
     Datagram(DatagramRecord),
-    /// A datagram that is no PDU.
+    /// A datagram that is not a PDU.
     Damaged(DamagedRecord),
     /// An event.
     Event(Event),

@@ -20,7 +20,7 @@ pub struct Ending {
     pub leaving: Leaving,
     /// How long it had waited, in milliseconds.
     pub waited: Option<u32>,
-    /// How long the other end had not been heard, in microseconds; `None` if it never was.
+    /// How long nothing had come from the other end, in microseconds; `None` without any PDU of it.
     pub quiet: Option<u64>,
     /// How long the other end had confirmed nothing new.
     pub other_stuck: Option<u64>,
@@ -57,11 +57,11 @@ pub struct Session {
     pub next: Option<(bool, u64)>,
     /// After it was asked for, a PDU of the other end came that belongs to the session before.
     pub is_crossed: bool,
-    /// The recorder's clock stepped by so many milliseconds.
+    /// By how many milliseconds the recorder's clock stepped.
     pub clock_step: Option<i64>,
-    /// An end has begun two lives with the same first numbers: so an equal opening is no copy once its channel went on.
+    /// An end has begun two lives with the same first numbers: so an equal opening is not a copy once its channel went on.
     pub is_fixed: bool,
-    /// It was told.
+    /// It was printed.
     pub is_told: bool,
     /// The time of its last PDU.
     pub last: u64,
@@ -317,7 +317,7 @@ impl Session {
         self.timeout(ending, own_id, other_id)
     }
 
-    /// Returns why an end left by a timeout that had heard the other one.
+    /// Returns why an end left by a timeout after PDUs of the other one.
     fn timeout(&self, ending: &Ending, own_id: u32, other_id: u32) -> Cause
         ensures { result ≡ cause_timeout self.now ending.now own_id other_id }
     {
@@ -401,7 +401,7 @@ fn one_sided(confirms: Option<(u32, u64)>, is_crossed: bool, own_id: u32, other_
     }
 }
 
-/// Returns why an end left that heard the other one to the end: by requests without an answer.
+/// Returns why an end left although PDUs of the other one came: by requests without an answer.
 fn asked_again(ending: &Ending, own_id: u32, other_id: u32) -> Cause
     ensures { result ≡ cause_asked ending.now.other_asks ending.now.own_asks ending.now own_id other_id }
 {
@@ -421,7 +421,7 @@ fn asked_again(ending: &Ending, own_id: u32, other_id: u32) -> Cause
     }
 }
 
-/// Returns why an end left that heard the other one to the end: by what was not confirmed.
+/// Returns why an end left although PDUs of the other one came: by what was not confirmed.
 fn unconfirmed(limit: u64, other_stuck: u64, own_stuck: u64, own_id: u32, other_id: u32) -> Cause
     ensures { result ≡ cause_unconfirmed limit other_stuck own_stuck own_id other_id }
 {

@@ -7,7 +7,7 @@ use safe_pdu::{CodeLength, CodeRule};
 /// What is followed, and how it is printed.
 #[derive(Clone, Copy, Debug, PartialEq, Eq)]
 pub struct FollowOptions {
-    /// The length of the safety code; without one it is 8 bytes, or 16 where those do not fit.
+    /// The length of the safety code; without one it is 8 bytes, or 16 if those do not fit.
     pub code: Option<CodeLength>,
     /// The initial value of the safety code.
     pub initial_value: [u32; 4],
@@ -19,12 +19,12 @@ pub struct FollowOptions {
     pub events: bool,
     /// Each datagram is printed.
     pub datagrams: bool,
-    /// After so many seconds of the recording the counts since the last time are printed.
+    /// The seconds of the recording after which the counts since the last time are printed.
     pub every: Option<u32>,
 }
 
 impl FollowOptions {
-    /// Returns what is told.
+    /// Returns what is printed.
     pub(crate) fn told(&self) -> Told {
         Told {
             events: self.events,
@@ -44,7 +44,7 @@ impl FollowOptions {
         }
     }
 
-    /// Decodes a datagram by a code of 8 bytes, or by one of 16 where those do not fit.
+    /// Decodes a datagram by a code of 8 bytes, or by one of 16 if those do not fit.
     fn decode_either(&self, payload: &[u8]) -> DecodedDatagram {
         let short = decode(payload, &self.rule(CodeLength::Eight));
         if let DecodedDatagram::NoSafe(_, _) = short {

@@ -96,7 +96,7 @@ impl Reading {
         }
     }
 
-    /// Tells what is left at the end, and the sums.
+    /// Prints what is left at the end, and the sums.
     pub(crate) fn finish<O: Output>(
         &mut self,
         alloc: Global,

@@ -37,7 +37,7 @@ pub enum Stop {
     Output,
 }
 
-/// Returns how a run ended that reported so many faults, or stopped early.
+/// Returns how a run ended that reported this number of faults, or stopped early.
 pub(crate) fn status_after(ended: Result<u64, Stop>) -> FollowStatus
     ensures { result ≡ status_of ended }
 {

@@ -83,7 +83,7 @@ pub struct RunRequest<'a> {
 /// How a recording is followed.
 #[derive(Clone, Copy, Debug, PartialEq, Eq)]
 pub struct FollowRequest<'a> {
-    /// `--code`: the length of the safety code; without it 8 bytes, or 16 where those do not fit.
+    /// `--code`: the length of the safety code; without it 8 bytes, or 16 if those do not fit.
     pub code: Option<CodeLength>,
     /// `--iv`: the initial value of the safety code as hex digits; `None` for that of RFC 1320.
     pub iv: Option<&'a str>,
@@ -95,7 +95,7 @@ pub struct FollowRequest<'a> {
     pub events: bool,
     /// `--datagrams`: each datagram is printed.
     pub datagrams: bool,
-    /// `--every`: after so many seconds of the recording the counts since the last time are printed.
+    /// `--every`: the seconds of the recording after which the counts since the last time are printed.
     pub every: Option<u32>,
     /// The name of the recording; `-` is standard input.
     pub file: &'a str,
