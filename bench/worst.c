@@ -271,7 +271,7 @@ static int compare(const void *a, const void *b) { return (*(const double *)a > 
 /* Prints the line of a case from the times of its call, and from those of a call that does nothing. */
 static void print_line(const char *call, const char *what, double *times, double *of_nothing, int runs) {
     bek_counts counts = {0, 0, 0};
-    MUST(bek_counts_of(&end, &counts) == BEK_OK);
+    MUST(bek_counts_of(&end, &counts, sizeof counts) == BEK_OK);
     qsort(times, (size_t)runs, sizeof *times, compare);
     qsort(of_nothing, (size_t)runs, sizeof *of_nothing, compare);
     printf("%s|%s|%s|%llu|%.0f|%.0f\n", set->name, call, what, (unsigned long long)counts.datagrams, times[0] - of_nothing[0],

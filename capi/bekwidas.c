@@ -30,6 +30,7 @@ int32_t bekr_confirmed_time(bek_end *end, uint64_t *time);
 int32_t bekr_departure(bek_end *end, bek_leaving *leaving);
 int32_t bekr_agreed(bek_end *end, bek_agreement *agreement);
 int32_t bekr_statistics(bek_end *end, bek_statistics *statistics);
+int32_t bekr_totals(bek_end *end, bek_statistics *totals);
 int32_t bekr_counts(bek_end *end, bek_counts *counts);
 int32_t bekr_hear_notes(bek_end *end, uint32_t hears);
 int32_t bekr_next_note(bek_end *end, bek_note *note);
@@ -41,6 +42,13 @@ static uint8_t none[1];
 /* The commit of the sources. capi/build sets it. */
 #ifndef BEK_COMMIT
 #define BEK_COMMIT "unknown"
+#endif
+
+/* Whether the functions of the crate were compiled after their proof. capi/build says that they were not. */
+#ifdef BEK_NOT_PROVED
+#define BEK_PROOF ", NOT PROVED"
+#else
+#define BEK_PROOF ""
 #endif
 
 /* A buffer is NULL only if it is empty. No length is above half the address space. */
@@ -115,7 +123,7 @@ size_t bek_version_text(char *text, size_t size) {
     say_number(&s, version >> 8 & 0xff);
     say(&s, ".");
     say_number(&s, version & 0xff);
-    say(&s, ", commit " BEK_COMMIT);
+    say(&s, ", commit " BEK_COMMIT BEK_PROOF);
     return ends(&s, size);
 }
 
@@ -133,7 +141,7 @@ int bek_settings_fault(const bek_settings *settings, uint32_t *field, char *text
     static const char *const names[] = {"", "size", "side", "id", "peer_id", "first_sn", "protocol", "code", "channels", "n_sendmax", "n_maxpacket",
                                         "q", "t_max", "t_h", "t_seq", "mwa", "pdu_limit", "telegram_room", "datagram_room", "version_count",
                                         "checksum_length", "versions", "checksum", "initial_value", "name", "peer_name"};
-    enum { PEER_ID = 4, CODE = 7, Q = 11, T_SEQ = 14, MWA = 15, VERSIONS = 21, NAME = 24 };
+    enum { PEER_ID = 4, FIRST_SN = 5, CODE = 7, N_SENDMAX = 9, T_SEQ = 14, MWA = 15, VERSIONS = 21, NAME = 24 };
     setting_fault fault = {0, 0, 0, 0};
     said s;
     int result;
@@ -150,9 +158,11 @@ int bek_settings_fault(const bek_settings *settings, uint32_t *field, char *text
         say(&s, ": expected ");
         if (result == BEK_UNWISE && fault.field == T_SEQ) say(&s, "less than t_max");
         else if (result == BEK_UNWISE && fault.field == MWA) say(&s, "less than n_sendmax");
+        else if (result == BEK_UNWISE && fault.field == N_SENDMAX) say(&s, "n_sendmax + 2 + n_sendmax / mwa at most q, such as 5 with mwa 3 and q 8");
+        else if (result == BEK_UNWISE && fault.field == FIRST_SN) say(&s, "a random number for each opening");
         else {
             say_number(&s, fault.least);
-            if (fault.most == UINT32_MAX || result == BEK_UNWISE) say(&s, " or more");
+            if (fault.most == UINT32_MAX) say(&s, " or more");
             else if (fault.most > fault.least) {
                 say(&s, fault.field == CODE ? " or " : " to ");
                 say_number(&s, fault.most);
@@ -160,7 +170,8 @@ int bek_settings_fault(const bek_settings *settings, uint32_t *field, char *text
         }
         say(&s, ", found ");
         say_number(&s, fault.value);
-        if (result == BEK_UNWISE && fault.field == Q) say(&s, ": with n_sendmax and mwa a burst after a lost datagram overruns it");
+        if (result == BEK_UNWISE && fault.field == N_SENDMAX) say(&s, ": a burst after a lost datagram overruns the early parts");
+        if (result == BEK_UNWISE && fault.field == FIRST_SN) say(&s, ": two openings make the same octets");
     }
     ends(&s, size);
     return result;
@@ -172,39 +183,59 @@ int bek_rooms(const bek_settings *settings, uint32_t *telegrams, uint32_t *datag
 }
 
 int bek_open(bek_end *end, const bek_settings *settings, uint64_t now) {
+    int result;
     if (end == NULL || settings == NULL) return BEK_ERR_NULL;
     if (!is_processor()) return BEK_ERR_PROCESSOR;
-    return bekr_open(end, settings, now);
+    result = bekr_open(end, settings, now);
+    if (result == BEK_OK) end->place_ = end;
+    return result;
 }
 
-int bek_reopen(bek_end *end, uint32_t first_sn, uint64_t now) { return end == NULL ? BEK_ERR_NULL : bekr_reopen(end, first_sn, now); }
+/* The handle is open, and is not at the place where it was opened. */
+static int is_copy(const bek_end *end) { return end->is_open_ == 1 && end->place_ != end; }
+
+int bek_reopen(bek_end *end, uint32_t first_sn, uint64_t now) {
+    if (end == NULL) return BEK_ERR_NULL;
+    return is_copy(end) ? BEK_ERR_COPIED : bekr_reopen(end, first_sn, now);
+}
 
 void bek_free(bek_end *end) {
-    if (end != NULL) bekr_free(end);
+    if (end == NULL || is_copy(end)) return;
+    bekr_free(end);
+    end->place_ = NULL;
 }
 
 int bek_arrive(bek_end *end, uint32_t channel, const uint8_t *octets, size_t length, uint64_t now) {
     if (end == NULL || !IS_ROW(octets, length)) return BEK_ERR_NULL;
     if (!IS_LENGTH(length)) return BEK_ERR_LENGTH;
-    return bekr_arrive(end, channel, ROW(octets), length, now);
+    return is_copy(end) ? BEK_ERR_COPIED : bekr_arrive(end, channel, ROW(octets), length, now);
 }
 
-int bek_tick(bek_end *end, uint64_t now) { return end == NULL ? BEK_ERR_NULL : bekr_tick(end, now); }
+int bek_tick(bek_end *end, uint64_t now) {
+    if (end == NULL) return BEK_ERR_NULL;
+    return is_copy(end) ? BEK_ERR_COPIED : bekr_tick(end, now);
+}
 
 int bek_put(bek_end *end, uint16_t kind, const uint8_t *payload, size_t length, uint64_t now) {
     if (end == NULL || !IS_ROW(payload, length)) return BEK_ERR_NULL;
     if (!IS_LENGTH(length)) return BEK_ERR_LENGTH;
-    return bekr_put(end, kind, ROW(payload), length, now);
+    return is_copy(end) ? BEK_ERR_COPIED : bekr_put(end, kind, ROW(payload), length, now);
 }
 
-int bek_init_done(bek_end *end, uint64_t now) { return end == NULL ? BEK_ERR_NULL : bekr_init_done(end, now); }
+int bek_init_done(bek_end *end, uint64_t now) {
+    if (end == NULL) return BEK_ERR_NULL;
+    return is_copy(end) ? BEK_ERR_COPIED : bekr_init_done(end, now);
+}
 
-int bek_close(bek_end *end, uint64_t now) { return end == NULL ? BEK_ERR_NULL : bekr_close(end, now); }
+int bek_close(bek_end *end, uint64_t now) {
+    if (end == NULL) return BEK_ERR_NULL;
+    return is_copy(end) ? BEK_ERR_COPIED : bekr_close(end, now);
+}
 
 int bek_take(bek_end *end, uint16_t *kind, uint8_t *payload, size_t size, size_t *length) {
     if (end == NULL || kind == NULL || length == NULL || !IS_ROW(payload, size)) return BEK_ERR_NULL;
     if (!IS_LENGTH(size)) return BEK_ERR_LENGTH;
-    return bekr_take(end, kind, ROW(payload), size, length);
+    return is_copy(end) ? BEK_ERR_COPIED : bekr_take(end, kind, ROW(payload), size, length);
 }
 
 int bek_next_datagram(bek_end *end, uint32_t *channel, uint8_t *octets, size_t size, size_t *length) {
@@ -212,8 +243,19 @@ int bek_next_datagram(bek_end *end, uint32_t *channel, uint8_t *octets, size_t s
     int result;
     if (end == NULL || channel == NULL || length == NULL || !IS_ROW(octets, size)) return BEK_ERR_NULL;
     if (!IS_LENGTH(size)) return BEK_ERR_LENGTH;
+    if (is_copy(end)) return BEK_ERR_COPIED;
     result = bekr_next_datagram(end, &on, ROW(octets), size, length);
     if (result == BEK_OK) *channel = (uint32_t)on; /* 1 to BEK_CHANNELS_MAX */
+    return result;
+}
+
+/* If a call is done, writes what it told to a struct of the caller's size: no octet after it is written, and members that this library does not know
+ * become 0. Returns the result of the call. */
+static int hands_out(int result, void *to, size_t size, const void *told, size_t length) {
+    const unsigned char *from = (const unsigned char *)told;
+    unsigned char *at = (unsigned char *)to;
+    size_t k;
+    for (k = 0; result == BEK_OK && k < size; k++) at[k] = k < length ? from[k] : 0;
     return result;
 }
 
@@ -223,6 +265,7 @@ int bek_next_datagram(bek_end *end, uint32_t *channel, uint8_t *octets, size_t s
 int bek_next_deadline(const bek_end *end, uint64_t *deadline) {
     bek_end asked;
     if (end == NULL || deadline == NULL) return BEK_ERR_NULL;
+    if (is_copy(end)) return BEK_ERR_COPIED;
     asked = *end;
     return bekr_next_deadline(&asked, deadline);
 }
@@ -230,6 +273,7 @@ int bek_next_deadline(const bek_end *end, uint64_t *deadline) {
 int bek_state(const bek_end *end) {
     bek_end asked;
     if (end == NULL) return BEK_ERR_NULL;
+    if (is_copy(end)) return BEK_ERR_COPIED;
     asked = *end;
     return bekr_state(&asked);
 }
@@ -237,6 +281,7 @@ int bek_state(const bek_end *end) {
 int bek_phase(const bek_end *end) {
     bek_end asked;
     if (end == NULL) return BEK_ERR_NULL;
+    if (is_copy(end)) return BEK_ERR_COPIED;
     asked = *end;
     return bekr_phase(&asked);
 }
@@ -244,6 +289,7 @@ int bek_phase(const bek_end *end) {
 int bek_is_stale(const bek_end *end) {
     bek_end asked;
     if (end == NULL) return BEK_ERR_NULL;
+    if (is_copy(end)) return BEK_ERR_COPIED;
     asked = *end;
     return bekr_is_stale(&asked);
 }
@@ -251,6 +297,7 @@ int bek_is_stale(const bek_end *end) {
 int bek_settled(const bek_end *end) {
     bek_end asked;
     if (end == NULL) return BEK_ERR_NULL;
+    if (is_copy(end)) return BEK_ERR_COPIED;
     asked = *end;
     return bekr_settled(&asked);
 }
@@ -258,6 +305,7 @@ int bek_settled(const bek_end *end) {
 int bek_confirmed(const bek_end *end, uint64_t *count) {
     bek_end asked;
     if (end == NULL || count == NULL) return BEK_ERR_NULL;
+    if (is_copy(end)) return BEK_ERR_COPIED;
     asked = *end;
     return bekr_confirmed(&asked, count);
 }
@@ -265,36 +313,59 @@ int bek_confirmed(const bek_end *end, uint64_t *count) {
 int bek_confirmed_time(const bek_end *end, uint64_t *time) {
     bek_end asked;
     if (end == NULL || time == NULL) return BEK_ERR_NULL;
+    if (is_copy(end)) return BEK_ERR_COPIED;
     asked = *end;
     return bekr_confirmed_time(&asked, time);
 }
 
-int bek_departure(const bek_end *end, bek_leaving *leaving) {
+int bek_departure(const bek_end *end, bek_leaving *leaving, size_t size) {
     bek_end asked;
+    bek_leaving told;
     if (end == NULL || leaving == NULL) return BEK_ERR_NULL;
+    if (!IS_LENGTH(size)) return BEK_ERR_LENGTH;
+    if (is_copy(end)) return BEK_ERR_COPIED;
     asked = *end;
-    return bekr_departure(&asked, leaving);
+    return hands_out(bekr_departure(&asked, &told), leaving, size, &told, sizeof told);
 }
 
-int bek_agreed(const bek_end *end, bek_agreement *agreement) {
+int bek_agreed(const bek_end *end, bek_agreement *agreement, size_t size) {
     bek_end asked;
+    bek_agreement told;
     if (end == NULL || agreement == NULL) return BEK_ERR_NULL;
+    if (!IS_LENGTH(size)) return BEK_ERR_LENGTH;
+    if (is_copy(end)) return BEK_ERR_COPIED;
     asked = *end;
-    return bekr_agreed(&asked, agreement);
+    return hands_out(bekr_agreed(&asked, &told), agreement, size, &told, sizeof told);
 }
 
-int bek_counts_of(const bek_end *end, bek_counts *counts) {
+int bek_counts_of(const bek_end *end, bek_counts *counts, size_t size) {
     bek_end asked;
+    bek_counts told;
     if (end == NULL || counts == NULL) return BEK_ERR_NULL;
+    if (!IS_LENGTH(size)) return BEK_ERR_LENGTH;
+    if (is_copy(end)) return BEK_ERR_COPIED;
     asked = *end;
-    return bekr_counts(&asked, counts);
+    return hands_out(bekr_counts(&asked, &told), counts, size, &told, sizeof told);
 }
 
-int bek_statistics_of(const bek_end *end, bek_statistics *statistics) {
+int bek_statistics_of(const bek_end *end, bek_statistics *statistics, size_t size) {
     bek_end asked;
+    bek_statistics told;
     if (end == NULL || statistics == NULL) return BEK_ERR_NULL;
+    if (!IS_LENGTH(size)) return BEK_ERR_LENGTH;
+    if (is_copy(end)) return BEK_ERR_COPIED;
     asked = *end;
-    return bekr_statistics(&asked, statistics);
+    return hands_out(bekr_statistics(&asked, &told), statistics, size, &told, sizeof told);
+}
+
+int bek_totals_of(const bek_end *end, bek_statistics *totals, size_t size) {
+    bek_end asked;
+    bek_statistics told;
+    if (end == NULL || totals == NULL) return BEK_ERR_NULL;
+    if (!IS_LENGTH(size)) return BEK_ERR_LENGTH;
+    if (is_copy(end)) return BEK_ERR_COPIED;
+    asked = *end;
+    return hands_out(bekr_totals(&asked, &told), totals, size, &told, sizeof told);
 }
 
 /* The meaning of a detail beside a reason; NULL if it has none. */
@@ -340,9 +411,18 @@ size_t bek_leaving_text(const bek_leaving *leaving, char *text, size_t size) {
     return ends(&s, size);
 }
 
-int bek_hear_notes(bek_end *end, int on) { return end == NULL ? BEK_ERR_NULL : bekr_hear_notes(end, on != 0); }
+int bek_hear_notes(bek_end *end, int on) {
+    if (end == NULL) return BEK_ERR_NULL;
+    return is_copy(end) ? BEK_ERR_COPIED : bekr_hear_notes(end, on != 0);
+}
 
-int bek_next_note(bek_end *end, bek_note *note) { return end == NULL || note == NULL ? BEK_ERR_NULL : bekr_next_note(end, note); }
+int bek_next_note(bek_end *end, bek_note *note, size_t size) {
+    bek_note told;
+    if (end == NULL || note == NULL) return BEK_ERR_NULL;
+    if (!IS_LENGTH(size)) return BEK_ERR_LENGTH;
+    if (is_copy(end)) return BEK_ERR_COPIED;
+    return hands_out(bekr_next_note(end, &told), note, size, &told, sizeof told);
+}
 
 /* Says the word of a value, or its number if it has none. */
 static void say_word(said *s, const char *const *words, size_t count, int32_t value) {

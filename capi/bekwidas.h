@@ -21,26 +21,30 @@
  *         wait for a socket, or until the time of bek_next_deadline; without a time if it returns BEK_NOTHING;
  *         for each datagram received: { bek_arrive(&end, channel, octets, length, now()); drain(); }
  *         bek_tick(&end, now()); drain();
+ *         if bek_phase(&end) == BEK_INITIALISING, at a field element: { put the initial status; bek_init_done(&end, now()); drain(); }
  *         if there is something to say: { bek_put(&end, kind, payload, length, now()); drain(); }
- *         if bek_is_stale(&end) == 1: { bek_reopen(&end, a random number, now()); drain(); }
+ *         if bek_is_stale(&end) == 1: { log bek_departure and bek_confirmed; bek_reopen(&end, a random number, now()); drain(); }
  *     }
  *
- * Test each result: a value below 0 is a refusal, and bek_fault_text says why. The examples in capi/examples show the complete loop.
+ * Test each result: a value below 0 is a refusal, and bek_fault_text says why. bek_is_stale waits before each opening, so that this loop floods no peer.
+ * If no session begins, bek_departure and bek_totals_of say why. The examples in capi/examples show the complete loop.
  *
  * TIME is in whole milliseconds of a clock that never decreases, such as CLOCK_MONOTONIC, and is at most 2^62. A call with an earlier time
- * than the last accepted call of the same end returns BEK_ERR_TIME and does nothing.
+ * than the last accepted call of the same end returns BEK_ERR_TIME and does nothing. If your clock is a counter of 32 bits, count its wraps:
+ * `if (tick < last) high += (uint64_t)1 << 32; last = tick; now = high + tick;`.
  *
  * MEMORY. bek_open allocates all the memory of an end by malloc: about 77,000 octets, 373 for each telegram of telegram_room, and 1,274 for
  * each datagram of datagram_room. Only bek_free returns memory; no other function uses the heap. A program without a heap defines malloc,
  * free and realloc over its own array (examples/arena.c). A call uses less than 22,000 octets of stack.
  *
- * THE HANDLE. A bek_end starts as BEK_END_INIT. While it is open you must not copy it or write to it. After bek_free you may open it again.
+ * THE HANDLE. A bek_end starts as BEK_END_INIT. While it is open you must not write to it, and a copy of it is refused: bek_open notes its place, and
+ * each function with an end at another place returns BEK_ERR_COPIED and does nothing (bek_free does nothing). After bek_free you may open it again.
  *
  * POINTERS. If a pointer is NULL, the function returns BEK_ERR_NULL and does nothing; but NULL with length 0 is an empty buffer. A length
  * above PTRDIFF_MAX returns BEK_ERR_LENGTH. Every other pointer must point to as many octets as its length says, and what is written must
  * not overlap anything else of the same call: no function can test that. No pointer is kept after a call.
  *
- * THREADS. Call the functions of one end from one thread, one at a time, and not from a signal handler during another call. Different ends
+ * THREADS. Call the functions of one end one at a time, from any thread, and not from a signal handler during another call. Different ends
  * are independent. No function waits or locks. Each call takes bounded time: it handles at most 64 messages, 32 units, 8 early parts and 4
  * channels.
  *
@@ -48,7 +52,8 @@
  * --cpu. bek_open tests that and returns BEK_ERR_PROCESSOR if some are missing.
  *
  * VERSIONS. This header is of version BEK_VERSION; bek_version() returns that of the linked library. Libraries with the same major and minor
- * number have the same ABI. A later library accepts the settings of an earlier header, because bek_settings_init is given their size.
+ * number have the same ABI, and the shared library's name has both. bek_settings_init and each function that fills a struct are given the size of your
+ * header's struct, such as sizeof(bek_counts): no octet after it is written, and members that the library does not know become 0.
  */
 #ifndef BEKWIDAS_H
 #define BEKWIDAS_H
@@ -113,7 +118,8 @@ typedef enum bek_result {
     BEK_ERR_RESERVED_KIND = -16,     /* the kind is one of the five of the session's establishment, 0x0021 to 0x0025 */
     BEK_ERR_TOO_LONG = -17,          /* the payload has more than BEK_PAYLOAD_MAX octets */
     BEK_ERR_NOT_INITIALISING = -18,  /* this end is not a field element in BEK_INITIALISING */
-    BEK_ERR_PROCESSOR = -20          /* the processor lacks instructions that this library needs (-19 is in bekwidas_toml.h) */
+    BEK_ERR_PROCESSOR = -20,         /* the processor lacks instructions that this library needs (-19 is in bekwidas_toml.h) */
+    BEK_ERR_COPIED = -21             /* the bek_end is a copy: it was made while another one was open, or moved in memory */
 } bek_result;
 
 /* The state of the connection (RaSTA), as bek_state returns it. */
@@ -176,14 +182,16 @@ typedef struct bek_settings {
 typedef struct bek_end {
     void *station_;
     uint32_t is_open_;
+    const void *place_;
 } bek_end;
-#define BEK_END_INIT { 0, 0 }
+#define BEK_END_INIT { 0, 0, 0 }
 
-/* What waits for you, and what was lost. */
+/* What waits for you, what was lost, and how often the end was opened. */
 typedef struct bek_counts {
     uint64_t telegrams; /* telegrams that wait for bek_take */
     uint64_t datagrams; /* datagrams that wait for bek_next_datagram */
     uint64_t unsent;    /* datagrams that had no room since the end was opened, modulo 2^64 */
+    uint64_t openings;  /* how often the end was opened, modulo 2^64: bek_open is the first opening */
 } bek_counts;
 
 /* In place of a time, if there is none. */
@@ -304,7 +312,7 @@ BEK_MUST_USE uint32_t bek_version(void);
 
 /* Writes the version of the library and the commit that it was built from, such as "0.3.0, commit 0123456789ab", in ASCII, cut to `size` octets with a
  * zero at the end, and returns the length of the whole text without the zero. The commit ends with "-changed" if sources were changed after it, and is
- * "unknown" if they were not in a clone. */
+ * "unknown" if they were not in a clone. ", NOT PROVED" follows if the library was compiled without a proof. */
 size_t bek_version_text(char *text, size_t size);
 
 /* Fills settings with the defaults above and zeros. `size` is sizeof(bek_settings) of your header: no octet after it is written.
@@ -318,9 +326,10 @@ BEK_MUST_USE int bek_settings_init(bek_settings *settings, size_t size);
  * is 0.
  *
  * BEK_OK; BEK_UNWISE if an end opens with these settings, but works badly: mwa is not below n_sendmax (the peer then stops until a
- * heartbeat), t_seq is not below t_max (parts are then too old), or q is below n_sendmax - 1 + n_sendmax / mwa (a burst after one lost datagram
- * can overrun the queue of early parts; the defaults are of this kind, see docs/choosing.md); BEK_ERR_NULL; BEK_ERR_LENGTH; or the result with
- * which bek_open refuses these settings: BEK_ERR_SETTINGS_SIZE, BEK_ERR_BAD_SETTINGS, BEK_ERR_ROOMS. */
+ * heartbeat), t_seq is not below t_max (parts are then too old), n_sendmax + 2 + n_sendmax / mwa is above q (a burst after one lost datagram can overrun
+ * the queue of early parts: choose a smaller window, such as n_sendmax 5, mwa 3 and q 8; the defaults are of this kind), or first_sn is 1, the default (a
+ * random one tells two openings apart); BEK_ERR_NULL; BEK_ERR_LENGTH; or the result with which bek_open refuses these settings: BEK_ERR_SETTINGS_SIZE,
+ * BEK_ERR_BAD_SETTINGS, BEK_ERR_ROOMS. */
 BEK_MUST_USE int bek_settings_fault(const bek_settings *settings, uint32_t *field, char *text, size_t size);
 
 /* Writes the rooms for as many channels as the settings have, with which no call returns BEK_UNSENT if you drain after each call: 27 telegrams,
@@ -338,8 +347,8 @@ BEK_MUST_USE int bek_rooms(const bek_settings *settings, uint32_t *telegrams, ui
 BEK_MUST_USE int bek_open(bek_end *end, const bek_settings *settings, uint64_t now);
 
 /* Opens an end again with the settings that bek_open had, and with another first_sn: draw a random one. It uses the memory that the end has. The end
- * is then as bek_open leaves it: nothing is put, confirmed or unsent yet, and an interlocking requests the connection at once. Call it if bek_is_stale
- * returns 1, or at any other time. Datagrams of the old connection that wait are dropped, and nothing more is sent on it: to inform the peer, call
+ * is then as bek_open leaves it: nothing is put, confirmed or unsent yet, and an interlocking requests the connection at once. Only the last departure and
+ * the sums of the counts are kept (bek_departure, bek_totals_of). Call it if bek_is_stale returns 1, or at any other time. Datagrams of the old connection that wait are dropped, and nothing more is sent on it: to inform the peer, call
  * bek_close before, and send what waits.
  *
  * BEK_OK; or the first that holds, and nothing has changed: BEK_ERR_NULL, BEK_ERR_NOT_OPEN, BEK_ERR_TIME, BEK_ERR_TAKE_FIRST (a telegram of the old
@@ -365,10 +374,11 @@ BEK_MUST_USE int bek_arrive(bek_end *end, uint32_t channel, const uint8_t *octet
 BEK_MUST_USE int bek_tick(bek_end *end, uint64_t now);
 
 /* Writes the next time at which bek_tick will do something, if nothing arrives, nothing is put and nothing is taken before. It may be in the past. If
- * bek_tick returns BEK_ERR_TAKE_FIRST or BEK_ERR_SEND_FIRST, it is the time at which t_max ends the connection.
+ * bek_tick returns BEK_ERR_TAKE_FIRST or BEK_ERR_SEND_FIRST, it is the time at which t_max ends the connection. If the end must be opened again, it is
+ * the time from which bek_is_stale returns 1.
  *
- * BEK_OK; BEK_NOTHING if no bek_tick does anything until something arrives: in BEK_CLOSED, in BEK_DOWN if no early part waits, and after
- * BEK_ERR_LOST. Then *deadline is not written: wait for a socket without a time limit. BEK_ERR_NULL; BEK_ERR_NOT_OPEN. */
+ * BEK_OK; BEK_NOTHING if no bek_tick does anything until something arrives: in BEK_CLOSED if bek_is_stale returns 1, in BEK_DOWN if no early part waits,
+ * and after BEK_ERR_LOST. Then *deadline is not written: wait for a socket without a time limit. BEK_ERR_NULL; BEK_ERR_NOT_OPEN. */
 BEK_MUST_USE int bek_next_deadline(const bek_end *end, uint64_t *deadline);
 
 /* Puts a command (interlocking) or status (field element) with a kind and 0 to BEK_PAYLOAD_MAX octets. It is copied, and sent after everything
@@ -412,8 +422,10 @@ BEK_MUST_USE int bek_state(const bek_end *end);
 /* Returns the phase of the session (bek_session), BEK_ERR_NOT_OPEN or BEK_ERR_NULL. */
 BEK_MUST_USE int bek_phase(const bek_end *end);
 
-/* Returns 1 if you must open this end again (bek_reopen), 0 if not: it is closed, or it is a field element in BEK_DOWN that has already accepted
- * a datagram and therefore may miss the next request. BEK_ERR_NOT_OPEN or BEK_ERR_NULL. */
+/* Returns 1 if you must open this end again now (bek_reopen), 0 if not: it is closed, or it is a field element in BEK_DOWN that has already accepted
+ * a datagram and therefore may miss the next request; and it has waited long enough, up to the time of the last accepted call. A field element waits
+ * t_max/8 after it was opened. An interlocking waits t_max/4 after it was closed, so that the field element is ready for its request, and also t_max/4
+ * after it was opened, t_max/2 after an opening that lasted less than 2 t_max, and t_max after several of those. BEK_ERR_NOT_OPEN or BEK_ERR_NULL. */
 BEK_MUST_USE int bek_is_stale(const bek_end *end);
 
 /* Returns 1 if the end is not closed and the peer has taken everything put, otherwise 0; BEK_ERR_NOT_OPEN or BEK_ERR_NULL. */
@@ -429,25 +441,30 @@ BEK_MUST_USE int bek_confirmed(const bek_end *end, uint64_t *count);
  * BEK_OK; BEK_ERR_NULL, BEK_ERR_NOT_OPEN. */
 BEK_MUST_USE int bek_confirmed_time(const bek_end *end, uint64_t *time);
 
-/* Writes who ended the connection, why and when. BEK_OK; BEK_NOTHING if the end was not closed, and nothing is written; BEK_ERR_NULL,
- * BEK_ERR_NOT_OPEN. */
-BEK_MUST_USE int bek_departure(const bek_end *end, bek_leaving *leaving);
+/* Writes who ended the last connection, why and when: the present one if it has ended, otherwise the last one before bek_reopen. BEK_OK; BEK_NOTHING if
+ * no connection of this end has ended, and nothing is written; BEK_ERR_NULL, BEK_ERR_LENGTH, BEK_ERR_NOT_OPEN. */
+BEK_MUST_USE int bek_departure(const bek_end *end, bek_leaving *leaving, size_t size);
 
 /* Writes the PDI version that was agreed, and the checksum of the field element's reply. They are known before the first telegram is put or taken: at
  * an interlocking from BEK_REQUESTING on, at a field element from BEK_AWAIT_REQUEST on. They stay after the end is closed, until bek_reopen.
  *
- * BEK_OK; BEK_NOTHING if nothing was agreed, and nothing is written; BEK_ERR_NULL, BEK_ERR_NOT_OPEN. */
-BEK_MUST_USE int bek_agreed(const bek_end *end, bek_agreement *agreement);
+ * BEK_OK; BEK_NOTHING if nothing was agreed, and nothing is written; BEK_ERR_NULL, BEK_ERR_LENGTH, BEK_ERR_NOT_OPEN. */
+BEK_MUST_USE int bek_agreed(const bek_end *end, bek_agreement *agreement, size_t size);
 
 /* Writes what a departure means, in ASCII, cut to `size` octets with a zero at the end, and returns the length of the whole text without the zero.
  * If `leaving` is NULL, the text is empty. */
 size_t bek_leaving_text(const bek_leaving *leaving, char *text, size_t size);
 
-/* Writes what waits for you, and what was lost. BEK_OK; BEK_ERR_NULL, BEK_ERR_NOT_OPEN. */
-BEK_MUST_USE int bek_counts_of(const bek_end *end, bek_counts *counts);
+/* Writes what waits for you, what was lost, and how often the end was opened. BEK_OK; BEK_ERR_NULL, BEK_ERR_LENGTH, BEK_ERR_NOT_OPEN. */
+BEK_MUST_USE int bek_counts_of(const bek_end *end, bek_counts *counts, size_t size);
 
-/* Writes what the end has counted since it was opened. BEK_OK; BEK_ERR_NULL, BEK_ERR_NOT_OPEN. */
-BEK_MUST_USE int bek_statistics_of(const bek_end *end, bek_statistics *statistics);
+/* Writes what the end has counted since it was opened, by bek_open or bek_reopen. BEK_OK; BEK_ERR_NULL, BEK_ERR_LENGTH, BEK_ERR_NOT_OPEN. */
+BEK_MUST_USE int bek_statistics_of(const bek_end *end, bek_statistics *statistics, size_t size);
+
+/* Writes the sums of these counts over all openings, that of now among them; `oldest` and `longest_wait` are the greatest, `last` is the latest. An end
+ * that never gets a session shows there why: `strangers` for a wrong identifier, `bad_code` for another code or initial value. BEK_OK; BEK_ERR_NULL,
+ * BEK_ERR_LENGTH, BEK_ERR_NOT_OPEN. */
+BEK_MUST_USE int bek_totals_of(const bek_end *end, bek_statistics *totals, size_t size);
 
 /* Keeps notes of what the end does from now on if `on` is not 0, and no longer if it is 0; those that wait are dropped. A new end keeps none, and
  * bek_reopen leaves this as it is. As long as none is kept, this costs one test for each datagram.
@@ -458,8 +475,8 @@ BEK_MUST_USE int bek_hear_notes(bek_end *end, int on);
 /* Fetches the oldest note. Fetch all after each call: then they are those of the call. Up to 128 wait; if a call makes more, the last one fetched says
  * how many had no room.
  *
- * BEK_OK; BEK_NOTHING if no note waits, and nothing is written; BEK_ERR_NULL, BEK_ERR_NOT_OPEN. */
-BEK_MUST_USE int bek_next_note(bek_end *end, bek_note *note);
+ * BEK_OK; BEK_NOTHING if no note waits, and nothing is written; BEK_ERR_NULL, BEK_ERR_LENGTH, BEK_ERR_NOT_OPEN. */
+BEK_MUST_USE int bek_next_note(bek_end *end, bek_note *note, size_t size);
 
 /* Writes what a note means, in ASCII, cut to `size` octets with a zero at the end, and returns the length of the whole text without the zero. If
  * `note` is NULL, the text is empty. */

@@ -3,32 +3,54 @@
     import bekwidas
     end = bekwidas.End(settings, now)
 
-It loads libbekwidas.so.0, or the file that the variable BEKWIDAS_SO names.
+It loads libbekwidas.so.0.3, or the file that the variable BEKWIDAS_SO names.
 """
 import ctypes
 import os
 from ctypes import POINTER, byref, c_char, c_char_p, c_int, c_size_t, c_uint8, c_uint16, c_uint32, c_uint64, c_void_p
 
-OK, NOTHING, UNSENT, UNWISE = 0, 1, 2, 3
-FULL = -15
+# Results.
+OK, NOTHING, UNSENT, UNWISE = range(4)
+(ERR_NULL, ERR_LENGTH, ERR_NOT_OPEN, ERR_ALREADY_OPEN, ERR_SETTINGS_SIZE, ERR_BAD_SETTINGS, ERR_ROOMS, ERR_NO_MEMORY, ERR_TIME, ERR_TAKE_FIRST,
+ ERR_SEND_FIRST, ERR_LOST, ERR_TOO_SMALL, ERR_NOT_ESTABLISHED, ERR_FULL, ERR_RESERVED_KIND, ERR_TOO_LONG, ERR_NOT_INITIALISING) = range(-1, -19, -1)
+ERR_PROCESSOR, ERR_COPIED = -20, -21
 DATAGRAM_MAX, PAYLOAD_MAX = 1258, 357
 INTERLOCKING, FIELD_ELEMENT = 1, 2
+# States of the connection, and phases of the session.
 CLOSED, DOWN, START, UP, RETR_REQ, RETR_RUN = range(6)
-INITIALISING, ESTABLISHED = 6, 7
+IDLE, CHECKING, REQUESTING, AWAIT_CHECK, AWAIT_REQUEST, REFUSED, INITIALISING, ESTABLISHED, ENDED = range(9)
+# What a note is about, and what was done with a datagram or a PDU; who ended a connection.
+NOTE_STATE, NOTE_PHASE, NOTE_DATAGRAM, NOTE_PDU, NOTE_TAKE, NOTE_LEFT_OUT = range(1, 7)
+(DATAGRAM_PASSED, DATAGRAM_DEFERRED, DATAGRAM_OLD, DATAGRAM_REPEATED, DATAGRAM_FAR, DATAGRAM_FULL, DATAGRAM_DAMAGED) = range(7)
+(PDU_TAKEN, PDU_GAP, PDU_LEFT, PDU_CLOSED, PDU_DAMAGED, PDU_STRANGER, PDU_UNOPENED, PDU_FAR, PDU_UNREQUESTED, PDU_ANSWERED, PDU_BELOW) = range(11)
+BY_OWN, BY_PEER, NO_VERSION = 1, 2, 256
 
-_library = ctypes.CDLL(os.environ.get("BEKWIDAS_SO", "libbekwidas.so.0"))
+_library = ctypes.CDLL(os.environ.get("BEKWIDAS_SO", "libbekwidas.so.0.3"))
 
 
 class _Handle(ctypes.Structure):
-    _fields_ = [("station", c_void_p), ("is_open", c_uint32)]
+    _fields_ = [("station", c_void_p), ("is_open", c_uint32), ("place", c_void_p)]
+
+
+def _number(what, value, bits):
+    """Returns a number that fits this many bits: ctypes would cut it without a word."""
+    if not 0 <= value < 1 << bits:
+        raise ValueError(f"{what}: expected 0 to {(1 << bits) - 1}, found {value}")
+    return value
 
 
 class Settings(ctypes.Structure):
-    """bek_settings, with its defaults. Names are given as bytes."""
+    """bek_settings, with its defaults. Names are given as bytes. A member that does not exist and a number that does not fit are errors."""
 
+    __slots__ = ()
     _fields_ = [(name, c_uint32) for name in """size side id peer_id first_sn protocol code channels n_sendmax n_maxpacket q t_max t_h t_seq mwa pdu_limit
         telegram_room datagram_room version_count checksum_length""".split()] + [
         ("versions", c_uint8 * 4), ("checksum", c_uint8 * 16), ("initial_value", c_uint8 * 16), ("name", c_char * 24), ("peer_name", c_char * 24)]
+
+    def __setattr__(self, name, value):
+        if dict(self._fields_).get(name) is c_uint32:
+            _number(name, value, 32)
+        super().__setattr__(name, value)
 
     def __init__(self, versions=(), **members):
         super().__init__()
@@ -36,7 +58,7 @@ class Settings(ctypes.Structure):
         for name, value in members.items():
             setattr(self, name, value)
         self.version_count = len(versions)
-        self.versions[: len(versions)] = versions
+        self.versions[: len(versions)] = [_number("versions", version, 8) for version in versions]
 
     def fault(self):
         """Returns the result of bek_settings_fault, and what is wrong."""
@@ -51,7 +73,7 @@ class Settings(ctypes.Structure):
 
 
 class Counts(ctypes.Structure):
-    _fields_ = [("telegrams", c_uint64), ("datagrams", c_uint64), ("unsent", c_uint64)]
+    _fields_ = [(name, c_uint64) for name in "telegrams datagrams unsent openings".split()]
 
 
 class Reception(ctypes.Structure):
@@ -149,8 +171,9 @@ _declare(_Handle, {
     "next_deadline": [POINTER(c_uint64)], "put": [c_uint16, c_char_p, c_size_t, c_uint64], "init_done": [c_uint64], "close": [c_uint64],
     "take": [POINTER(c_uint16), c_char_p, c_size_t, POINTER(c_size_t)], "next_datagram": [POINTER(c_uint32), c_char_p, c_size_t, POINTER(c_size_t)],
     "state": [], "phase": [], "is_stale": [], "settled": [], "confirmed": [POINTER(c_uint64)], "confirmed_time": [POINTER(c_uint64)],
-    "departure": [POINTER(Leaving)], "agreed": [POINTER(Agreement)], "counts_of": [POINTER(Counts)], "statistics_of": [POINTER(Statistics)],
-    "hear_notes": [c_int], "next_note": [POINTER(Note)]})
+    "departure": [POINTER(Leaving), c_size_t], "agreed": [POINTER(Agreement), c_size_t], "counts_of": [POINTER(Counts), c_size_t],
+    "statistics_of": [POINTER(Statistics), c_size_t], "totals_of": [POINTER(Statistics), c_size_t], "hear_notes": [c_int],
+    "next_note": [POINTER(Note), c_size_t]})
 
 
 def version():
@@ -168,11 +191,11 @@ class End:
 
     def __init__(self, settings, now):
         self._handle = _Handle()
-        _must("open", _library.bek_open(self._handle, settings, now))
+        _must("open", _library.bek_open(self._handle, settings, _number("now", now, 64)))
 
     def reopen(self, first_sn, now):
         """Opens the end again with its settings, and with another first_sn."""
-        return _must("reopen", _library.bek_reopen(self._handle, first_sn, now))
+        return _must("reopen", _library.bek_reopen(self._handle, _number("first_sn", first_sn, 32), _number("now", now, 64)))
 
     def free(self):
         _library.bek_free(self._handle)
@@ -180,19 +203,22 @@ class End:
     __del__ = free
 
     def arrive(self, channel, octets, now):
-        return _must("arrive", _library.bek_arrive(self._handle, channel, octets, len(octets), now))
+        """Passes in a datagram: bytes, a bytearray or a memoryview."""
+        octets = bytes(octets)
+        return _must("arrive", _library.bek_arrive(self._handle, _number("channel", channel, 32), octets, len(octets), _number("now", now, 64)))
 
     def tick(self, now):
-        return _must("tick", _library.bek_tick(self._handle, now))
+        return _must("tick", _library.bek_tick(self._handle, _number("now", now, 64)))
 
     def put(self, kind, payload, now):
-        return _must("put", _library.bek_put(self._handle, kind, payload, len(payload), now))
+        payload = bytes(payload)
+        return _must("put", _library.bek_put(self._handle, _number("kind", kind, 16), payload, len(payload), _number("now", now, 64)))
 
     def init_done(self, now):
-        return _must("init_done", _library.bek_init_done(self._handle, now))
+        return _must("init_done", _library.bek_init_done(self._handle, _number("now", now, 64)))
 
     def close(self, now):
-        return _must("close", _library.bek_close(self._handle, now))
+        return _must("close", _library.bek_close(self._handle, _number("now", now, 64)))
 
     def telegrams(self):
         """Takes all telegrams that wait: pairs of kind and payload."""
@@ -216,15 +242,19 @@ class End:
     is_stale = property(lambda self: _must("is_stale", _library.bek_is_stale(self._handle)) == 1)
     settled = property(lambda self: _must("settled", _library.bek_settled(self._handle)) == 1)
 
-    def _told(self, name, value):
-        return value if _must(name, getattr(_library, f"bek_{name}")(self._handle, byref(value))) == OK else None
+    def _told(self, name, value, *size):
+        return value if _must(name, getattr(_library, f"bek_{name}")(self._handle, byref(value), *size)) == OK else None
+
+    def _filled(self, name, value):
+        return self._told(name, value, ctypes.sizeof(value))
 
     confirmed = property(lambda self: self._told("confirmed", c_uint64()).value)
     confirmed_time = property(lambda self: self._told("confirmed_time", c_uint64()).value)
-    departure = property(lambda self: self._told("departure", Leaving()))
-    agreed = property(lambda self: self._told("agreed", Agreement()))
-    counts = property(lambda self: self._told("counts_of", Counts()))
-    statistics = property(lambda self: self._told("statistics_of", Statistics()))
+    departure = property(lambda self: self._filled("departure", Leaving()))
+    agreed = property(lambda self: self._filled("agreed", Agreement()))
+    counts = property(lambda self: self._filled("counts_of", Counts()))
+    statistics = property(lambda self: self._filled("statistics_of", Statistics()))
+    totals = property(lambda self: self._filled("totals_of", Statistics()))
 
     def hear_notes(self, on):
         """Keeps notes from now on, or no longer."""
@@ -232,5 +262,5 @@ class End:
 
     def notes(self):
         """Takes all notes that wait; str(note) says what each means."""
-        while (note := self._told("next_note", Note())) is not None:
+        while (note := self._filled("next_note", Note())) is not None:
             yield note

@@ -1,16 +1,86 @@
 //! bekwidas.h for Rust: copy this file into your project (`mod bekwidas;`), and link with `-l static=bekwidas` or `-l bekwidas`.
 #![allow(dead_code)]
 use std::ffi::{c_char, c_int, c_void};
+use std::mem::size_of;
 
+// Results.
 pub const OK: c_int = 0;
 pub const NOTHING: c_int = 1;
+pub const UNSENT: c_int = 2;
+pub const UNWISE: c_int = 3;
+pub const ERR_NULL: c_int = -1;
+pub const ERR_LENGTH: c_int = -2;
+pub const ERR_NOT_OPEN: c_int = -3;
+pub const ERR_ALREADY_OPEN: c_int = -4;
+pub const ERR_SETTINGS_SIZE: c_int = -5;
+pub const ERR_BAD_SETTINGS: c_int = -6;
+pub const ERR_ROOMS: c_int = -7;
+pub const ERR_NO_MEMORY: c_int = -8;
+pub const ERR_TIME: c_int = -9;
+pub const ERR_TAKE_FIRST: c_int = -10;
+pub const ERR_SEND_FIRST: c_int = -11;
+pub const ERR_LOST: c_int = -12;
+pub const ERR_TOO_SMALL: c_int = -13;
+pub const ERR_NOT_ESTABLISHED: c_int = -14;
+pub const ERR_FULL: c_int = -15;
+pub const ERR_RESERVED_KIND: c_int = -16;
+pub const ERR_TOO_LONG: c_int = -17;
+pub const ERR_NOT_INITIALISING: c_int = -18;
+pub const ERR_PROCESSOR: c_int = -20;
+pub const ERR_COPIED: c_int = -21;
+// States of the connection, as `End::state` returns them.
+pub const CLOSED: c_int = 0;
+pub const DOWN: c_int = 1;
+pub const START: c_int = 2;
+pub const UP: c_int = 3;
+pub const RETR_REQ: c_int = 4;
+pub const RETR_RUN: c_int = 5;
+// Phases of the session, as `End::phase` returns them.
+pub const IDLE: c_int = 0;
+pub const CHECKING: c_int = 1;
+pub const REQUESTING: c_int = 2;
+pub const AWAIT_CHECK: c_int = 3;
+pub const AWAIT_REQUEST: c_int = 4;
+pub const REFUSED: c_int = 5;
+pub const INITIALISING: c_int = 6;
+pub const ESTABLISHED: c_int = 7;
+pub const ENDED: c_int = 8;
+// What a note is about, and what was done with a datagram or a PDU.
+pub const NOTE_STATE: u32 = 1;
+pub const NOTE_PHASE: u32 = 2;
+pub const NOTE_DATAGRAM: u32 = 3;
+pub const NOTE_PDU: u32 = 4;
+pub const NOTE_TAKE: u32 = 5;
+pub const NOTE_LEFT_OUT: u32 = 6;
+pub const DATAGRAM_PASSED: i32 = 0;
+pub const DATAGRAM_DEFERRED: i32 = 1;
+pub const DATAGRAM_OLD: i32 = 2;
+pub const DATAGRAM_REPEATED: i32 = 3;
+pub const DATAGRAM_FAR: i32 = 4;
+pub const DATAGRAM_FULL: i32 = 5;
+pub const DATAGRAM_DAMAGED: i32 = 6;
+pub const PDU_TAKEN: i32 = 0;
+pub const PDU_GAP: i32 = 1;
+pub const PDU_LEFT: i32 = 2;
+pub const PDU_CLOSED: i32 = 3;
+pub const PDU_DAMAGED: i32 = 4;
+pub const PDU_STRANGER: i32 = 5;
+pub const PDU_UNOPENED: i32 = 6;
+pub const PDU_FAR: i32 = 7;
+pub const PDU_UNREQUESTED: i32 = 8;
+pub const PDU_ANSWERED: i32 = 9;
+pub const PDU_BELOW: i32 = 10;
+// Who ended a connection.
+pub const BY_OWN: u32 = 1;
+pub const BY_PEER: u32 = 2;
+pub const NO_VERSION: u32 = 256;
 pub const DATAGRAM_MAX: usize = 1258;
 pub const PAYLOAD_MAX: usize = 357;
 pub const INTERLOCKING: u32 = 1;
 pub const FIELD_ELEMENT: u32 = 2;
 
 #[repr(C)]
-struct Handle { station: *mut c_void, is_open: u32 }
+struct Handle { station: *mut c_void, is_open: u32, place: *const c_void }
 
 /// `bek_settings`: bekwidas.h says what each member means.
 #[repr(C)]
@@ -24,7 +94,7 @@ pub struct Settings {
 
 #[repr(C)]
 #[derive(Clone, Copy, Debug, Default, PartialEq, Eq)]
-pub struct Counts { pub telegrams: u64, pub datagrams: u64, pub unsent: u64 }
+pub struct Counts { pub telegrams: u64, pub datagrams: u64, pub unsent: u64, pub openings: u64 }
 
 #[repr(C)]
 #[derive(Clone, Copy, Debug, Default, PartialEq, Eq)]
@@ -90,12 +160,13 @@ extern "C" {
     fn bek_settled(e: *const Handle) -> c_int;
     fn bek_confirmed(e: *const Handle, count: *mut u64) -> c_int;
     fn bek_confirmed_time(e: *const Handle, time: *mut u64) -> c_int;
-    fn bek_departure(e: *const Handle, leaving: *mut Leaving) -> c_int;
-    fn bek_agreed(e: *const Handle, agreement: *mut Agreement) -> c_int;
-    fn bek_counts_of(e: *const Handle, counts: *mut Counts) -> c_int;
-    fn bek_statistics_of(e: *const Handle, statistics: *mut Statistics) -> c_int;
+    fn bek_departure(e: *const Handle, leaving: *mut Leaving, size: usize) -> c_int;
+    fn bek_agreed(e: *const Handle, agreement: *mut Agreement, size: usize) -> c_int;
+    fn bek_counts_of(e: *const Handle, counts: *mut Counts, size: usize) -> c_int;
+    fn bek_statistics_of(e: *const Handle, statistics: *mut Statistics, size: usize) -> c_int;
+    fn bek_totals_of(e: *const Handle, totals: *mut Statistics, size: usize) -> c_int;
     fn bek_hear_notes(e: *mut Handle, on: c_int) -> c_int;
-    fn bek_next_note(e: *mut Handle, note: *mut Note) -> c_int;
+    fn bek_next_note(e: *mut Handle, note: *mut Note, size: usize) -> c_int;
     fn bek_note_text(note: *const Note, text: *mut c_char, size: usize) -> usize;
     fn bek_fault_text(result: c_int, text: *mut c_char, size: usize) -> usize;
     fn bek_leaving_text(leaving: *const Leaving, text: *mut c_char, size: usize) -> usize;
@@ -118,7 +189,7 @@ impl Settings {
     /// The defaults of `bek_settings_init`.
     pub fn new() -> Settings {
         let mut s: Settings = unsafe { std::mem::zeroed() };
-        let result = unsafe { bek_settings_init(&mut s, std::mem::size_of::<Settings>()) };
+        let result = unsafe { bek_settings_init(&mut s, size_of::<Settings>()) };
         assert_eq!(result, OK, "the library has other settings than this file");
         s
     }
@@ -143,8 +214,11 @@ impl Settings {
     }
 }
 
-/// An end, freed when it is dropped. It is neither Send nor Sync, as the header's rule about threads needs.
+/// An end, freed when it is dropped. Any thread may have it, one at a time: it is Send, and not Sync.
 pub struct End(Box<Handle>);
+
+// SAFETY: bekwidas.h allows the calls of one end from any thread, one at a time.
+unsafe impl Send for End {}
 
 impl Drop for End {
     fn drop(&mut self) { unsafe { bek_free(&mut *self.0) } }
@@ -152,7 +226,7 @@ impl Drop for End {
 
 impl End {
     pub fn open(s: &Settings, now: u64) -> Result<End, c_int> {
-        let mut e = Box::new(Handle { station: std::ptr::null_mut(), is_open: 0 });
+        let mut e = Box::new(Handle { station: std::ptr::null_mut(), is_open: 0, place: std::ptr::null() });
         let result = unsafe { bek_open(&mut *e, s, now) };
         given(result, End(e))
     }
@@ -192,7 +266,7 @@ impl End {
     }
     pub fn state(&self) -> c_int { unsafe { bek_state(&*self.0) } }
     pub fn phase(&self) -> c_int { unsafe { bek_phase(&*self.0) } }
-    /// Whether the end must be opened again, by `reopen`.
+    /// Whether the end must be opened again now, by `reopen`.
     pub fn is_stale(&self) -> bool { unsafe { bek_is_stale(&*self.0) == 1 } }
     pub fn settled(&self) -> bool { unsafe { bek_settled(&*self.0) == 1 } }
     /// How many of the telegrams put are certain.
@@ -206,34 +280,41 @@ impl End {
         let result = unsafe { bek_confirmed_time(&*self.0, &mut time) };
         given(result, time)
     }
-    /// Who ended the connection, why and when, with its text; `Err(NOTHING)` if nobody did.
+    /// Who ended the last connection, why and when, with its text; `Err(NOTHING)` if none has ended.
     pub fn departure(&self) -> Result<(Leaving, String), c_int> {
         let mut leaving = Leaving::default();
-        let result = unsafe { bek_departure(&*self.0, &mut leaving) };
+        let result = unsafe { bek_departure(&*self.0, &mut leaving, size_of::<Leaving>()) };
         let said = text(|at, size| { unsafe { bek_leaving_text(&leaving, at, size) }; });
         given(result, (leaving, said))
     }
     /// The version and checksum that were agreed; `Err(NOTHING)` before that.
     pub fn agreed(&self) -> Result<Agreement, c_int> {
         let mut agreement = Agreement::default();
-        let result = unsafe { bek_agreed(&*self.0, &mut agreement) };
+        let result = unsafe { bek_agreed(&*self.0, &mut agreement, size_of::<Agreement>()) };
         given(result, agreement)
     }
     pub fn counts(&self) -> Result<Counts, c_int> {
         let mut counts = Counts::default();
-        let result = unsafe { bek_counts_of(&*self.0, &mut counts) };
+        let result = unsafe { bek_counts_of(&*self.0, &mut counts, size_of::<Counts>()) };
         given(result, counts)
     }
     pub fn statistics(&self) -> Result<Statistics, c_int> {
         let mut statistics = Statistics::default();
-        let result = unsafe { bek_statistics_of(&*self.0, &mut statistics) };
+        let result = unsafe { bek_statistics_of(&*self.0, &mut statistics, size_of::<Statistics>()) };
         given(result, statistics)
-    }    /// Keeps notes from now on, or no longer.
+    }
+    /// The sums of these counts over all openings.
+    pub fn totals(&self) -> Result<Statistics, c_int> {
+        let mut totals = Statistics::default();
+        let result = unsafe { bek_totals_of(&*self.0, &mut totals, size_of::<Statistics>()) };
+        given(result, totals)
+    }
+    /// Keeps notes from now on, or no longer.
     pub fn hear_notes(&mut self, on: bool) -> c_int { unsafe { bek_hear_notes(&mut *self.0, on as c_int) } }
     /// The oldest note with its text.
     pub fn next_note(&mut self) -> Option<(Note, String)> {
         let mut note = Note::default();
-        let result = unsafe { bek_next_note(&mut *self.0, &mut note) };
+        let result = unsafe { bek_next_note(&mut *self.0, &mut note, size_of::<Note>()) };
         if result == OK { Some((note, text(|at, size| { unsafe { bek_note_text(&note, at, size) }; }))) } else { None }
     }
 }

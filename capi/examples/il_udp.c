@@ -7,7 +7,7 @@
 
 int main(int argc, char **argv) {
     uint32_t times = argc > 1 ? (uint32_t)strtoul(argv[1], NULL, 10) : 10, certain = 0, put = 0;
-    uint64_t start = now(), closed = 0, count;
+    uint64_t start = now(), count;
     int settled = 0;
 
     opens_sockets(46101, 46201);
@@ -25,15 +25,10 @@ int main(int argc, char **argv) {
         }
         settled = certain + put == times && bek_settled(&end) == 1;
         if (!settled && bek_is_stale(&end) == 1) {
-            if (closed == 0) {
-                closed = now();
-                /* this program puts again what is not certain; yours may have to ask the peer first */
-                if (!refused("confirmed", bek_confirmed(&end, &count))) certain += (uint32_t)count;
-                put = 0;
-            } else if (now() - closed >= 200) { /* not at once: the peer needs time to notice */
-                reopens();
-                closed = 0;
-            }
+            /* this program puts again what is not certain; yours may have to ask the peer first */
+            if (!refused("confirmed", bek_confirmed(&end, &count))) certain += (uint32_t)count;
+            put = 0;
+            reopens();
         }
     }
     printf("il put %lu, settled %d, after %lu ms\n", (unsigned long)(certain + put), settled, (unsigned long)(now() - start));

@@ -1,7 +1,7 @@
 #!/usr/bin/env python3
 """Two ends in one process, by capi/bindings/bekwidas.py: a test bench whose first channel loses every tenth datagram.
 
-    BEKWIDAS_SO=PREFIX/lib/libbekwidas.so.0 python3 two_ends.py
+    BEKWIDAS_SO=PREFIX/lib/libbekwidas.so.0.3 python3 two_ends.py
 """
 import os
 import random
@@ -41,12 +41,12 @@ def main():
                 il.put(0x0100, put.to_bytes(2, "little"), now)
                 put += 1
             except bekwidas.Refused as refused:  # 64 wait: again later
-                assert refused.code == bekwidas.FULL
+                assert refused.code == bekwidas.ERR_FULL
     assert taken == [(0x0100, n.to_bytes(2, "little")) for n in range(200)], len(taken)
     il.close(now)
     confirmed, departure = il.confirmed, il.departure
     il.reopen(random.getrandbits(32), now)  # for another connection: a program does it when is_stale
-    assert il.state == bekwidas.START and il.confirmed == 0 and il.departure is None
+    assert il.state == bekwidas.START and il.confirmed == 0 and il.departure.reason == 0
     print(f"python: 200 telegrams in order after {now} ms, at least {confirmed} confirmed; ended {departure}")
 
 

@@ -2,7 +2,7 @@
 // rustc -O two_ends.rs -L DIR -l static=bekwidas
 #[path = "../bindings/bekwidas.rs"]
 mod bekwidas;
-use bekwidas::{DATAGRAM_MAX, End, FIELD_ELEMENT, INTERLOCKING, OK, PAYLOAD_MAX, Settings};
+use bekwidas::{DATAGRAM_MAX, ERR_BAD_SETTINGS, ESTABLISHED, End, FIELD_ELEMENT, INTERLOCKING, OK, PAYLOAD_MAX, START, Settings};
 
 // The end FE takes all telegrams that wait, which are numbered.
 fn take_all(fe: &mut End, mut taken: u32) -> u32 {
@@ -36,12 +36,12 @@ fn main() {
     let times: u32 = std::env::args().nth(1).map_or(1_000_000, |t| t.parse().unwrap());
     let mut fe = End::open(&settings(FIELD_ELEMENT, 2, 1, "FE1", "IL1"), 0).unwrap();
     let mut il = End::open(&settings(INTERLOCKING, 1, 2, "IL1", "FE1"), 0).unwrap();
-    assert_eq!(settings(1, 1, 1, "IL1", "FE1").fault(), (-6, "peer_id: expected another identifier than id".to_string()));
+    assert_eq!(settings(1, 1, 1, "IL1", "FE1").fault(), (ERR_BAD_SETTINGS, "peer_id: expected another identifier than id".to_string()));
     let (mut put, mut taken, mut now) = (0u32, 0u32, 0u64);
     while pass(&mut il, &mut fe, 0, &mut taken) | pass(&mut fe, &mut il, 0, &mut taken) {}
     assert_eq!(fe.init_done(0), OK);
     while pass(&mut fe, &mut il, 0, &mut taken) | pass(&mut il, &mut fe, 0, &mut taken) {}
-    assert_eq!((il.phase(), fe.phase()), (7, 7));
+    assert_eq!((il.phase(), fe.phase()), (ESTABLISHED, ESTABLISHED));
     let start = std::time::Instant::now();
     while taken < times {
         now += 1;
@@ -54,6 +54,9 @@ fn main() {
     println!("rust: {taken} telegrams in order, {:.0} ns each", start.elapsed().as_nanos() as f64 / taken as f64);
     assert_eq!(il.close(now), OK);
     println!("rust: {} confirmed, {}", il.confirmed().unwrap(), il.departure().unwrap().1);
+    assert!(!il.is_stale()); // it waits t_max/4 before the next connection
+    now += 450;
+    assert_eq!(il.tick(now), OK);
     assert!(il.is_stale());
-    assert_eq!((il.reopen(4711, now), il.state(), il.confirmed()), (OK, 2, Ok(0))); // for another connection
+    assert_eq!((il.reopen(4711, now), il.state(), il.confirmed()), (OK, START, Ok(0))); // for another connection
 }

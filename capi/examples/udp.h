@@ -92,23 +92,33 @@ static void opens(void) {
     s.peer_id = SIDE == BEK_INTERLOCKING ? 2 : 1;
     s.protocol = 1;
     s.first_sn = random_number();
+    s.n_sendmax = 5, s.mwa = 3, s.q = 8; /* so that one lost datagram does not overrun the early parts */
     s.version_count = 1;
     s.versions[0] = 1;
     strcpy(s.name, SIDE == BEK_INTERLOCKING ? "IL1" : "FE1");
     strcpy(s.peer_name, SIDE == BEK_INTERLOCKING ? "FE1" : "IL1");
-    if (bek_settings_fault(&s, &field, text, sizeof text) < 0) fprintf(stderr, "%s\n", text);
+    if (bek_settings_fault(&s, &field, text, sizeof text) != BEK_OK) fprintf(stderr, "settings: %s\n", text);
     if (refused("open", bek_open(&end, &s, now()))) exit(1);
     drain();
 }
 
-/* Opens the end again for another connection, and prints how the last one was ended. */
-static void reopens(void) {
+/* Prints how the last connection was ended, and what shows that the settings of the two ends do not match. */
+static void says_why(void) {
     bek_leaving leaving;
+    bek_statistics totals;
     char text[200];
-    if (bek_departure(&end, &leaving) == BEK_OK) {
+    if (bek_departure(&end, &leaving, sizeof leaving) == BEK_OK) {
         bek_leaving_text(&leaving, text, sizeof text);
         fprintf(stderr, "the connection was ended %s\n", text);
     }
+    if (bek_totals_of(&end, &totals, sizeof totals) == BEK_OK && totals.damaged + totals.strangers > 0)
+        fprintf(stderr, "dropped so far: %lu with another safety code, %lu damaged otherwise, %lu with other identifiers\n",
+                (unsigned long)totals.part_faults.bad_code, (unsigned long)(totals.damaged - totals.part_faults.bad_code), (unsigned long)totals.strangers);
+}
+
+/* Opens the end again for another connection. */
+static void reopens(void) {
+    says_why();
     if (refused("reopen", bek_reopen(&end, random_number(), now()))) exit(1);
     drain();
 }

@@ -67,7 +67,7 @@ static void closes_in_time(int forgets, uint64_t each) {
     must(bek_next_deadline(&fe, &deadline) == BEK_OK && bek_confirmed_time(&fe, &confirmed) == BEK_OK && deadline == confirmed + T_MAX);
     for (; now < deadline; now++) {
         uint64_t again = 0;
-        must(is_full(bek_tick(&fe, now)) && bek_state(&fe) != BEK_CLOSED && bek_departure(&fe, &leaving) == BEK_NOTHING);
+        must(is_full(bek_tick(&fe, now)) && bek_state(&fe) != BEK_CLOSED && bek_departure(&fe, &leaving, sizeof leaving) == BEK_NOTHING);
         must(bek_next_deadline(&fe, &again) == BEK_OK && again == deadline);
         turn(forgets, each);
     }
@@ -76,7 +76,7 @@ static void closes_in_time(int forgets, uint64_t each) {
     } else {
         must(bek_tick(&fe, now) >= 0);
     }
-    must(bek_state(&fe) == BEK_CLOSED && bek_departure(&fe, &leaving) == BEK_OK);
+    must(bek_state(&fe) == BEK_CLOSED && bek_departure(&fe, &leaving, sizeof leaving) == BEK_OK);
     must(leaving.by == BEK_BY_OWN && leaving.reason == 3 && leaving.time == now && now == deadline);
 }
 
@@ -99,7 +99,7 @@ static void tries(uint32_t channels, int forgets, uint64_t each) {
     }
     must(now < 20000 && bek_state(&fe) != BEK_CLOSED);
     closes_in_time(forgets, each);
-    must(bek_counts_of(&fe, &counts) == BEK_OK);
+    must(bek_counts_of(&fe, &counts, sizeof counts) == BEK_OK);
     for (; bek_take(&fe, &kind, octets, sizeof octets, &length) == BEK_OK; waits++) { /* in order, each put before it was taken */
         uint64_t number = 0;
         must(kind == 0x0100 && length == 8);

@@ -152,7 +152,7 @@ int main(int argc, char **argv) {
     printf("allocations after opening: %lu\n", after);
 
     bek_counts c, d;
-    must(bek_counts_of(&il, &c) == BEK_OK && bek_counts_of(&fe, &d) == BEK_OK, "counts");
+    must(bek_counts_of(&il, &c, sizeof c) == BEK_OK && bek_counts_of(&fe, &d, sizeof d) == BEK_OK, "counts");
     must(c.unsent == 0 && d.unsent == 0 && c.telegrams == 0 && d.telegrams == 0 && c.datagrams == 0 && d.datagrams == 0, "something waits or was lost");
     must(after == 0, "memory was taken after opening");
 
@@ -183,7 +183,7 @@ int main(int argc, char **argv) {
     s.datagram_room = channels * (32 + 5);
     must(bek_open(&never, &s, now) == BEK_OK, "the least room");
     must(bek_tick(&never, now) == BEK_ERR_SEND_FIRST && bek_arrive(&never, 1, octets, 0, now) == BEK_ERR_SEND_FIRST, "full");
-    must(bek_counts_of(&never, &c) == BEK_OK && c.unsent == 0 && c.datagrams == channels, "lost before it was reported");
+    must(bek_counts_of(&never, &c, sizeof c) == BEK_OK && c.unsent == 0 && c.datagrams == channels, "lost before it was reported");
     while (bek_next_datagram(&never, &channel, big, sizeof big, &length) == BEK_OK) {}
     must(bek_tick(&never, now) == BEK_OK, "drained");
     bek_free(&never);
@@ -203,7 +203,7 @@ int main(int argc, char **argv) {
     pass(&il, &fe);
     must(bek_state(&fe) == BEK_CLOSED && bek_state(&il) == BEK_CLOSED, "closed");
     uint64_t deadline;
-    must(bek_next_deadline(&il, &deadline) == BEK_NOTHING, "a closed end has no deadline");
+    must(bek_next_deadline(&il, &deadline) == BEK_OK && deadline == now + 1800 / 4, "a closed end is due after its wait");
     must(bek_reopen(&fe, 1, now) == BEK_ERR_TAKE_FIRST, "the empty telegram waits");
     while (bek_take(&fe, &kind, big, sizeof big, &length) == BEK_OK) {}
     before = allocations;

@@ -123,7 +123,7 @@ static void counts(const bek_end *from, const bek_end *to) {
     bek_statistics made, came;
     uint64_t passed = 0, old = 0, pdus;
     uint32_t c;
-    must(bek_statistics_of(from, &made) == BEK_OK && bek_statistics_of(to, &came) == BEK_OK);
+    must(bek_statistics_of(from, &made, sizeof made) == BEK_OK && bek_statistics_of(to, &came, sizeof came) == BEK_OK);
     pdus = 1 + made.units + made.heartbeats; /* one PDU opened the connection */
     for (c = 0; c < BEK_CHANNELS_MAX; c++) {
         const bek_reception *r = &came.channels[c];
@@ -171,7 +171,7 @@ static void deadlines(void) {
         both(1);
     }
     must(bek_state(&il) == BEK_UP && bek_state(&fe) == BEK_UP);
-    must(bek_departure(&il, &leaving) == BEK_NOTHING);
+    must(bek_departure(&il, &leaving, sizeof leaving) == BEK_NOTHING);
     must(bek_confirmed_time(&il, &confirmed) == BEK_OK && confirmed <= now && confirmed + 1800 > now);
     while (bek_state(&il) != BEK_CLOSED) {
         must(bek_next_deadline(&il, &a) == BEK_OK && a >= now && a <= confirmed + 1800);
@@ -180,9 +180,13 @@ static void deadlines(void) {
         both(0);
     }
     must(now == confirmed + 1800);
-    must(bek_departure(&il, &leaving) == BEK_OK && leaving.by == BEK_BY_OWN && leaving.reason == 3 && leaving.detail == 0 && leaving.time == now);
+    must(bek_departure(&il, &leaving, sizeof leaving) == BEK_OK && leaving.by == BEK_BY_OWN && leaving.reason == 3 && leaving.detail == 0 && leaving.time == now);
     must(bek_leaving_text(&leaving, text, sizeof text) > 0 && strncmp(text, "by this end, reason 3 (timeout", 30) == 0);
-    must(bek_next_deadline(&il, &a) == BEK_NOTHING && bek_is_stale(&il) == 1 && bek_settled(&il) == 0);
+    must(bek_next_deadline(&il, &a) == BEK_OK && a == now + 1800 / 4 && bek_is_stale(&il) == 0 && bek_settled(&il) == 0);
+    now = a - 1;
+    must(bek_tick(&il, now) == BEK_OK && bek_next_deadline(&il, &b) == BEK_OK && b == a && bek_is_stale(&il) == 0);
+    now = a;
+    must(bek_tick(&il, now) == BEK_OK && bek_next_deadline(&il, &b) == BEK_NOTHING && bek_is_stale(&il) == 1);
 }
 
 /* The peer closes: the other end reports the reason. */
@@ -191,9 +195,12 @@ static void closes(void) {
     now++;
     must(bek_close(&il, now) == BEK_OK);
     both(1);
-    must(bek_departure(&il, &leaving) == BEK_OK && leaving.by == BEK_BY_OWN && leaving.reason == 0);
-    must(bek_departure(&fe, &leaving) == BEK_OK && leaving.by == BEK_BY_PEER && leaving.reason == 0 && leaving.time == now);
-    must(bek_is_stale(&fe) == 1 && bek_close(&fe, now) == BEK_OK && bek_put(&fe, 1, NULL, 0, now) == BEK_ERR_NOT_ESTABLISHED);
+    must(bek_departure(&il, &leaving, sizeof leaving) == BEK_OK && leaving.by == BEK_BY_OWN && leaving.reason == 0);
+    must(bek_departure(&fe, &leaving, sizeof leaving) == BEK_OK && leaving.by == BEK_BY_PEER && leaving.reason == 0 && leaving.time == now);
+    must(bek_is_stale(&fe) == 0 && bek_close(&fe, now) == BEK_OK && bek_put(&fe, 1, NULL, 0, now) == BEK_ERR_NOT_ESTABLISHED);
+    now += 1800 / 8 - 1; /* since it was opened */
+    must(bek_tick(&fe, now) == BEK_OK && bek_is_stale(&fe) == 1);
+    must(bek_reopen(&fe, 7, now) == BEK_OK && bek_departure(&fe, &leaving, sizeof leaving) == BEK_OK && leaving.by == BEK_BY_PEER && leaving.reason == 0);
 }
 
 /* What each version and checksum of a field element with two versions is agreed on: both ends say the same, and only from the version check on. */
@@ -212,17 +219,17 @@ static void agrees(void) {
             memset(&none, 0x77, sizeof none);
             must(bek_open(&fe, &b, now) == BEK_OK && bek_open(&il, &a, now) == BEK_OK);
             of_il = of_fe = none;
-            must(bek_agreed(&il, &of_il) == BEK_NOTHING && bek_agreed(&fe, &of_fe) == BEK_NOTHING);
+            must(bek_agreed(&il, &of_il, sizeof of_il) == BEK_NOTHING && bek_agreed(&fe, &of_fe, sizeof of_fe) == BEK_NOTHING);
             must(memcmp(&of_il, &none, sizeof none) == 0 && memcmp(&of_fe, &none, sizeof none) == 0);
             both(1);
-            must(bek_phase(&fe) == BEK_INITIALISING && bek_agreed(&fe, &of_fe) == BEK_OK && of_fe.version == version);
+            must(bek_phase(&fe) == BEK_INITIALISING && bek_agreed(&fe, &of_fe, sizeof of_fe) == BEK_OK && of_fe.version == version);
             must(of_fe.checksum_length == n && memcmp(of_fe.checksum, b.checksum, n) == 0);
             must(memcmp(of_fe.checksum + n, zeros, BEK_CHECKSUM_MAX - n) == 0);
             must(bek_init_done(&fe, now) == BEK_OK);
             both(1);
-            must(bek_phase(&il) == BEK_ESTABLISHED && bek_agreed(&il, &of_il) == BEK_OK && memcmp(&of_il, &of_fe, sizeof of_il) == 0);
-            must(bek_close(&il, now) == BEK_OK && bek_agreed(&il, &of_fe) == BEK_OK && memcmp(&of_il, &of_fe, sizeof of_il) == 0);
-            must(bek_reopen(&il, 7, now) == BEK_OK && bek_agreed(&il, &of_fe) == BEK_NOTHING);
+            must(bek_phase(&il) == BEK_ESTABLISHED && bek_agreed(&il, &of_il, sizeof of_il) == BEK_OK && memcmp(&of_il, &of_fe, sizeof of_il) == 0);
+            must(bek_close(&il, now) == BEK_OK && bek_agreed(&il, &of_fe, sizeof of_fe) == BEK_OK && memcmp(&of_il, &of_fe, sizeof of_il) == 0);
+            must(bek_reopen(&il, 7, now) == BEK_OK && bek_agreed(&il, &of_fe, sizeof of_fe) == BEK_NOTHING);
             bek_free(&il);
             bek_free(&fe);
         }
@@ -240,11 +247,11 @@ static void versions(void) {
     must(bek_settings_fault(&b, &field, text, sizeof text) >= 0);
     must(bek_open(&fe, &b, now) == BEK_OK && bek_open(&il, &a, now) == BEK_OK);
     both(1);
-    must(bek_state(&il) == BEK_CLOSED && bek_departure(&il, &leaving) == BEK_OK && leaving.by == BEK_BY_OWN);
+    must(bek_state(&il) == BEK_CLOSED && bek_departure(&il, &leaving, sizeof leaving) == BEK_OK && leaving.by == BEK_BY_OWN);
     must(leaving.reason == 4 && leaving.detail == 1 && leaving.version == 9);
-    must(bek_departure(&fe, &leaving) == BEK_OK && leaving.by == BEK_BY_PEER && leaving.reason == 4 && leaving.detail == 1);
+    must(bek_departure(&fe, &leaving, sizeof leaving) == BEK_OK && leaving.by == BEK_BY_PEER && leaving.reason == 4 && leaving.detail == 1);
     must(leaving.version == BEK_NO_VERSION);
-    must(bek_agreed(&il, &agreement) == BEK_NOTHING && bek_agreed(&fe, &agreement) == BEK_NOTHING);
+    must(bek_agreed(&il, &agreement, sizeof agreement) == BEK_NOTHING && bek_agreed(&fe, &agreement, sizeof agreement) == BEK_NOTHING);
     bek_free(&il);
     bek_free(&fe);
 }
@@ -264,7 +271,7 @@ typedef struct noted {
 static void fetch_notes(bek_end *end, noted *n) {
     bek_note note;
     char text[60];
-    while (bek_next_note(end, &note) == BEK_OK) {
+    while (bek_next_note(end, &note, sizeof note) == BEK_OK) {
         must(note.what >= BEK_NOTE_STATE && note.what <= BEK_NOTE_TAKE && note.count == 0 && (note.what == BEK_NOTE_TAKE || (note.value >= 0 && note.value < 16)));
         must(note.fault == 0 || (note.what == BEK_NOTE_DATAGRAM ? note.value == BEK_DATAGRAM_DAMAGED : note.what == BEK_NOTE_PDU && note.value == BEK_PDU_DAMAGED));
         n->count[note.what][note.what == BEK_NOTE_TAKE ? 0 : note.value]++;
@@ -317,7 +324,7 @@ static void noted_is_counted(bek_end *end, const bek_statistics *before, const n
     const uint64_t *datagrams = n->count[BEK_NOTE_DATAGRAM], *pdus = n->count[BEK_NOTE_PDU];
     uint64_t r[7] = {0};
     uint32_t c;
-    must(bek_statistics_of(end, &s) == BEK_OK);
+    must(bek_statistics_of(end, &s, sizeof s) == BEK_OK);
     for (c = 0; c < BEK_CHANNELS_MAX; c++) {
         const bek_reception *a = &before->channels[c], *b = &s.channels[c];
         r[BEK_DATAGRAM_PASSED] += b->passed - a->passed, r[BEK_DATAGRAM_DEFERRED] += b->deferred - a->deferred, r[BEK_DATAGRAM_OLD] += b->old - a->old;
@@ -344,7 +351,7 @@ static void notes(void) {
     int n;
     establishes(1000);
     must(bek_hear_notes(&il, 1) == BEK_OK && bek_hear_notes(&fe, 2) == BEK_OK);
-    must(bek_statistics_of(&il, &il_before) == BEK_OK && bek_statistics_of(&fe, &fe_before) == BEK_OK);
+    must(bek_statistics_of(&il, &il_before, sizeof il_before) == BEK_OK && bek_statistics_of(&fe, &fe_before, sizeof fe_before) == BEK_OK);
     for (n = 0; n < 400 && bek_state(&il) != BEK_CLOSED && bek_state(&fe) != BEK_CLOSED; n++) {
         int a = bek_put(&il, 0x0100, payload, 5, now), b = bek_put(&fe, 0x0200, payload, 5, now);
         must((a == BEK_OK || a == BEK_ERR_FULL) && (b == BEK_OK || b == BEK_ERR_FULL));
@@ -371,24 +378,24 @@ static void left_out(void) {
     size_t length;
     int n;
     establishes(1000);
-    must(bek_next_note(&il, &note) == BEK_NOTHING && bek_next_note(&fe, &note) == BEK_NOTHING);
+    must(bek_next_note(&il, &note, sizeof note) == BEK_NOTHING && bek_next_note(&fe, &note, sizeof note) == BEK_NOTHING);
     must(bek_hear_notes(&il, 1) == BEK_OK && bek_hear_notes(&fe, -1) == BEK_OK);
     now += 300;
     must(bek_tick(&il, now) == BEK_OK && bek_next_datagram(&il, &channel, octets, sizeof octets, &length) == BEK_OK);
     for (n = 0; n < 300; n++) must(bek_arrive(&fe, 1, octets, length, now) == BEK_OK);
     for (n = 0; n < 128; n++) {
-        must(bek_next_note(&fe, &note) == BEK_OK && note.fault == 0 && note.count == 0 && note.number > 0);
+        must(bek_next_note(&fe, &note, sizeof note) == BEK_OK && note.fault == 0 && note.count == 0 && note.number > 0);
         must(n == 0 ? note.what == BEK_NOTE_PDU && note.value == BEK_PDU_TAKEN
                     : note.what == BEK_NOTE_DATAGRAM && note.value == (n == 1 ? BEK_DATAGRAM_PASSED : BEK_DATAGRAM_OLD));
     }
-    must(bek_next_note(&fe, &note) == BEK_OK && note.what == BEK_NOTE_LEFT_OUT && note.count == 173);
-    must(bek_next_note(&fe, &note) == BEK_NOTHING && note.count == 173);
-    must(bek_close(&il, now) == BEK_OK && bek_next_note(&il, &note) == BEK_OK && note.what == BEK_NOTE_STATE && note.value == BEK_CLOSED);
+    must(bek_next_note(&fe, &note, sizeof note) == BEK_OK && note.what == BEK_NOTE_LEFT_OUT && note.count == 173);
+    must(bek_next_note(&fe, &note, sizeof note) == BEK_NOTHING && note.count == 173);
+    must(bek_close(&il, now) == BEK_OK && bek_next_note(&il, &note, sizeof note) == BEK_OK && note.what == BEK_NOTE_STATE && note.value == BEK_CLOSED);
     must(bek_reopen(&il, 3, now) == BEK_OK);
     n = 0;
-    while (bek_next_note(&il, &note) == BEK_OK) n += note.what == BEK_NOTE_STATE && note.value == BEK_START;
+    while (bek_next_note(&il, &note, sizeof note) == BEK_OK) n += note.what == BEK_NOTE_STATE && note.value == BEK_START;
     must(n == 1);
-    must(bek_hear_notes(&fe, 0) == BEK_OK && bek_arrive(&fe, 1, octets, length, now) == BEK_OK && bek_next_note(&fe, &note) == BEK_NOTHING);
+    must(bek_hear_notes(&fe, 0) == BEK_OK && bek_arrive(&fe, 1, octets, length, now) == BEK_OK && bek_next_note(&fe, &note, sizeof note) == BEK_NOTHING);
     bek_free(&il);
     bek_free(&fe);
 }

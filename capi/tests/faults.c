@@ -22,8 +22,8 @@ static bek_settings settings(uint32_t side) {
     s.id = side;
     s.peer_id = 3 - side;
     s.protocol = 1;
-    s.n_sendmax = 4;
-    s.mwa = 3;
+    s.first_sn = 7;
+    s.n_sendmax = 5, s.mwa = 3, s.q = 8; /* as the warning advises */
     s.version_count = 1;
     s.versions[0] = 1;
     strcpy(s.name, "A");
@@ -126,9 +126,21 @@ int main(void) {
         s.t_max = 400;
         s.t_seq = 400;
         must(of(&s, &field) == BEK_UNWISE && field == 14);
+        for (k = 1; k <= 8; k++) { /* the greatest window for each q, with the greatest mwa below it: no advice is refused */
+            for (n = 2; n <= 32; n++) {
+                int fits;
+                s = settings(side);
+                s.q = k, s.n_sendmax = n, s.mwa = n > 16 ? 16 : n - 1;
+                fits = n + 2 + n / s.mwa <= k;
+                must(of(&s, &field) == (fits ? BEK_OK : BEK_UNWISE) && field == (fits ? 0u : 9u));
+            }
+        }
+        must(strcmp(text, "n_sendmax: expected n_sendmax + 2 + n_sendmax / mwa at most q, such as 5 with mwa 3 and q 8, found 32: "
+                          "a burst after a lost datagram overruns the early parts") == 0);
         s = settings(side);
-        s.n_sendmax = 5;
-        must(of(&s, &field) == BEK_UNWISE && field == 11 && strncmp(text, "q: expected 5 or more, found 4: ", 32) == 0);
+        s.first_sn = 1;
+        must(of(&s, &field) == BEK_UNWISE && field == 5);
+        must(strcmp(text, "first_sn: expected a random number for each opening, found 1: two openings make the same octets") == 0);
     }
     {
         bek_settings s = settings(2);

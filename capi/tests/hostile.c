@@ -258,7 +258,7 @@ static void test_certain(int i) {
 static void test_departure(int i) {
     bek_leaving leaving;
     char text[200];
-    int is = bek_departure(&ends[i], &leaving);
+    int is = bek_departure(&ends[i], &leaving, sizeof leaving);
     if (bek_state(&ends[i]) != BEK_CLOSED) must(is == BEK_NOTHING, "a departure of an open end");
     else {
         must(is == BEK_OK && leaving.time <= last[i] && (leaving.by == BEK_BY_OWN || leaving.by == BEK_BY_PEER), "no departure of a closed end");
@@ -399,11 +399,11 @@ static void ticks(int i) {
     if (is == BEK_NOTHING) must(bek_state(&ends[i]) == BEK_CLOSED || bek_state(&ends[i]) == BEK_DOWN, "no deadline, but connected");
     if ((is == BEK_NOTHING || deadline > at) && chance(960)) return;
     state = bek_state(&ends[i]), phase = bek_phase(&ends[i]);
-    must(bek_counts_of(&ends[i], &before) == BEK_OK, "counts");
+    must(bek_counts_of(&ends[i], &before, sizeof before) == BEK_OK, "counts");
     result = bek_tick(&ends[i], at);
     events++;
     judge(result);
-    must(bek_counts_of(&ends[i], &after) == BEK_OK, "counts");
+    must(bek_counts_of(&ends[i], &after, sizeof after) == BEK_OK, "counts");
     if (is == BEK_NOTHING || deadline > at)
         must(result == BEK_OK && state == bek_state(&ends[i]) && phase == bek_phase(&ends[i]) && before.datagrams == after.datagrams &&
                  before.telegrams == after.telegrams,

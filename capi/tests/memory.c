@@ -66,7 +66,7 @@ static void calls(void) {
     case PULL: result = bek_next_datagram(end, &channel, octets, sizeof octets, &length); break;
     case ASK:
         result = bek_next_deadline(end, &told) | bek_state(end) | bek_phase(end) | bek_is_stale(end) | bek_settled(end) | bek_confirmed(end, &told) |
-                 bek_confirmed_time(end, &told) | bek_departure(end, &leaving) | bek_counts_of(end, &counts);
+                 bek_confirmed_time(end, &told) | bek_departure(end, &leaving, sizeof leaving) | bek_counts_of(end, &counts, sizeof counts);
         break;
     case FAULT: result = bek_settings_fault(of, &number, (char *)octets, sizeof octets); break;
     }

@@ -19,7 +19,7 @@ static void asks(const bek_end *end, int state) {
     must(bek_state(end) == state, "state");
     must(bek_phase(end) == BEK_IDLE, "phase");
     must(bek_settled(end) == 1, "settled");
-    must(bek_counts_of(end, &counts) == BEK_OK && counts.telegrams == 0 && counts.unsent == 0, "counts");
+    must(bek_counts_of(end, &counts, sizeof counts) == BEK_OK && counts.telegrams == 0 && counts.unsent == 0, "counts");
     /* a field element that waits has no deadline */
     must(bek_next_deadline(end, &deadline) == (state == BEK_DOWN ? BEK_NOTHING : BEK_OK), "deadline");
     must(deadline == (state == BEK_DOWN ? 7 : 1800), "the time of the deadline");

@@ -49,6 +49,7 @@ static int32_t result;
 static uint64_t told[5];
 static setting_fault told_fault;
 static const char *told_text;
+static unsigned char pattern[sizeof(bek_statistics)];
 
 static int32_t notes(const char *name, bek_end *end, const void *octets, size_t length, uint64_t a, uint64_t b, uint64_t c) {
     got.calls++;
@@ -118,44 +119,18 @@ int32_t bekr_confirmed_time(bek_end *end, uint64_t *time) {
     *time = told[0];
     return notes("confirmed_time", end, NULL, 0, 0, 0, 0);
 }
-int32_t bekr_departure(bek_end *end, bek_leaving *leaving) {
-    leaving->time = told[0];
-    leaving->by = (uint32_t)told[1];
-    leaving->reason = (uint32_t)told[2];
-    leaving->detail = (uint32_t)told[3];
-    leaving->version = (uint32_t)told[4];
-    return notes("departure", end, NULL, 0, 0, 0, 0);
-}
-int32_t bekr_agreed(bek_end *end, bek_agreement *agreement) {
-    agreement->version = (uint32_t)told[0];
-    agreement->checksum_length = (uint32_t)told[1];
-    agreement->checksum[0] = (uint8_t)told[2];
-    agreement->checksum[15] = (uint8_t)told[3];
-    return notes("agreed", end, NULL, 0, 0, 0, 0);
-}
-int32_t bekr_statistics(bek_end *end, bek_statistics *statistics) {
-    statistics->channels[0].received = told[0];
-    statistics->channels[3].last = told[1];
-    statistics->taken = told[2];
-    statistics->confirmed = told[3];
-    statistics->part_faults.bad_body = told[4];
-    return notes("statistics", end, NULL, 0, 0, 0, 0);
-}
-int32_t bekr_counts(bek_end *end, bek_counts *counts) {
-    counts->telegrams = told[0];
-    counts->datagrams = told[1];
-    counts->unsent = told[2];
-    return notes("counts", end, NULL, 0, 0, 0, 0);
-}
+#define FILLED(name, type) \
+    int32_t bekr_##name(bek_end *end, type *filled) { \
+        memcpy(filled, pattern, sizeof *filled); \
+        return notes(#name, end, NULL, 0, 0, 0, 0); \
+    }
+FILLED(departure, bek_leaving)
+FILLED(agreed, bek_agreement)
+FILLED(statistics, bek_statistics)
+FILLED(totals, bek_statistics)
+FILLED(counts, bek_counts)
+FILLED(next_note, bek_note)
 int32_t bekr_hear_notes(bek_end *end, uint32_t hears) { return notes("hear_notes", end, NULL, 0, hears, 0, 0); }
-int32_t bekr_next_note(bek_end *end, bek_note *note) {
-    note->count = told[0];
-    note->what = (uint32_t)told[1];
-    note->value = (int32_t)told[2];
-    note->number = (uint32_t)told[3];
-    note->fault = (uint32_t)told[4];
-    return notes("next_note", end, NULL, 0, 0, 0, 0);
-}
 size_t bekr_fault_text(int32_t code, uint8_t *text, size_t size) {
     size_t whole = strlen(told_text), n = whole < size ? whole : size;
     memcpy(text, told_text, n);
@@ -177,23 +152,41 @@ static void went(const char *name, int is_copy) {
 /* Tests that no stub was called again. */
 static void none_went(int was) { must(got.calls == was); }
 
+/* The struct that a call has filled, in a buffer of 0x77: if it is done, as many octets as the caller's struct has, and zeros after those of this library;
+ * otherwise none. */
+static void filled(const unsigned char *at, size_t room, size_t size, size_t whole) {
+    size_t k;
+    for (k = 0; k < room; k++) must(at[k] == (result != BEK_OK || k >= size ? 0x77 : k < whole ? pattern[k] : 0));
+}
+
+#define FILLS(function, type, name, is_copy) \
+    do { \
+        static const size_t sizes[] = {0, 1, sizeof(type) - 1, sizeof(type), sizeof(type) + 1, sizeof(type) + 32}; \
+        unsigned char at[sizeof(type) + 40]; \
+        for (i = 0; i < 6; i++) { \
+            memset(at, 0x77, sizeof at); \
+            AT, must(function(&end, (type *)(void *)at, sizes[i]) == result); \
+            went(name, is_copy); \
+            filled(at, sizeof at, sizes[i], sizeof(type)); \
+        } \
+    } while (0)
+
 static void passes_on(void) {
     static bek_settings settings;
     uint64_t now = any(), number = 0;
     uint32_t channel = (uint32_t)any(), a = 0, b = 0;
     uint16_t kind = (uint16_t)any(), taken_kind = 0;
     size_t length = any_length(), size = 1 + any_length() / 2, taken = 0;
-    bek_counts counts;
-    bek_leaving leaving;
-    bek_agreement agreement;
-    bek_statistics statistics;
-    bek_note note;
     int i;
     for (i = 0; i < 5; i++) told[i] = any();
     end.station_ = (void *)(uintptr_t)any();
-    end.is_open_ = (uint32_t)any();
+    end.is_open_ = any() % 2 ? 1 : (uint32_t)any();
+    end.place_ = &end;
 
+    end.place_ = NULL;
     AT, must(bek_open(&end, &settings, now) == result);
+    must(end.place_ == (result == BEK_OK ? &end : NULL));
+    end.place_ = &end;
     went("open", 0);
     must(got.settings == &settings && got.numbers[0] == now);
     AT, must(bek_reopen(&end, channel, now) == result);
@@ -242,31 +235,19 @@ static void passes_on(void) {
     number = 0;
     AT, must(bek_confirmed_time(&end, &number) == result && number == told[0]);
     went("confirmed_time", 1);
-    AT, must(bek_departure(&end, &leaving) == result);
-    must(leaving.time == told[0] && leaving.by == (uint32_t)told[1] && leaving.reason == (uint32_t)told[2] && leaving.detail == (uint32_t)told[3]);
-    must(leaving.version == (uint32_t)told[4]);
-    went("departure", 1);
-    AT, must(bek_agreed(&end, &agreement) == result);
-    must(agreement.version == (uint32_t)told[0] && agreement.checksum_length == (uint32_t)told[1]);
-    must(agreement.checksum[0] == (uint8_t)told[2] && agreement.checksum[15] == (uint8_t)told[3]);
-    went("agreed", 1);
-    AT, must(bek_counts_of(&end, &counts) == result);
-    must(counts.telegrams == told[0] && counts.datagrams == told[1] && counts.unsent == told[2]);
-    went("counts", 1);
-    AT, must(bek_statistics_of(&end, &statistics) == result);
-    must(statistics.channels[0].received == told[0] && statistics.channels[3].last == told[1]);
-    must(statistics.taken == told[2] && statistics.confirmed == told[3] && statistics.part_faults.bad_body == told[4]);
-    went("statistics", 1);
+    for (i = 0; i < (int)sizeof pattern; i++) pattern[i] = (unsigned char)any();
+    FILLS(bek_departure, bek_leaving, "departure", 1);
+    FILLS(bek_agreed, bek_agreement, "agreed", 1);
+    FILLS(bek_counts_of, bek_counts, "counts", 1);
+    FILLS(bek_statistics_of, bek_statistics, "statistics", 1);
+    FILLS(bek_totals_of, bek_statistics, "totals", 1);
+    FILLS(bek_next_note, bek_note, "next_note", 0);
     AT, must(bek_hear_notes(&end, (int)told[0]) == result);
     went("hear_notes", 0);
     must(got.numbers[0] == ((int)told[0] != 0));
     AT, must(bek_hear_notes(&end, 0) == result);
     went("hear_notes", 0);
     must(got.numbers[0] == 0);
-    AT, must(bek_next_note(&end, &note) == result);
-    must(note.count == told[0] && note.what == (uint32_t)told[1] && note.value == (int32_t)told[2] && note.number == (uint32_t)told[3]);
-    must(note.fault == (uint32_t)told[4]);
-    went("next_note", 0);
 
     got.end = &end;
     AT, must(bek_rooms(&settings, &a, &b) == result && a == (uint32_t)told[0] && b == (uint32_t)told[1] && got.settings == &settings);
@@ -277,6 +258,8 @@ static void passes_on(void) {
     went("version", 0);
     AT, bek_free(&end);
     went("free", 0);
+    must(end.place_ == NULL);
+    end.place_ = &end;
 }
 
 /* The least and the greatest of each number go on as they are. */
@@ -361,18 +344,51 @@ static void refuses(void) {
     must(bek_confirmed(&end, NULL) == BEK_ERR_NULL);
     must(bek_confirmed_time(NULL, &number) == BEK_ERR_NULL);
     must(bek_confirmed_time(&end, NULL) == BEK_ERR_NULL);
-    must(bek_departure(NULL, &leaving) == BEK_ERR_NULL);
-    must(bek_departure(&end, NULL) == BEK_ERR_NULL);
-    must(bek_agreed(NULL, &agreement) == BEK_ERR_NULL);
-    must(bek_agreed(&end, NULL) == BEK_ERR_NULL);
-    must(bek_counts_of(NULL, &counts) == BEK_ERR_NULL);
-    must(bek_counts_of(&end, NULL) == BEK_ERR_NULL);
-    must(bek_statistics_of(NULL, &statistics) == BEK_ERR_NULL);
-    must(bek_statistics_of(&end, NULL) == BEK_ERR_NULL);
+    must(bek_departure(NULL, &leaving, sizeof leaving) == BEK_ERR_NULL);
+    must(bek_departure(&end, NULL, 8) == BEK_ERR_NULL);
+    must(bek_agreed(NULL, &agreement, sizeof agreement) == BEK_ERR_NULL);
+    must(bek_agreed(&end, NULL, 8) == BEK_ERR_NULL);
+    must(bek_counts_of(NULL, &counts, sizeof counts) == BEK_ERR_NULL);
+    must(bek_counts_of(&end, NULL, 8) == BEK_ERR_NULL);
+    must(bek_statistics_of(NULL, &statistics, sizeof statistics) == BEK_ERR_NULL);
+    must(bek_statistics_of(&end, NULL, 8) == BEK_ERR_NULL);
     must(bek_hear_notes(NULL, 1) == BEK_ERR_NULL);
-    must(bek_next_note(NULL, &note) == BEK_ERR_NULL);
-    must(bek_next_note(&end, NULL) == BEK_ERR_NULL);
+    must(bek_next_note(NULL, &note, sizeof note) == BEK_ERR_NULL);
+    must(bek_next_note(&end, NULL, 8) == BEK_ERR_NULL);
+    must(bek_totals_of(NULL, &statistics, sizeof statistics) == BEK_ERR_NULL && bek_totals_of(&end, NULL, long_) == BEK_ERR_NULL);
+    must(bek_departure(&end, &leaving, long_) == BEK_ERR_LENGTH && bek_agreed(&end, &agreement, long_) == BEK_ERR_LENGTH);
+    must(bek_counts_of(&end, &counts, long_) == BEK_ERR_LENGTH && bek_statistics_of(&end, &statistics, long_) == BEK_ERR_LENGTH);
+    must(bek_totals_of(&end, &statistics, long_) == BEK_ERR_LENGTH && bek_next_note(&end, &note, long_) == BEK_ERR_LENGTH);
     none_went(was);
+}
+
+/* A copy of an open handle is refused, and not passed on; of one that is not open, it is passed on. */
+static void copies(void) {
+    bek_end copy = {&copy, 1, &end};
+    bek_counts counts;
+    bek_leaving leaving;
+    bek_agreement agreement;
+    bek_statistics statistics;
+    bek_note note;
+    uint64_t number;
+    uint32_t channel;
+    uint16_t kind;
+    size_t length;
+    int was = got.calls;
+    must(bek_reopen(&copy, 1, 1) == BEK_ERR_COPIED && bek_arrive(&copy, 1, octets, 1, 1) == BEK_ERR_COPIED && bek_tick(&copy, 1) == BEK_ERR_COPIED);
+    must(bek_put(&copy, 1, octets, 1, 1) == BEK_ERR_COPIED && bek_init_done(&copy, 1) == BEK_ERR_COPIED && bek_close(&copy, 1) == BEK_ERR_COPIED);
+    must(bek_take(&copy, &kind, octets, 1, &length) == BEK_ERR_COPIED && bek_next_datagram(&copy, &channel, octets, 1, &length) == BEK_ERR_COPIED);
+    must(bek_next_deadline(&copy, &number) == BEK_ERR_COPIED && bek_state(&copy) == BEK_ERR_COPIED && bek_phase(&copy) == BEK_ERR_COPIED);
+    must(bek_is_stale(&copy) == BEK_ERR_COPIED && bek_settled(&copy) == BEK_ERR_COPIED && bek_confirmed(&copy, &number) == BEK_ERR_COPIED);
+    must(bek_confirmed_time(&copy, &number) == BEK_ERR_COPIED && bek_departure(&copy, &leaving, sizeof leaving) == BEK_ERR_COPIED);
+    must(bek_agreed(&copy, &agreement, sizeof agreement) == BEK_ERR_COPIED && bek_counts_of(&copy, &counts, sizeof counts) == BEK_ERR_COPIED);
+    must(bek_statistics_of(&copy, &statistics, sizeof statistics) == BEK_ERR_COPIED && bek_totals_of(&copy, &statistics, 8) == BEK_ERR_COPIED);
+    must(bek_hear_notes(&copy, 1) == BEK_ERR_COPIED && bek_next_note(&copy, &note, sizeof note) == BEK_ERR_COPIED);
+    bek_free(&copy);
+    must(copy.is_open_ == 1 && copy.place_ == &end);
+    none_went(was);
+    copy.is_open_ = 0;
+    must(bek_tick(&copy, 1) == result && got.calls == was + 1 && got.end == &copy);
 }
 
 /* Every member of the settings has its default, and no octet after them is written. */
@@ -508,7 +524,7 @@ static void note_texts(void) {
 }
 
 static void of_setting(uint32_t field, uint32_t value, uint32_t least, uint32_t most, int32_t is, const char *wanted) {
-    char text[120], cut_[5];
+    char text[200], cut_[5];
     static bek_settings settings;
     uint32_t found = 99;
     told_fault.field = field, told_fault.value = value, told_fault.least = least, told_fault.most = most;
@@ -548,7 +564,10 @@ static void settings_texts(void) {
     of_setting(21, 2, 1, 4, BEK_ERR_BAD_SETTINGS, "versions: expected different versions, found two equal ones");
     of_setting(24, 0, 1, 20, BEK_ERR_BAD_SETTINGS, "name: expected 1 to 20 characters 0x21 to 0x7e without '_', then a zero");
     of_setting(25, 0, 1, 20, BEK_ERR_BAD_SETTINGS, "peer_name: expected 1 to 20 characters 0x21 to 0x7e without '_', then a zero");
-    of_setting(11, 4, 21, 8, BEK_UNWISE, "q: expected 21 or more, found 4: with n_sendmax and mwa a burst after a lost datagram overruns it");
+    of_setting(9, 20, 1, 2, BEK_UNWISE, "n_sendmax: expected n_sendmax + 2 + n_sendmax / mwa at most q, such as 5 with mwa 3 and q 8, found 20: "
+                                        "a burst after a lost datagram overruns the early parts");
+    of_setting(9, 40, 1, 32, BEK_ERR_BAD_SETTINGS, "n_sendmax: expected 1 to 32, found 40");
+    of_setting(5, 1, 0, UINT32_MAX, BEK_UNWISE, "first_sn: expected a random number for each opening, found 1: two openings make the same octets");
     of_setting(15, 5, 1, 4, BEK_UNWISE, "mwa: expected less than n_sendmax, found 5");
     of_setting(15, 17, 1, 16, BEK_ERR_BAD_SETTINGS, "mwa: expected 1 to 16, found 17");
     of_setting(14, 500, 10, 399, BEK_UNWISE, "t_seq: expected less than t_max, found 500");
@@ -577,6 +596,7 @@ int main(void) {
         empty();
     }
     refuses();
+    copies();
     defaults();
     texts();
     note_texts();

@@ -6,7 +6,8 @@
 #define SAME(what, is) _Static_assert((what) == (is), #what)
 SAME(offsetof(bek_end, station_), 0);
 SAME(offsetof(bek_end, is_open_), sizeof(void *));
-SAME(sizeof(bek_end), 2 * sizeof(void *));
+SAME(offsetof(bek_end, place_), 2 * sizeof(void *));
+SAME(sizeof(bek_end), 3 * sizeof(void *)); /* the proved functions know the first two members only */
 SAME(offsetof(bek_settings, size), 0);
 SAME(offsetof(bek_settings, side), 4);
 SAME(offsetof(bek_settings, id), 8);
@@ -36,7 +37,8 @@ SAME(sizeof(bek_settings), 164);
 SAME(offsetof(bek_counts, telegrams), 0);
 SAME(offsetof(bek_counts, datagrams), 8);
 SAME(offsetof(bek_counts, unsent), 16);
-SAME(sizeof(bek_counts), 24);
+SAME(offsetof(bek_counts, openings), 24);
+SAME(sizeof(bek_counts), 32);
 SAME(offsetof(bek_leaving, time), 0);
 SAME(offsetof(bek_leaving, by), 8);
 SAME(offsetof(bek_leaving, reason), 12);

@@ -82,9 +82,11 @@ class Conversation:
     def write_settings(self, path, chosen):
         s = self.settings
         texts = {'name': s.name, 'peer_name': s.peer_name, **({'checksum': s.checksum.hex()} if self.side == 'fe' else {})}
-        lines = [f'{key} = {value}' for key, value in {**chosen, 'id': s.id, 'peer_id': s.peer_id}.items()] + [f'{key} = "{text}"' for key, text in texts.items()]
+        lines = [f'{key} = {value}' for key, value in {**chosen, 'id': s.id, 'peer_id': s.peer_id}.items()]
+        lines += [f'{key} = "{text}"' for key, text in texts.items()]
         lines += ['version = 3' if self.side == 'il' else 'versions = [3, 1]', f'local = ["{HOST}:{self.port}"]',
-                  f'remote = ["{HOST}:{self.sock.getsockname()[1]}"]', 'puts = [%s]' % ', '.join(f'"{kind:04x}:{payload.hex()}"' for kind, payload in self.puts)]
+                  f'remote = ["{HOST}:{self.sock.getsockname()[1]}"]',
+                  'puts = [%s]' % ', '.join(f'"{kind:04x}:{payload.hex()}"' for kind, payload in self.puts)]
         with open(path, 'w', encoding='ascii') as file:
             file.write('\n'.join(lines) + '\n')
 
@@ -184,7 +186,8 @@ class Conversation:
     def opening(self, is_odd):
         r, body = self.rng, b'0303' + struct.pack('<H8x', self.rng.choice((1, 2, 5, 32)))
         if is_odd and r.random() < 0.15:
-            return r.choice((b'0302' + body[4:], b'03a3' + body[4:], body[:-1], body[:4] + b'\0\0' + body[6:], body[:-1] + b'\1', body[:4] + b'\x21\0' + body[6:]))
+            return r.choice((b'0302' + body[4:], b'03a3' + body[4:], body[:-1], body[:4] + b'\0\0' + body[6:], body[:-1] + b'\1',
+                             body[:4] + b'\x21\0' + body[6:]))
         return body
 
     def body_of(self, kind, is_odd):

@@ -48,10 +48,13 @@ class Documents:
             yield from self.of_columns(path)
         yield from self.of_rules()
 
+    def rules_given(self):
+        """Returns the number of each rule in docs/protocol.md."""
+        return re.findall(r'^(?:\| )?([A-Z]\d+)(?: \||: | \(\*)', read(RULES), re.M)
+
     def of_rules(self):
         """Checks the numbers of rules: each is given once in docs/protocol.md, and those that it or a page cites (`rule M7`) are given there."""
-        text = read(RULES)
-        given = re.findall(r'^(?:\| )?([A-Z]\d+)(?: \||: | \(\*)', text, re.M)
+        text, given = read(RULES), self.rules_given()
         yield from (f'{RULES}: rule {number} is given twice' for number in sorted(set(given)) if given.count(number) > 1)
         cited = [(RULES, number) for number in RULE.findall(re.sub('`[^`]*`', '', text))]
         for path in ['README.md', *listed('docs', '*.md'), *listed('crates', '*', 'README.md')]:

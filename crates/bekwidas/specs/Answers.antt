@@ -3,7 +3,9 @@ use Rattle.std.specs.Prelude.{◌≡◌, ◌==◌, ◌⊎◌, not, ℤ, ℕ, pos
 use Rattle.stack_end.specs.Ends.{Call, Close, Deliver, InitDone, Put, time_of}
 use Rattle.stack_end.specs.EndValue.{inside}
 use Rattle.stack_end.specs.Turns.{is_settled}
-use Rattle.end_for_callers.specs.Calls.{Does, IsNextTick, Reopens, StationValue, outbox_of, outcome_of, refusal, refusal_to_close, refusal_to_init, refusal_to_put, refusal_to_reopen, LosesNone, SameButNotes}
+use Rattle.end_for_callers.specs.Openings.{last_departure}
+use Rattle.end_for_callers.specs.Totals.{plus}
+use Rattle.end_for_callers.specs.Calls.{Does, IsNextTick, is_due, Reopens, StationValue, outbox_of, outcome_of, refusal, refusal_to_close, refusal_to_init, refusal_to_put, refusal_to_reopen, LosesNone, SameButNotes}
 use Rattle.end_for_callers.specs.Notes.{heard_anew, next_of, rest_of}
 use Rattle.end_for_callers.specs.declared.notes.StationNote.{StationNote}
 use Rattle.pdi_session.specs.SessionStep.{Agreement}
@@ -13,7 +15,6 @@ use Rattle.bekwidas.specs.Notes.{note_in}
 use Rattle.bekwidas.specs.declared.notes.PlainNote.{PlainNote}
 use Rattle.end_for_callers.specs.declared.CallFault.{CallFault}
 use Rattle.stack_end.specs.Certain.{confirmed_in}
-use Rattle.stack_end.specs.Stale.{is_stale}
 use Rattle.bekwidas.specs.Statistics.{statistics_in}
 use Rattle.bekwidas.specs.declared.statistics.PlainStatistics.{PlainStatistics}
 use Rattle.stack_end.specs.EndValue.{statistics_of}
@@ -102,20 +103,26 @@ AnswersPhase = ReturnsFact (λ v. code_of_phase v.upper.session.phase)
 abbrev pub AnswersSettled : ℤ → StationValue → StationValue → Type 0
 AnswersSettled = ReturnsFact (λ v. if is_settled v then pos 1 else pos 0)
 
--- the numbers of waiting telegrams, waiting datagrams and unsent datagrams; the station does not change
+-- the numbers of waiting telegrams, waiting datagrams, unsent datagrams and openings; the station does not change
 abbrev pub AnswersCounts : Counts → ℤ → StationValue → StationValue → Type 0
 AnswersCounts told code s t =
     (t ≡ s) × (code ≡ OK) × (told.telegrams ≡ length s.inbox.queue.waiting)
     × (told.datagrams ≡ length (outbox_of s).queue.waiting)
     × (told.unsent ≡ (outbox_of s).unsent)
+    × (told.openings ≡ s.openings.count)
 
 -- OK and all counts of the end; the station does not change
 abbrev pub AnswersStatistics : PlainStatistics → ℤ → StationValue → StationValue → Type 0
 AnswersStatistics told code s t = (t ≡ s) × (code ≡ OK) × (told ≡ statistics_in (statistics_of s.end))
 
--- 1 if the end is stale, and 0 if not; the station does not change
+-- OK and the sums of all counts over the openings of the end; the station does not change
+abbrev pub AnswersTotals : PlainStatistics → ℤ → StationValue → StationValue → Type 0
+AnswersTotals told code s t =
+    (t ≡ s) × (code ≡ OK) × (told ≡ statistics_in (plus s.openings.earlier (statistics_of s.end)))
+
+-- 1 if the end is due to be opened again, and 0 if not; the station does not change
 abbrev pub AnswersStale : ℤ → StationValue → StationValue → Type 0
-AnswersStale = ReturnsFact (λ v. if is_stale v then pos 1 else pos 0)
+AnswersStale code s t = (t ≡ s) × (code ≡ (if is_due s then pos 1 else pos 0))
 
 -- OK and the number of telegrams that are certain; the station does not change
 abbrev pub AnswersConfirmed : ℕ → ℤ → StationValue → StationValue → Type 0
@@ -140,9 +147,10 @@ abbrev pub TellsDeparture : Option Departure → (before after : PlainDeparture)
 TellsDeparture (Some left) before after code = (code ≡ OK) × (after ≡ departure_of left)
 TellsDeparture None before after code = (code ≡ NOTHING) × (after ≡ before)
 
--- the departure that the end has recorded; the station does not change
+-- the departure that the end has recorded, or else the latest before its last opening; the station does not change
 abbrev pub AnswersDeparture : (before after : PlainDeparture) → ℤ → StationValue → StationValue → Type 0
-AnswersDeparture before after code s t = (t ≡ s) × TellsDeparture (inside s.end).upper.departed before after code
+AnswersDeparture before after code s t =
+    (t ≡ s) × TellsDeparture (last_departure (inside s.end).upper.departed s.openings.departed) before after code
 
 -- OK and the agreement is written, if there is one; otherwise NOTHING, and nothing is written
 abbrev pub TellsAgreement : Option Agreement → (before after : PlainAgreement) → ℤ → Type 0

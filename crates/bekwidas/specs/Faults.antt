@@ -69,18 +69,19 @@ in_rooms s = or_else (outside 17 s.telegram_room CALL_TELEGRAMS greatest)
 abbrev pub first_fault : PlainSettings → Option SettingFault
 first_fault s = or_else (in_front s) (or_else (in_numbers s) (or_else (in_lists s) (in_rooms s)))
 
--- how many parts can be deferred after one lost datagram: the other units of a window, and the heartbeats that confirm
--- units
+-- how many parts can be deferred after one datagram lost in a retransmission: its RetrResp, the units of a window, a
+-- heartbeat, and the heartbeats that confirm units
 abbrev pub most_deferred : (window mwa : ℕ) → ℕ
-most_deferred window mwa = if mwa == 0 then 0 else min (window + window / mwa) (2 ^ 32 - 1) - 1
+most_deferred window mwa = if mwa == 0 then 0 else min (window + window / mwa + 2) (2 ^ 32 - 1)
 
 -- the first of the settings with which an end works badly: a peer that waits for a heartbeat, parts that are too old
--- when they go up, a full deferral queue
+-- when they go up, a window that overruns the deferral queue, openings that make the same bytes
 abbrev pub first_warning : PlainSettings → Option SettingFault
 first_warning s =
     or_else (unless (nat_lt s.mwa s.n_sendmax) 15 s.mwa 1 (s.n_sendmax - 1))
     (or_else (unless (nat_lt s.t_seq s.t_max) 14 s.t_seq 10 (s.t_max - 1))
-    (outside 11 s.q (most_deferred s.n_sendmax s.mwa) 8))
+    (or_else (unless (nat_le (most_deferred s.n_sendmax s.mwa) s.q) 9 s.n_sendmax 1 (s.q - 2))
+    (unless (not (s.first_sn == 1)) 5 s.first_sn 0 greatest)))
 
 -- what is written for a fault, or zeros without a fault
 abbrev pub written_for : Option SettingFault → SettingFault

@@ -10,6 +10,7 @@ use Rattle.stack_end.specs.EndValue.{EndRepresents}
 use Rattle.end_for_callers.specs.Boxes.{Posted, new_outgoing, told_of}
 use Rattle.end_for_callers.specs.Calls.{outbox_of, reserve_of}
 use Rattle.end_for_callers.specs.Queues.{new_queue}
+use Rattle.end_for_callers.specs.Openings.{first_opening}
 use Rattle.stack_end.specs.Datagrams.{sent_at_opening}
 use Rattle.end_settings.specs.ConfigValue.{side_of}
 use Rattle.end_for_callers.specs.Plain.{OpeningSeen, opening_of}
@@ -51,6 +52,8 @@ pub record IsNew (o : OpeningSeen) (now : ℕ) (s : Held) : Type 0 where
   pub time : s.time ≡ now
   -- it reserves room for the datagrams of a call
   pub reserve : s.reserve ≡ reserve_of o.config
+  -- it counts one opening
+  pub openings : s.openings ≡ first_opening o.side o.config.connection.t_max now
 
 -- a handle holds a station that was just opened with the content of these settings
 abbrev pub IsOpened : PlainSettings → ℕ → Option Held → Type 0

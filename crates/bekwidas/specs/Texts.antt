@@ -37,6 +37,7 @@ text_of_refused n =
     else if n == 17 then codes "this end is not a field element in BEK_INITIALISING"
     else if n == 18 then codes "the text is not a settings file of this side"
     else if n == 19 then codes "this processor lacks instructions that the library needs"
+    else if n == 20 then codes "this bek_end is a copy: use the one that bek_open was given"
     else no_such_code
 
 -- the text of a code

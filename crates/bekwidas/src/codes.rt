@@ -170,7 +170,7 @@ pub fn of_version(version: Option<u8>) -> u32
 
 /// Returns the meaning of a code. Only the functions in C return those of null pointers and lengths.
 pub fn text_of(code: i32) -> &'static str
-    // Each code from -20 to 3 has its own text; any other is "no such code".
+    // Each code from -21 to 3 has its own text; any other is "no such code".
     ensures { result.now ≡ text_of code }
 {
     match code {
@@ -199,6 +199,7 @@ pub fn text_of(code: i32) -> &'static str
         -18 => "this end is not a field element in BEK_INITIALISING",
         -19 => "the text is not a settings file of this side",
         -20 => "this processor lacks instructions that the library needs",
+        -21 => "this bek_end is a copy: use the one that bek_open was given",
         _ => "no such code",
     }
 }

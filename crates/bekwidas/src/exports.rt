@@ -1,7 +1,7 @@
 //! The functions that C calls.
 
 ghost use Rattle.std.specs.Prelude.{◌≡◌, ◌≢◌, ◌⊎◌, ◌++◌, IfErr, IfOk, MatchResult, Some, drop, take, length, min};
-ghost use Rattle.bekwidas.specs.Answers.{AnswersAgreed, AnswersArrive, AnswersTick, AnswersPut, AnswersInitDone, AnswersClose, AnswersReopen, AnswersTake, AnswersNextDatagram, AnswersNextDeadline, AnswersState, AnswersPhase, AnswersSettled, AnswersCounts, AnswersConfirmed, AnswersConfirmedTime, AnswersDeparture, AnswersHearNotes, AnswersNextNote, AnswersStale, AnswersStatistics, StaysOpen};
+ghost use Rattle.bekwidas.specs.Answers.{AnswersAgreed, AnswersArrive, AnswersTick, AnswersPut, AnswersInitDone, AnswersClose, AnswersReopen, AnswersTake, AnswersNextDatagram, AnswersNextDeadline, AnswersState, AnswersPhase, AnswersSettled, AnswersCounts, AnswersConfirmed, AnswersConfirmedTime, AnswersDeparture, AnswersHearNotes, AnswersNextNote, AnswersStale, AnswersStatistics, AnswersTotals, StaysOpen};
 ghost use Rattle.bekwidas.specs.Texts.{text_of};
 ghost use Rattle.bekwidas.specs.Codes.{code_to_open};
 ghost use Rattle.bekwidas.specs.Held.{IsOpened};
@@ -22,7 +22,7 @@ use std::alloc::Global;
 /// The version: major, minor and patch, as 0xMMmmpp.
 const VERSION: u32 = 0x0003_00;
 
-/// How much waits for the caller, and how much was lost.
+/// How much waits for the caller, how much was lost, and how often the end was opened.
 #[repr(C)]
 #[derive(Drop)]
 pub struct Counts {
@@ -32,6 +32,8 @@ pub struct Counts {
     pub datagrams: u64,
     /// The number of datagrams that found no room since the opening.
     pub unsent: u64,
+    /// How often the end was opened.
+    pub openings: u64,
 }
 
 /// Who ended a connection, why and when.
@@ -396,11 +398,11 @@ pub extern "C" fn bekr_settled(alloc: Global, slot: &mut Slot) -> i32
     if settled { 1 } else { 0 }
 }
 
-/// Returns how much waits for the caller, and how much was lost.
+/// Returns how much waits for the caller, how much was lost, and how often the end was opened.
 #[unsafe(no_mangle)]
 pub extern "C" fn bekr_counts(alloc: Global, slot: &mut Slot, counts: &mut Counts) -> i32
-    // A slot that holds an end keeps it. The three numbers are its waiting telegrams, waiting datagrams and unsent
-    // datagrams, and the end does not change.
+    // A slot that holds an end keeps it. The four numbers are its waiting telegrams, waiting datagrams, unsent datagrams
+    // and openings, and the end does not change.
     ensures open { slot.old.is_open ≡ 1 → StaysOpen (AnswersCounts counts.new result) slot.old slot.new }
     // If the slot holds no end, `bekr_counts` returns `NOT_OPEN` and writes nothing, and the slot still holds
     // none.
@@ -413,16 +415,17 @@ pub extern "C" fn bekr_counts(alloc: Global, slot: &mut Slot, counts: &mut Count
         telegrams: station.telegrams() as u64,
         datagrams: station.datagrams() as u64,
         unsent: station.unsent(),
+        openings: station.openings(),
     };
     slot.put(station);
     OK
 }
 
-/// Returns 1 if the end must be freed and opened again, otherwise 0.
+/// Returns 1 if the end is due to be opened again, otherwise 0.
 #[unsafe(no_mangle)]
 pub extern "C" fn bekr_is_stale(alloc: Global, slot: &mut Slot) -> i32
-    // A slot that holds an end keeps it. The result is 1 if its end is closed or can miss the next request, and 0 if
-    // not, and the end does not change.
+    // A slot that holds an end keeps it. The result is 1 if its end is closed or can miss the next request, and has waited
+    // long enough, and 0 if not, and the end does not change.
     ensures open { slot.old.is_open ≡ 1 → StaysOpen (AnswersStale result) slot.old slot.new }
     // If the slot holds no end, `bekr_is_stale` returns `NOT_OPEN`, and the slot still holds none.
     ensures none { slot.old.is_open ≢ 1 → (result ≡ NOT_OPEN) × (slot.new.is_open ≡ 0) }
@@ -430,7 +433,7 @@ pub extern "C" fn bekr_is_stale(alloc: Global, slot: &mut Slot) -> i32
     let Some(station) = slot.take(alloc) else {
         return NOT_OPEN;
     };
-    let stale = station.is_stale();
+    let stale = station.is_due();
     slot.put(station);
     if stale { 1 } else { 0 }
 }
@@ -478,8 +481,8 @@ pub extern "C" fn bekr_departure(
     slot: &mut Slot,
     departure: &mut PlainDeparture,
 ) -> i32
-    // A slot that holds an end keeps it. OK writes the departure that the end has recorded; `NOTHING` means that it
-    // has recorded none, and writes nothing. The end does not change.
+    // A slot that holds an end keeps it. OK writes the departure that the end has recorded, or else the latest one before
+    // its last opening; `NOTHING` means that there is none, and writes nothing. The end does not change.
     ensures open { slot.old.is_open ≡ 1 → StaysOpen (AnswersDeparture departure.old departure.new result) slot.old slot.new }
     // If the slot holds no end, `bekr_departure` returns `NOT_OPEN` and writes nothing, and the slot still holds
     // none.
@@ -545,6 +548,23 @@ pub extern "C" fn bekr_statistics(
         return NOT_OPEN;
     };
     *statistics = plain_statistics(station.statistics());
+    slot.put(station);
+    OK
+}
+
+/// Returns the sums of what the end has counted in all its openings.
+#[unsafe(no_mangle)]
+pub extern "C" fn bekr_totals(alloc: Global, slot: &mut Slot, totals: &mut PlainStatistics) -> i32
+    // A slot that holds an end keeps it. The numbers are the sums of its counts over all openings, and the end does not
+    // change.
+    ensures open { slot.old.is_open ≡ 1 → StaysOpen (AnswersTotals totals.new result) slot.old slot.new }
+    // If the slot holds no end, `bekr_totals` returns `NOT_OPEN` and writes nothing, and the slot still holds none.
+    ensures none { slot.old.is_open ≢ 1 → (result ≡ NOT_OPEN) × (slot.new.is_open ≡ 0) × (totals.new ≡ totals.old) }
+{
+    let Some(station) = slot.take(alloc) else {
+        return NOT_OPEN;
+    };
+    *totals = plain_statistics(station.totals());
     slot.put(station);
     OK
 }

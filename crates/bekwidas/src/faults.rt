@@ -240,7 +240,14 @@ fn in_rooms(s: &PlainSettings) -> Option<SettingFault>
 fn first_warning(s: &PlainSettings) -> Option<SettingFault>
     ensures { result ≡ first_warning s.now }
 {
-    let deferred = outside(11, s.q, most_deferred(s.n_sendmax, s.mwa), 8);
+    let random = unless(s.first_sn != 1, 5, s.first_sn, 0, u32::MAX);
+    let deferred = unless(
+        most_deferred(s.n_sendmax, s.mwa) <= s.q,
+        9,
+        s.n_sendmax,
+        1,
+        s.q.saturating_sub(2),
+    );
     let t_seq = unless(
         s.t_seq < s.t_max,
         14,
@@ -255,15 +262,15 @@ fn first_warning(s: &PlainSettings) -> Option<SettingFault>
         1,
         s.n_sendmax.saturating_sub(1),
     );
-    first(mwa, first(t_seq, deferred))
+    first(mwa, first(t_seq, first(deferred, random)))
 }
 
-/// Returns how many parts can be deferred after one lost datagram.
+/// Returns how many parts can be deferred after one datagram lost in a retransmission.
 fn most_deferred(window: u32, mwa: u32) -> u32
     ensures { result ≡ most_deferred window mwa }
 {
     if mwa == 0 {
         return 0;
     }
-    window.saturating_add(window / mwa).saturating_sub(1)
+    window.saturating_add(window / mwa).saturating_add(2)
 }

@@ -8,6 +8,7 @@ use Rattle.channels.specs.ChannelHistory.{SentDatagram, Sends, SendsOne, Channel
 use Rattle.std.specs.Global.{Global}
 use Rattle.end_for_callers.specs.Boxes.{Came, TelegramQueue, DatagramQueue, Posted, OutboxValue, takes_of, told_in, told_of}
 use Rattle.end_for_callers.specs.Queues.{has_place_for, with_piece}
+use Rattle.end_for_callers.specs.declared.openings.Openings.{Openings}
 use Rattle.end_for_callers.specs.Calls.{Does, StationValue, outbox_of, seen_end}
 use Rattle.stack_end.specs.Ends.{Call, time_of}
 use Rattle.stack_end.specs.EndValue.{EndTakesTurn, EndTakesTurnAlone, EndValue, channels_of, inside}
@@ -168,11 +169,12 @@ seen-alone turn e v w same h =
 
 -- a call by its end
 pub does-all : (c : Call) (s t : StationValue) → EndTakesTurn told_of takes_of (turn c) s.end s.inbox t.end t.inbox
-    → t.end.time ≡ time_of c → t.reserve ≡ s.reserve
+    → t.end.time ≡ time_of c → t.reserve ≡ s.reserve → t.openings ≡ s.openings
     → Does c s t
-does-all c s t h time reserve =
+does-all c s t h time reserve openings =
     record {
       reserve = reserve;
+      openings = openings;
       left = h.left;
       time = time;
       datagrams = posted (outbox_of s) (turn c (inside s.end)).sent (outbox_of t) h.sent;
@@ -180,11 +182,12 @@ does-all c s t h time reserve =
     }
 
 pub does-alone : (c : Call) (s t : StationValue) → EndTakesTurnAlone told_of (turn c) s.end t.end
-    → t.end.time ≡ time_of c → t.inbox ≡ s.inbox → t.reserve ≡ s.reserve
+    → t.end.time ≡ time_of c → t.inbox ≡ s.inbox → t.reserve ≡ s.reserve → t.openings ≡ s.openings
     → Does c s t
-does-alone c s t h time same reserve =
+does-alone c s t h time same reserve openings =
     record {
       reserve = reserve;
+      openings = openings;
       left = h.left;
       time = time;
       datagrams = posted (outbox_of s) (turn c (inside s.end)).sent (outbox_of t) h.sent;
@@ -194,21 +197,21 @@ does-alone c s t h time same reserve =
 
 -- what a station with this end does by a call, once places are set aside in the end: `v` is the end before the call,
 -- `w` after it
-pub does-after : (c : Call) (e v w : EndValue OutboxValue Global) (a b : TelegramQueue) (time now reserve : ℕ)
+pub does-after : (c : Call) (e v w : EndValue OutboxValue Global) (a b : TelegramQueue) (time now reserve : ℕ) (kept : Openings)
     → seen_end v ≡ seen_end e → EndTakesTurn told_in takes_of (turn c) v a w b → w.time ≡ time_of c
-    → Does c (record { end = seen_end e; inbox = a; time = time; reserve = reserve })
-    (record { end = seen_end w; inbox = b; time = now; reserve = reserve })
-does-after c e v w a b time now reserve same h at =
-    does-all c (record { end = seen_end e; inbox = a; time = time; reserve = reserve })
-    (record { end = seen_end w; inbox = b; time = now; reserve = reserve }) (seen-turns (turn c) e v w a b same h) at
-    refl
+    → Does c (record { end = seen_end e; inbox = a; time = time; reserve = reserve; openings = kept })
+    (record { end = seen_end w; inbox = b; time = now; reserve = reserve; openings = kept })
+does-after c e v w a b time now reserve kept same h at =
+    does-all c (record { end = seen_end e; inbox = a; time = time; reserve = reserve; openings = kept })
+    (record { end = seen_end w; inbox = b; time = now; reserve = reserve; openings = kept }) (seen-turns (turn c) e v w a b same h) at
+    refl refl
 
 -- the same of a call by which nothing is taken
-pub does-alone-after : (c : Call) (e v w : EndValue OutboxValue Global) (a : TelegramQueue) (time now reserve : ℕ)
+pub does-alone-after : (c : Call) (e v w : EndValue OutboxValue Global) (a : TelegramQueue) (time now reserve : ℕ) (kept : Openings)
     → seen_end v ≡ seen_end e → EndTakesTurnAlone told_in (turn c) v w → w.time ≡ time_of c
-    → Does c (record { end = seen_end e; inbox = a; time = time; reserve = reserve })
-    (record { end = seen_end w; inbox = a; time = now; reserve = reserve })
-does-alone-after c e v w a time now reserve same h at =
-    does-alone c (record { end = seen_end e; inbox = a; time = time; reserve = reserve })
-    (record { end = seen_end w; inbox = a; time = now; reserve = reserve }) (seen-alone (turn c) e v w same h) at refl
-    refl
+    → Does c (record { end = seen_end e; inbox = a; time = time; reserve = reserve; openings = kept })
+    (record { end = seen_end w; inbox = a; time = now; reserve = reserve; openings = kept })
+does-alone-after c e v w a time now reserve kept same h at =
+    does-alone c (record { end = seen_end e; inbox = a; time = time; reserve = reserve; openings = kept })
+    (record { end = seen_end w; inbox = a; time = now; reserve = reserve; openings = kept }) (seen-alone (turn c) e v w same h) at refl
+    refl refl

@@ -19,7 +19,8 @@ use Rattle.safe_machine.specs.Deadlines.{overdue}
 use Rattle.stack_end.specs.Ends.Call.{Deliver, Tick}
 use Rattle.stack_end.specs.EndValue.{inside}
 use Rattle.stack_end.specs.Turns.{Fields, Inside, Turn, departure_turn, end_session_turn, input_and_send_turn, input_turn, is_over, machine_turn, send_turn, still, turn, turn_then, upper_turn}
-use Rattle.end_for_callers.specs.Calls.{IsDeadline, IsNextTickBy, StationValue, is_expired}
+use Rattle.stack_end.specs.Deadlines.{earliest}
+use Rattle.end_for_callers.specs.Calls.{IsDeadline, IsNextTickBy, StationValue, is_expired, reopening_time}
 use Rattle.end_for_callers.specs.Watch.{ClosesTaking, WatchLaw}
 
 -- a margin of 0 is T_max after the last confirmation
@@ -106,9 +107,9 @@ watch_law_holds channel now octets v some same expired =
           (closes-with (machine_guard_turn now m) cause now (Datagram octets now) v shut),
     )
 
--- with room, and no telegram lost, the next tick is at the deadline of the end
-pub next-open : (lost blocked : Bool) (next : Option ℕ) (s : StationValue) → lost ≡ false → blocked ≡ false
-    → IsDeadline next (inside s.end) → IsNextTickBy lost blocked next s
-next-open false false next s e f h = h
-next-open false true next s e f h = absurd (false≢true (sym f))
-next-open true blocked next s e f h = absurd (false≢true (sym e))
+-- with room, and no telegram lost, the next tick is at the deadline of the end, or when it is due to be opened again
+pub next-open : (lost blocked : Bool) (deadline next : Option ℕ) (s : StationValue) → lost ≡ false → blocked ≡ false
+    → IsDeadline deadline (inside s.end) → next ≡ earliest deadline (reopening_time s) → IsNextTickBy lost blocked next s
+next-open false false deadline next s e f h same = (deadline, h, same)
+next-open false true deadline next s e f h same = absurd (false≢true (sym f))
+next-open true blocked deadline next s e f h same = absurd (false≢true (sym e))

@@ -4,10 +4,11 @@ use Rattle.std.specs.Prelude.{option_map, List, length, if◌then◌else◌}
 use Rattle.std.specs.Option.{option_map_or}
 use Rattle.octets.specs.declared.limits.TheConstants.{PAYLOAD_MAX, Q_MAX, RED_PDU_MAX, WINDOW_MAX, TIME_MAX}
 use Rattle.stack_end.specs.Ends.{Call, time_of}
-use Rattle.stack_end.specs.EndValue.{EndValue, channels_of, inside}
+use Rattle.stack_end.specs.EndValue.{EndValue, channels_of, inside, statistics_of}
 use Rattle.stack_end.specs.Turns.{Fields, Inside, init_answer, is_over, put_answer, turn}
 use Rattle.stack_end.specs.Timely.{margin_of}
-use Rattle.stack_end.specs.Deadlines.{HasFallen, IsQuiet}
+use Rattle.stack_end.specs.Deadlines.{HasFallen, IsQuiet, earliest}
+use Rattle.stack_end.specs.Stale.{is_stale}
 use Rattle.safe_machine.specs.Deadlines.{IsBefore, IsReachedAt}
 use Rattle.std.specs.Global.{Global}
 use Rattle.end_for_callers.specs.declared.CallFault.{CallFault}
@@ -24,6 +25,8 @@ use Rattle.end_settings.specs.declared.Side.{Side}
 use Rattle.stack_end.specs.Reopening.{reopening_turn}
 use Rattle.end_for_callers.specs.Boxes.{Came, TelegramQueue, DatagramQueue, Posted, OutboxValue, clear_outgoing}
 use Rattle.end_for_callers.specs.Queues.{Queued}
+use Rattle.end_for_callers.specs.Openings.{closed_at, next_opening, wait_of}
+use Rattle.end_for_callers.specs.declared.openings.Openings.{Openings}
 
 -- an end on the outbox of a station as a caller sees it: without the places set aside
 abbrev pub seen_end : EndValue OutboxValue Global → EndValue DatagramQueue Global
@@ -66,6 +69,8 @@ pub record StationValue : Type 0 where
   pub time : ℕ
   -- how many datagrams must have room before a call
   pub reserve : ℕ
+  -- what is kept over the openings of the end
+  pub openings : Openings
 
 -- the datagrams that wait
 abbrev pub outbox_of : StationValue → DatagramQueue
@@ -172,6 +177,8 @@ pub record Does (c : Call) (s t : StationValue) : Type 0 where
   pub telegrams : Came s.inbox (turn c (inside s.end)).taken t.inbox
   -- the reserve stays
   pub reserve : t.reserve ≡ s.reserve
+  -- what is kept over openings stays
+  pub openings : t.openings ≡ s.openings
 
 -- the end opens again with the settings that it has, and both queues are empty
 pub record Reopens (first now : ℕ) (s t : StationValue) : Type 0 where
@@ -187,6 +194,8 @@ pub record Reopens (first now : ℕ) (s t : StationValue) : Type 0 where
   pub time : t.time ≡ now
   -- the reserve stays
   pub reserve : t.reserve ≡ s.reserve
+  -- one opening more is counted, with what the end counted before it, and its departure
+  pub openings : t.openings ≡ next_opening s.openings (statistics_of s.end) (inside s.end).upper.departed now
 
 -- the outcome: a telegram was lost, or everything has room, or a datagram was counted
 abbrev pub outcome_of : StationValue → StationValue → Outcome
@@ -211,6 +220,8 @@ pub record SameButDatagrams (s t : StationValue) : Type 0 where
   pub time : t.time ≡ s.time
   -- the reserve
   pub reserve : t.reserve ≡ s.reserve
+  -- what is kept over openings
+  pub openings : t.openings ≡ s.openings
 
 -- only the notes may differ
 pub record SameButNotes (s t : StationValue) : Type 0 where
@@ -228,6 +239,8 @@ pub record SameButNotes (s t : StationValue) : Type 0 where
   pub time : t.time ≡ s.time
   -- the reserve
   pub reserve : t.reserve ≡ s.reserve
+  -- what is kept over openings
+  pub openings : t.openings ≡ s.openings
 
 -- only the queue of telegrams may differ
 pub record SameButTelegrams (s t : StationValue) : Type 0 where
@@ -239,6 +252,22 @@ pub record SameButTelegrams (s t : StationValue) : Type 0 where
   pub time : t.time ≡ s.time
   -- the reserve
   pub reserve : t.reserve ≡ s.reserve
+  -- what is kept over openings
+  pub openings : t.openings ≡ s.openings
+
+-- how long it is, from the last accepted call on, until an end that is stale is opened again
+abbrev pub reopening_wait : StationValue → ℕ
+reopening_wait s = wait_of s.openings (closed_at (inside s.end).upper.departed s.openings.opened) s.time
+
+-- the end is to be opened again now: it is stale, and its wait is over
+abbrev pub is_due : StationValue → Bool
+is_due s = is_stale (inside s.end) && reopening_wait s == 0
+
+-- the time at which a stale end is due, if that is still to come, in 64 bits
+abbrev pub reopening_time : StationValue → Option ℕ
+reopening_time s =
+    if is_stale (inside s.end) && not (reopening_wait s == 0) then Some (min (s.time + reopening_wait s) (2 ^ 64 - 1))
+    else None
 
 -- the deadline of an end: before it a tick does nothing; from it on, up to 2^62, a tick does something
 pub record IsDeadline (next : Option ℕ) (v : Inside) : Type 0 where
@@ -251,11 +280,12 @@ pub record IsDeadline (next : Option ℕ) (v : Inside) : Type 0 where
 
 -- the next time at which a tick does something, by whether a telegram was lost, and whether there is too little room for a
 -- tick. After a loss: none. Without room: when T_max ends the connection, and until then each tick is refused. Otherwise it
--- is the deadline of the end
+-- is the deadline of the end, or the time at which the end is due to be opened again, if that is earlier
 abbrev pub IsNextTickBy : (lost blocked : Bool) → Option ℕ → StationValue → Type 0
 IsNextTickBy true blocked next s = next ≡ None
 IsNextTickBy false true next s = next ≡ timeout_of (inside s.end).upper
-IsNextTickBy false false next s = IsDeadline next (inside s.end)
+IsNextTickBy false false next s =
+    (deadline : Option ℕ) × IsDeadline deadline (inside s.end) × (next ≡ earliest deadline (reopening_time s))
 
 -- the same of a station
 abbrev pub IsNextTick : Option ℕ → StationValue → Type 0

@@ -2,6 +2,8 @@ pub mod Queues
 pub mod Pieces
 pub mod Notes
 pub mod Boxes
+pub mod Totals
+pub mod Openings
 pub mod Calls
 pub mod CallResults
 pub mod Plain

@@ -11,15 +11,18 @@
 mod inbox;
 mod law;
 mod notes;
+mod openings;
 mod outbox;
 mod plain;
 mod plain_text;
 mod queue;
 mod station;
+mod totals;
 
 pub use law::{load_law, watch_law};
 pub use notes::{NOTES_MAX, Notes, StationNote};
 use octets::limits::{Q_MAX, WINDOW_MAX};
+pub use openings::Openings;
 use pdi_session::{InitFault, PutFault};
 pub use plain::{EndOpening, PLAIN_SETTINGS_SIZE, PlainSettings, is_name, numbers_law, text_size};
 pub use queue::{Queue, QueueFull, TooSmall};

@@ -14,14 +14,18 @@ ghost use Rattle.end_for_callers.specs.Loads.{each_aside};
 ghost use Rattle.octets.specs.declared.limits.TheConstants.{CHANNELS_MAX, PAYLOAD_MAX, RED_PDU_MAX, WINDOW_MAX, TIME_MAX};
 ghost use Rattle.end_for_callers.specs.declared.Outcome.TheVariants as ended;
 ghost use Rattle.end_for_callers.specs.Calls.{Does, LosesNone, Reopens, SameButDatagrams, SameButNotes, SameButTelegrams, is_blocked, is_expired, is_time, outbox_of, outcome_of, refusal, refusal_to_init, refusal_to_open, refusal_to_reopen, refusal_to_put, refusal_to_send, has_room, reserve_of, seen_end, timeout_of};
+ghost use Rattle.end_for_callers.specs.Openings.{first_opening};
 ghost use Rattle.end_for_callers.specs.Queues.{PopsInto, new_queue};
+ghost use Rattle.stack_end.specs.Deadlines.{earliest};
 ghost use Rattle.end_for_callers.specs.declared.StationFault.TheVariants as fault;
 ghost use Rattle.end_for_callers.specs.declared.CallFault.TheVariants as refused;
 
 use crate::inbox::Inbox;
 use crate::notes::StationNote;
+use crate::openings::{Openings, closed_at, last_departure};
 use crate::outbox::Outbox;
 use crate::queue::{Queue, TooSmall};
+use crate::totals::add_counts;
 use crate::{CALL_TELEGRAMS, CallFault, Outcome, PART_PDUS, StationFault};
 use end_settings::{EndConfig, Side};
 use octets::Milliseconds;
@@ -30,6 +34,7 @@ use pdi_session::{Agreed, MessageType, Phase};
 use safe_machine::ConnectionState;
 use stack_end::{Departure, End, OpenFault, Statistics};
 use std::alloc::Global;
+use std::cmp::min;
 use std::marker::Model;
 
 /// The room of the two queues.
@@ -55,6 +60,8 @@ pub struct Station {
     time: Milliseconds,
     /// How many datagrams must have room before a call.
     reserve: usize,
+    /// What is kept over the openings of the end.
+    openings: Openings,
 }
 
 impl Model for Station {
@@ -66,7 +73,7 @@ impl Model for Station {
 
     ghost Value = { StationValue };
 
-    ghost view = { λ s. record { end = seen_end s.end; inbox = s.inbox; time = s.time; reserve = s.reserve } };
+    ghost view = { λ s. record { end = seen_end s.end; inbox = s.inbox; time = s.time; reserve = s.reserve; openings = s.openings } };
 
     ghost invariant = { λ s. (s.end.time ≤ s.time) × (s.time ≤ TIME_MAX) × (s.reserve < 2 ^ 32) × IsReady s.reserve (inside s.end) };
 }
@@ -109,6 +116,8 @@ impl Station {
         ensures time { IfOk result (λ s. s.time ≡ now) }
         // A new station reserves room for 37 datagrams for each channel before each call (`reserve_of`).
         ensures reserve { IfOk result (λ s. s.reserve ≡ reserve_of (settings_of config.now)) }
+        // One opening is counted, and nothing before it.
+        ensures openings { IfOk result (λ s. s.openings ≡ first_opening side (settings_of config.now).connection.t_max now) }
     {
         if now > TIME_MAX {
             return Err(StationFault::Time);
@@ -132,6 +141,7 @@ impl Station {
                 inbox,
                 time: now,
                 reserve: reserve as usize,
+                openings: Openings::new(side, config.t_max, now),
             }),
             Err((OpenFault::BadConfig, _)) => Err(StationFault::BadConfig),
             Err((OpenFault::Memory, _)) => Err(StationFault::Memory),
@@ -345,8 +355,8 @@ impl Station {
         ensures answer { MatchResult result (λ _. refusal_to_reopen now self.old ≡ None)
             (λ f. (refusal_to_reopen now self.old ≡ Some f) × (self.new ≡ self.old)) }
         // An accepted `reopen` leaves every layer as newly opened with the settings that it has, and both queues empty
-        // but for the ConnReq of an interlocking. No loss is left, and time and reserve are as `open` leaves them
-        // (`Reopens`).
+        // but for the ConnReq of an interlocking. No loss is left, and time and reserve are as `open` leaves them. What the
+        // end counted is added to the sums, and its departure is kept (`Reopens`).
         ensures does { OnOk result (Reopens first_sn now self.old self.new) }
     {
         if !self.is_time(now) {
@@ -355,10 +365,14 @@ impl Station {
         if !self.inbox.queue().is_empty() {
             return Err(CallFault::TakeFirst);
         }
+        let openings = self
+            .openings
+            .next(&self.end.statistics(), self.end.departure(), now);
         self.end.channels().clear();
         self.end.reopen(first_sn, now);
         self.inbox.forget_loss();
         self.time = now;
+        self.openings = openings;
         Ok(())
     }
 
@@ -426,19 +440,20 @@ impl Station {
     ghost use Rattle.pdi_session.specs.SessionStep.{agreement_of};
     ghost use Rattle.pdi_session.specs.declared.TheConstants.{CHECKSUM_MAX};
     ghost use Rattle.pdi_session.specs.declared.Phase.{Phase};
-    ghost use Rattle.end_for_callers.specs.Calls.{IsNextTick};
+    ghost use Rattle.end_for_callers.specs.Calls.{IsNextTick, is_due, reopening_time, reopening_wait};
+    ghost use Rattle.end_for_callers.specs.Openings.{last_departure};
+    ghost use Rattle.end_for_callers.specs.Totals.{plus};
     ghost use Rattle.stack_end.specs.EndValue.{inside, statistics_of};
     ghost use Rattle.stack_end.specs.Certain.{confirmed_in};
-    ghost use Rattle.stack_end.specs.Stale.{is_stale};
     ghost use Rattle.stack_end.specs.Turns.{is_settled};
 
     /// Returns the earliest time at which `tick` has something to do if nothing arrives, nothing is put, and nothing that
-    /// waits is fetched. With too little room for a tick this is the time at which T_max ends the connection. A closed end
-    /// has none.
+    /// waits is fetched; for a stale end that is not due yet, also the time at which it is. With too little room for a tick
+    /// this is the time at which T_max ends the connection. A closed end that is due has none.
     pub fn next_deadline(&self) -> Option<Milliseconds>
         // With room for a tick: a tick of an open end before the deadline does nothing, and one from it on, up to 2^62 ms,
-        // does something; a closed end has none. Without: the deadline is T_max after the time last confirmed. After a
-        // lost telegram there is none.
+        // does something; a stale end also has the time at which it is due to be opened again, until then. Without: the
+        // deadline is T_max after the time last confirmed. After a lost telegram there is none.
         ensures { IsNextTick result self.now }
     {
         if self.lost() {
@@ -447,7 +462,7 @@ impl Station {
         if self.is_blocked() {
             return self.timeout();
         }
-        self.end.next_deadline()
+        earliest(self.end.next_deadline(), self.reopening_time())
     }
 
     /// Returns the state of the connection.
@@ -474,12 +489,14 @@ impl Station {
         self.end.settled()
     }
 
-    /// Returns true if the end must be opened again before it can take part in a new connection.
-    pub fn is_stale(&self) -> bool
-        // `is_stale` is true if and only if the station's end is closed, or waits in Down and can miss the next request.
-        ensures { result ≡ is_stale (inside self.now.end) }
+    /// Returns true if the end is due to be opened again: it cannot take part in a new connection, and it has waited long
+    /// enough (`Openings::wait`), up to the time of the last accepted call.
+    pub fn is_due(&self) -> bool
+        // `is_due` is true if and only if the station's end is closed, or waits in Down and can miss the next request, and
+        // its wait is over.
+        ensures { result ≡ is_due self.now }
     {
-        self.end.is_stale()
+        self.end.is_stale() && self.reopening_wait() == 0
     }
 
     /// Returns how many of the telegrams put since the opening the peer has certainly taken: the first ones of them. The
@@ -500,12 +517,13 @@ impl Station {
         self.end.confirmed_time()
     }
 
-    /// Returns who ended the connection, why and when, or `None` while the end is open.
+    /// Returns who ended the latest connection, why and when: the present one, or else one before the last opening.
     pub fn departure(&self) -> Option<Departure>
-        // `departure` is the one that the calls of the station's end have recorded.
-        ensures { result ≡ (inside self.now.end).upper.departed }
+        // `departure` is the one that the calls of the station's end have recorded since its opening, or else the latest
+        // that was kept.
+        ensures { result ≡ last_departure (inside self.now.end).upper.departed self.now.openings.departed }
     {
-        self.end.departure()
+        last_departure(self.end.departure(), self.openings.departed)
     }
 
     /// Returns what the two ends agreed on in the version check, or `None` before that: the PDI version, and the checksum
@@ -525,6 +543,23 @@ impl Station {
         ensures { result ≡ statistics_of self.now.end }
     {
         self.end.statistics()
+    }
+
+    /// Returns the sums of what the end has counted in all its openings, modulo 2^64. An age or a wait is the greatest, a
+    /// time of reception the last.
+    pub fn totals(&self) -> Statistics
+        // `totals` adds the counts of the present opening to the sums of those before.
+        ensures { result ≡ plus self.now.openings.earlier (statistics_of self.now.end) }
+    {
+        add_counts(&self.openings.earlier, &self.end.statistics())
+    }
+
+    /// Returns how often the end was opened, modulo 2^64.
+    pub fn openings(&self) -> u64
+        // `openings` is the station's count of openings.
+        ensures { result ≡ self.now.openings.count }
+    {
+        self.openings.count
     }
 
     /// Returns how many datagrams found no room since the opening, modulo 2^64.
@@ -595,6 +630,26 @@ impl Station {
         }
     }
 
+    /// Returns how long it is, from the last accepted call on, until the end is opened again if it is stale.
+    fn reopening_wait(&self) -> Milliseconds
+        ensures { result ≡ reopening_wait self.now }
+    {
+        let closed = closed_at(self.end.departure(), self.openings.opened);
+        self.openings.wait(closed, self.time)
+    }
+
+    /// Returns the time at which a stale end is due to be opened again, if that is still to come.
+    fn reopening_time(&self) -> Option<Milliseconds>
+        ensures { result ≡ reopening_time self.now }
+    {
+        let wait = self.reopening_wait();
+        if self.end.is_stale() && wait != 0 {
+            Some(self.time.saturating_add(wait))
+        } else {
+            None
+        }
+    }
+
     /// Returns true if a call may have this time.
     fn is_time(&self, now: Milliseconds) -> bool
         ensures { result ≡ is_time now self.now }
@@ -657,6 +712,16 @@ impl Station {
         } else {
             Outcome::Unsent
         }
+    }
+}
+
+/// Returns the earlier of two times.
+fn earliest(one: Option<Milliseconds>, other: Option<Milliseconds>) -> Option<Milliseconds>
+    ensures { result ≡ earliest one other }
+{
+    match (one, other) {
+        (None, deadline) | (deadline, None) => deadline,
+        (Some(first), Some(second)) => Some(min(first, second)),
     }
 }
 

@@ -46,7 +46,7 @@ struct World {
     lines: Vec<u8>,
 }
 
-/// Keeps what the last event made and told. The event was one of this side.
+/// Keeps what the last event made and noted. The event was one of this side.
 fn keep(
     alloc: Global,
     pair: &Pair,
@@ -145,7 +145,7 @@ impl World {
         Ok(())
     }
 
-    /// The session is established at both ends, and the field element took so many commands, of which the first is 0.
+    /// The session is established at both ends, and the field element took this number of commands, of which the first is 0.
     fn has_taken(&self, rt: &impl Abort, count: usize) -> Result<(), Fail> {
         for side in [IL, FE] {
             let end = self.pair.end_of(side).ok_or("no end")?;
@@ -170,7 +170,7 @@ impl World {
     }
 }
 
-/// What is told of three commands that come on both channels.
+/// The notes of three commands that come on both channels.
 const REPEATS: &str = "\
 Step(4, Taken)
 Take(256, [0])

@@ -31,10 +31,10 @@ const SERVER: MachineConfig = MachineConfig {
     rule: RULE,
 };
 
-/// A PDU as it is told: its type, sequence number and confirmed sequence number.
+/// A PDU as it is noted: its type, sequence number and confirmed sequence number.
 type Told = (u16, u32, u32);
 
-/// Keeps what is told of the PDUs made.
+/// Keeps notes of the PDUs made.
 #[derive(Drop)]
 struct Wire {
     told: ArrayVec<Told, 40>,

@@ -118,7 +118,7 @@ unfoldable pub unread_text : ℕ → List ℕ
 unread_text count =
     join_pieces (codes "output: " ∷ decimal count ∷ codes " lines not printed\n" ∷ [])
 
--- turns that end because a line of standard output had no room are no fault
+-- turns that end because a line of standard output had no room count as no fault
 abbrev pub unless_unread : Result (Unit {0}) Fault → Bool → Result (Unit {0}) Fault
 unless_unread (Err fault.Output) true = Ok tt
 unless_unread ran has_left_out = ran

@@ -90,7 +90,7 @@ flaw_text flaw.NoTelegram number = none_text number
 flaw_text flaw.Open number = open_text number
 flaw_text flaw.Long number = long_text number
 
--- why a line of this size is no telegram
+-- why a line of this size is not a telegram
 abbrev pub flaw_of : (size used : ℕ) → LineFlaw
 flaw_of size used =
     if nat_le used size then flaw.Open else if nat_le line_most size then flaw.Long else flaw.NoTelegram

@@ -85,7 +85,7 @@ impl<W: Write + Drop> Backlog<W> {
 impl<W: Write> Backlog<W> {
     /// Appends a piece of a line. A line that finds no room, or an earlier line left out, is left out and counted.
     fn add(&mut self, text: &[u8]) -> io::Result<usize>
-        // `add` refuses a text at the beginning of a line if a line was left out, or if the buffer has reached its
+        // `add` refuses a text at the start of a line if a line was left out, or if the buffer has reached its
         // `room`. It takes any other for which there is memory.
         ensures refused { is_refused self.old.octets.items self.old.room self.old.left_out ≡ true → is_ok result ≡ false }
         ensures has_room { is_refused self.old.octets.items self.old.room self.old.left_out ≡ false

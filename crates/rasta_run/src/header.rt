@@ -28,7 +28,7 @@ pub struct Header {
     pub receiver: Identifier,
     /// The identifier of the sender.
     pub sender: Identifier,
-    /// The length of the safety code in bytes, if type and length of the datagram tell it.
+    /// The length of the safety code in bytes, if type and length of the datagram show it.
     pub code: Option<u64>,
     /// The four bytes where a ConnReq or ConnResp has its version of RaSTA, as a little-endian number.
     pub version: Option<u32>,
@@ -62,7 +62,7 @@ fn version_of(datagram: &[u8]) -> Option<u32>
     Some(u32_at(datagram, BODY))
 }
 
-/// Returns the length of the safety code in bytes, if type and length of the datagram tell it.
+/// Returns the length of the safety code in bytes, if type and length of the datagram show it.
 fn code_of(datagram: &[u8]) -> Option<u64>
     ensures { result ≡ code_seen datagram.now }
 {

@@ -89,8 +89,8 @@ impl Match {
 
 /// Returns whether the settings of an interlocking and of its field element fit together.
 pub fn are_matching(il: &EndConfig, fe: &EndConfig) -> bool
-    // `are_matching` returns true if and only if identifiers and names are crossed, protocol type, code and initial value are
-    // equal, the field element knows the version, and T_h of each is below T_max of the other.
+    // True if and only if identifiers and names are crossed, protocol type, code and initial value equal, the version known,
+    // and T_h of each below T_max of the other (`are_matching`).
     ensures { result ≡ matching.are_matching (settings_of il.now) (settings_of fe.now) }
 {
     ALL.iter().all(|each| each.holds(il, fe))

@@ -26,8 +26,7 @@ pub enum Notice {
     CallsSucceed(Call, usize, u64),
     /// The connection ended this many milliseconds after a retransmission was requested, which did not come.
     Unanswered(u64),
-    /// Nothing recent was confirmed: the peer's last PDU came this many milliseconds ago, its longest pause had so many,
-    /// and T_max has so many.
+    /// Nothing recent was confirmed: the milliseconds since the peer's last PDU, its longest pause, and T_max.
     Paused(u64, u64, u64),
     /// This many more datagrams were dropped, for causes that are logged.
     Drops(u64),
@@ -49,7 +48,7 @@ pub enum Notice {
     Behind(u64),
     /// Standard output cannot be written, for this reason.
     OutputFails(Option<i32>),
-    /// The run is told to end.
+    /// The run has to end.
     Ending,
 }
 

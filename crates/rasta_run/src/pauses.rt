@@ -19,7 +19,7 @@ pub struct PeerPauses {
     pub longest: u64,
 }
 
-/// Returns the pauses of the peer of an end in this state, of which so many PDUs came.
+/// Returns the pauses of the peer of an end in this state, by the number of its PDUs that came.
 pub fn pauses_after(
     before: Option<PeerPauses>,
     state: ConnectionState,
@@ -37,7 +37,7 @@ pub fn pauses_after(
     }
 }
 
-/// Returns the pauses of a peer of which so many PDUs came.
+/// Returns the pauses of a peer by the number of its PDUs that came.
 fn looked(before: Option<PeerPauses>, came: u64, now: Milliseconds) -> PeerPauses
     ensures { result ≡ pausing.looked before came now }
 {

@@ -1,5 +1,5 @@
 //! Whether standard input can be read, and standard output and standard error written, without waiting; and whether
-//! the run is told to end.
+//! the run has to end.
 //!
 //! One watch serves all of them, and is opened before any socket. If a stream was closed, the watch has its
 //! descriptor and does not watch itself, so that reads and writes fail at once.

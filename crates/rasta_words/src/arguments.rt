@@ -65,7 +65,7 @@ pub fn with_flag<'a>(
     )
 }
 
-/// Adds an argument that its place tells, which is required.
+/// Adds an argument that is known by its place, and is required.
 #[inline(never)]
 pub fn with_operand<'a>(
     alloc: Global,

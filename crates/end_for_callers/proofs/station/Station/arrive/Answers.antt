@@ -13,7 +13,7 @@ pub returns-clause-does : goal.returns-clause-does
 returns-clause-does c =
     rw (← c.self.view_is)
     (does-after (Deliver c.args.channel c.args.octets.now c.args.now) c.self.inside.end c.set_aside.new.end c.arrive.new.self c.self.inside.inbox
-    c.arrive.new.taker c.self.inside.time c.args.now c.self.inside.reserve
+    c.arrive.new.taker c.self.inside.time c.args.now c.self.inside.reserve c.self.inside.openings
     c.set_aside.ensures.same c.arrive.ensures.turns c.arrive.ensures.time)
 
 pub returns-clause-room : goal.returns-clause-room

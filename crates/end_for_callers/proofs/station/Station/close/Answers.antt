@@ -10,7 +10,7 @@ pub returns-clause-does : goal.returns-clause-does
 returns-clause-does c =
     rw (← c.self.view_is)
     (does-alone-after (Close c.args.now) c.self.inside.end c.set_aside.new.end c.close.new.self
-    c.self.inside.inbox c.self.inside.time c.args.now c.self.inside.reserve
+    c.self.inside.inbox c.self.inside.time c.args.now c.self.inside.reserve c.self.inside.openings
     c.set_aside.ensures.same c.close.ensures.turns c.close.ensures.time)
 
 pub returns-clause-room : goal.returns-clause-room

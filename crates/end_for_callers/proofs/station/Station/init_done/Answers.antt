@@ -10,7 +10,7 @@ pub returns-in-Ok-clause-does : goal.returns-in-Ok-clause-does
 returns-in-Ok-clause-does c =
     rw (← c.self.view_is)
     (does-alone-after (InitDone c.args.now) c.self.inside.end c.set_aside.new.end c.init_done.new.self
-    c.self.inside.inbox c.self.inside.time c.args.now c.self.inside.reserve
+    c.self.inside.inbox c.self.inside.time c.args.now c.self.inside.reserve c.self.inside.openings
     c.set_aside.ensures.same c.in-Ok.ensures.turns c.in-Ok.ensures.time)
 
 pub returns-in-Ok-clause-room : goal.returns-in-Ok-clause-room

@@ -20,4 +20,5 @@ returns-clause-does c =
       inbox = c.forget_loss.ensures;
       time = refl;
       reserve = refl;
+      openings = rw (c.next-openings.ensures, c.statistics.ensures, c.departure.ensures) refl;
     }

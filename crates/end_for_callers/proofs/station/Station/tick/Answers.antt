@@ -13,7 +13,7 @@ pub returns-clause-does : goal.returns-clause-does
 returns-clause-does c =
     rw (← c.self.view_is)
     (does-after (Tick c.args.now) c.self.inside.end c.set_aside.new.end c.tick.new.self c.self.inside.inbox
-    c.tick.new.taker c.self.inside.time c.args.now c.self.inside.reserve
+    c.tick.new.taker c.self.inside.time c.args.now c.self.inside.reserve c.self.inside.openings
     c.set_aside.ensures.same c.tick.ensures.turns c.tick.ensures.time)
 
 pub returns-clause-room : goal.returns-clause-room
