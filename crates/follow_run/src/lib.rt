@@ -1,13 +1,13 @@
 //! `follow` over a reader: a pcap or pcapng recording in, a line for each session, connection and event out.
 #![tactic(auto)]
 
+mod following;
 mod frames;
 mod options;
 mod printer;
 mod reading;
-mod run;
 mod stop;
 
+pub use following::run;
 pub use options::FollowOptions;
-pub use run::run;
 pub use stop::FollowStatus;
