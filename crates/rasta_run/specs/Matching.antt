@@ -1,5 +1,7 @@
 -- Whether the settings of an interlocking and of its field element fit together.
-use Rattle.std.specs.Prelude.{ℕ, Bool, List, [], ◌∷◌, nat_eq, nat_lt, bytes_eq, ◌==◌}
+use Rattle.std.specs.Prelude.{ℕ, Bool, List, [], ◌∷◌, nat_eq, nat_lt, bytes_eq}
+use lib.Pointwise.{pointwise}
+use Rattle.safe_pdu.specs.SafeText.{code_octets}
 use Rattle.std.specs.List.{list_all, list_any}
 use Rattle.end_settings.specs.EndSettings.{EndSettings}
 use Rattle.rasta_run.specs.declared.matching.Match.{Match}
@@ -21,8 +23,8 @@ holds Name il fe = are_equal il.addressing.own fe.addressing.peer
 holds PeerName il fe = are_equal il.addressing.peer fe.addressing.own
 holds Protocol il fe = nat_eq il.addressing.protocol fe.addressing.protocol
 holds Version il fe = are_known il.versions fe.versions
-holds Code il fe = nat_eq il.code fe.code
-holds InitialValue il fe = bytes_eq il.connection.rule.initial_value fe.connection.rule.initial_value
+holds Code il fe = nat_eq (code_octets il.connection.rule.length) (code_octets fe.connection.rule.length)
+holds InitialValue il fe = pointwise nat_eq il.connection.rule.initial_value fe.connection.rule.initial_value
 holds Heartbeat il fe = nat_lt il.connection.t_h fe.connection.t_max
 holds PeerHeartbeat il fe = nat_lt fe.connection.t_h il.connection.t_max
 

@@ -84,10 +84,13 @@ pub fn run_check_both<E: Write>(
         Ok(ends) => ends,
         Err(status) => return status,
     };
-    match (&il, &fe) {
-        (Ends::Il(il), Ends::Fe(fe)) if do_fit(il, fe, err) => Status::Done,
-        _ => Status::Refused,
+    let (Ends::Il(il), Ends::Fe(fe)) = (&il, &fe) else {
+        return Status::Refused;
+    };
+    if do_fit(il, fe, err) {
+        return Status::Done;
     }
+    Status::Refused
 }
 
 /// Reads the settings of one end, and prints what is likely to be a mistake.

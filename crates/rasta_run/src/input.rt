@@ -370,11 +370,7 @@ impl Lines {
     fn has_room(&self) -> bool
         ensures { result ≡ nat_lt (length self.now.octets.items) (room_of (feed_place self.now.octets.items)) }
     {
-        let room = match feed_in(self.octets.as_slice()) {
-            None => AHEAD_MAX,
-            Some(_) => READ_MAX,
-        };
-        self.octets.len() < room
+        self.octets.len() < room_of(feed_in(self.octets.as_slice()))
     }
 
     /// Cuts off the next line, and reads it. Without one, only the first bytes are kept of a line that is too long.
@@ -403,6 +399,16 @@ impl Lines {
             Some(put) => Ok(Line::Telegram(put)),
             None => Ok(Line::Other(self.cut, flaw_of(size, used))),
         }
+    }
+}
+
+/// Returns up to how many bytes input is read, if this is the place of the first line feed.
+fn room_of(feed: Option<usize>) -> usize
+    ensures { result ≡ room_of feed }
+{
+    match feed {
+        None => AHEAD_MAX,
+        Some(_) => READ_MAX,
     }
 }
 

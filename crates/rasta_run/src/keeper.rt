@@ -94,7 +94,7 @@ impl Keeper {
         match side {
             Side::Interlocking => {
                 let pause = pause_of(self.fruitless, t_max);
-                let least = if self.had_session { pause } else { t_max / 4 };
+                let least = least_after(self.had_session, pause, t_max);
                 let after_leaving = least.saturating_sub(now.saturating_sub(left));
                 after_leaving.max(pause.saturating_sub(since_opening))
             }
@@ -179,6 +179,16 @@ fn pause_of(fruitless: u64, t_max: Milliseconds) -> Milliseconds
         0 => t_max / 4,
         1 => t_max / 2,
         _ => t_max,
+    }
+}
+
+/// Returns the least time between a departure of an interlocking and its next opening, in milliseconds.
+fn least_after(had_session: bool, pause: Milliseconds, t_max: Milliseconds) -> Milliseconds
+    ensures { result ≡ keeping.least_after had_session pause t_max }
+{
+    match had_session {
+        true => pause,
+        false => t_max / 4,
     }
 }
 

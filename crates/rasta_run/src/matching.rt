@@ -61,7 +61,7 @@ impl Match {
             Match::PeerName => are_equal(&il.peer_name, &fe.name),
             Match::Protocol => il.protocol == fe.protocol,
             Match::Version => are_known(il.versions.as_slice(), fe.versions.as_slice()),
-            Match::Code => il.code == fe.code,
+            Match::Code => il.code_length().octets() == fe.code_length().octets(),
             Match::InitialValue => il.initial_value == fe.initial_value,
             Match::Heartbeat => il.t_h < fe.t_max,
             Match::PeerHeartbeat => fe.t_h < il.t_max,
@@ -177,7 +177,5 @@ fn are_equal(name: &OwnedName, other: &OwnedName) -> bool
 fn are_known(versions: &[u8], known: &[u8]) -> bool
     ensures { result ≡ matching.are_known versions.now known.now }
 {
-    versions
-        .iter()
-        .all(|version| known.iter().any(|each| each == version))
+    versions.iter().all(|version| known.contains(version))
 }

@@ -85,8 +85,23 @@ pub fn pause_notice(
     // `None`.
     ensures { result ≡ pausing.pause_notice wanted pauses state t_max now }
 {
+    match wanted {
+        true => closing_notice(pauses, state, t_max, now),
+        false => None,
+    }
+}
+
+/// Returns the notice of the pauses of a peer, if the connection is now closed.
+fn closing_notice(
+    pauses: Option<PeerPauses>,
+    state: ConnectionState,
+    t_max: Milliseconds,
+    now: Milliseconds,
+) -> Option<Notice>
+    ensures { result ≡ pausing.closing_notice pauses state t_max now }
+{
     match (state, pauses) {
-        (ConnectionState::Closed, Some(pauses)) if wanted => {
+        (ConnectionState::Closed, Some(pauses)) => {
             let ago = now.saturating_sub(pauses.at);
             Some(Notice::Paused(ago, pauses.longest.max(ago), t_max))
         }

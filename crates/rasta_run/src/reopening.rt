@@ -59,10 +59,17 @@ impl<C: Channels + Drop, A: Allocator + Copy> Actor<'_, C, A> {
         let until = self.keeper.look(self.side, self.end.is_stale(), is_up, now);
         self.anew_at = end_of_wait(until, now);
         if was_counted && !self.keeper.is_counted() {
-            self.log.set_quiet(false);
-            let _ = self.log.notice(Some(Notice::Session(count)), now, err);
+            self.log_session(count, now, err);
         }
         is_wait_over(until)
+    }
+
+    /// Logs openings again, and that a session lasts after this many without one.
+    fn log_session<E: Write>(&mut self, count: u64, now: Milliseconds, err: &mut E)
+        ensures { self.new ≡ record self.old { log = self.new.log } }
+    {
+        self.log.set_quiet(false);
+        let _ = self.log.notice(Some(Notice::Session(count)), now, err);
     }
 
     /// Records that the end is to be opened again now: what was in doubt of the lost connection is lost.
@@ -126,6 +133,14 @@ impl<C: Channels + Drop, A: Allocator + Copy> Actor<'_, C, A> {
         }
     }
 
+    /// Logs how many openings in a row got no session that lasted, and causes once more.
+    fn log_count<E: Write>(&mut self, count: u64, now: Milliseconds, err: &mut E)
+        ensures { self.new ≡ record self.old { log = self.new.log } }
+    {
+        self.log.repeat_causes();
+        let _ = self.log.notice(Some(Notice::Fruitless(count)), now, err);
+    }
+
     /// Logs an opening, and how many in a row got no session that lasted if that is due: then this opening is logged with its
     /// causes, and others are only counted.
     fn log_opening<E: Write>(&mut self, first_sn: u32, now: Milliseconds, err: &mut E)
@@ -138,8 +153,7 @@ impl<C: Channels + Drop, A: Allocator + Copy> Actor<'_, C, A> {
         self.log
             .set_quiet(self.keeper.is_counted() && counted.is_none());
         if let Some(count) = counted {
-            self.log.repeat_causes();
-            let _ = self.log.notice(Some(Notice::Fruitless(count)), now, err);
+            self.log_count(count, now, err);
         }
         let _ = self.log.log_event(EndEvent::Anew(first_sn), now, err);
         self.log_events(now, err);
