@@ -71,6 +71,7 @@ fn run_of(turns: u32) -> RunRequest<'static> {
         log: LogLevel::Off,
         expected: None,
         keep: false,
+        refuse_while_down: false,
         counts: None,
     }
 }

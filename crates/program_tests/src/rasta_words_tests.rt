@@ -118,6 +118,7 @@ fn until_end(word: Ends) -> RunRequest<'static> {
         stamp: false,
         expected: None,
         keep: false,
+        refuse_while_down: false,
         counts: None,
     }
 }

@@ -52,12 +52,15 @@ ends_initialisation_in Interlocking phase is_empty = false
 ends_initialisation_in FieldElement phase false = false
 ends_initialisation_in FieldElement phase true = is_initialising phase
 
--- lines of input are put if the session is established and the list is empty; if the end is closed and not kept, each
--- of them is refused
-abbrev pub takes_lines : (kept : Bool) → ConnectionState → Phase → (is_empty : Bool) → Bool
-takes_lines kept state.Closed phase is_empty = not kept || (is_up phase && is_empty)
-takes_lines kept state.Down phase is_empty = is_up phase && is_empty
-takes_lines kept state.Start phase is_empty = is_up phase && is_empty
-takes_lines kept state.Up phase is_empty = is_up phase && is_empty
-takes_lines kept state.RetrReq phase is_empty = is_up phase && is_empty
-takes_lines kept state.RetrRun phase is_empty = is_up phase && is_empty
+-- lines of input are refused in this state: if the end is closed and not kept, or without a connection if that is asked for
+abbrev pub refuses_lines : (kept refuses : Bool) → ConnectionState → Bool
+refuses_lines kept refuses state.Closed = not kept || refuses
+refuses_lines kept refuses state.Down = refuses
+refuses_lines kept refuses state.Start = false
+refuses_lines kept refuses state.Up = false
+refuses_lines kept refuses state.RetrReq = false
+refuses_lines kept refuses state.RetrRun = false
+
+-- lines of input are taken: they are refused, or put if the session is established and the list is empty
+abbrev pub takes_lines : (kept refuses : Bool) → ConnectionState → Phase → (is_empty : Bool) → Bool
+takes_lines kept refuses s phase is_empty = refuses_lines kept refuses s || (is_up phase && is_empty)

@@ -164,6 +164,19 @@ unput_count s = min (min (s.unread + count_of s.next) (2 ^ 64 - 1) + lines_left 
 abbrev pub is_done : Option ℕ → Input → Bool
 is_done ended s = is_some ended && (is_none s.next && nat_eq (length s.octets) 0)
 
+-- since when a line waits for a session
+abbrev pub waits_since : (up has_line : Bool) → ℕ → Option ℕ → Option ℕ
+waits_since true has_line now since = None
+waits_since false false now since = None
+waits_since false true now None = Some now
+waits_since false true now (Some at) = Some at
+
+-- for how long lines have waited for a session, if there is one now
+abbrev pub waited_for : (up : Bool) → ℕ → Option ℕ → Option ℕ
+waited_for false now since = None
+waited_for true now None = None
+waited_for true now (Some at) = Some (now - at)
+
 -- input is read: it is not at its end, and there is room
 abbrev pub is_wanted : Option ℕ → List ℕ → Bool
 is_wanted ended octets = is_none ended && nat_lt (length octets) (room_of (feed_place octets))

@@ -8,7 +8,7 @@ use Rattle.pdu_text.specs.Pieces.{three_digits}
 use Rattle.rasta_run.specs.declared.channel_failures.Call.{Call}
 use Rattle.rasta_run.specs.declared.channel_failures.Call.TheVariants.{Send, Receive}
 use Rattle.rasta_run.specs.declared.notices.Notice.{Notice}
-use Rattle.rasta_run.specs.declared.notices.Notice.TheVariants.{CallsFail, CallsSucceed, Unanswered, Paused, Drops, WrongRequest, OtherVersion, InDoubt, NoTurn, Fruitless, Session, Unread, Behind, OutputFails, Ending}
+use Rattle.rasta_run.specs.declared.notices.Notice.TheVariants.{CallsFail, CallsSucceed, Unanswered, Paused, Drops, WrongRequest, OtherVersion, InDoubt, NoTurn, Fruitless, Session, Unread, Behind, OutputFails, Ending, Waited}
 
 -- the connection is lost; this many telegrams were sent and not confirmed, and this many not sent
 unfoldable pub in_doubt_text : (sent unsent : ℕ) → List ℕ
@@ -106,6 +106,12 @@ output_front = codes "leaves: standard output cannot be written"
 unfoldable pub output_fails_text : Option ℤ → List ℕ
 output_fails_text error = join_pieces (output_front ∷ error_text error ∷ [])
 
+-- lines of input have waited for a session, the first one for this many milliseconds
+unfoldable pub waited_text : ℕ → List ℕ
+waited_text milliseconds =
+    join_pieces (codes "puts lines of input that waited for a session, the first one for " ∷ decimal milliseconds ∷
+    codes " ms" ∷ [])
+
 -- the text of a notice
 abbrev pub notice_text : Notice → List ℕ
 notice_text (CallsFail call channel error) = calls_fail_text call channel error
@@ -123,6 +129,7 @@ notice_text Unread = codes "leaves: nobody reads standard output"
 notice_text (Behind count) = behind_text count
 notice_text (OutputFails error) = output_fails_text error
 notice_text Ending = codes "is told to end: puts no more"
+notice_text (Waited milliseconds) = waited_text milliseconds
 
 -- TIME END, at the start of a line, as in the log of an end
 unfoldable pub notice_front : ℕ → Side → List ℕ

@@ -1,7 +1,7 @@
 //! What the state of an end allows, and whether it is the expected one.
 
 ghost use Rattle.std.specs.Prelude.{◌≡◌};
-ghost use Rattle.rasta_run.specs.ExpectedStates.{ends_initialisation_in, is_up, is_expected, puts_list_in, takes_lines};
+ghost use Rattle.rasta_run.specs.ExpectedStates.{ends_initialisation_in, is_up, is_expected, puts_list_in, refuses_lines, takes_lines};
 
 use end_settings::Side;
 use pdi_session::Phase;
@@ -9,14 +9,30 @@ use rasta_words::ExpectedState;
 use safe_machine::ConnectionState;
 
 /// Returns whether the telegrams of input are put now: once the session is established and the list is done, and
-/// also if the connection is closed for good, so that each is refused by name and input is read to its end. An end
-/// that is kept is never closed for good.
-pub fn may_put_lines(is_kept: bool, state: ConnectionState, phase: Phase, is_empty: bool) -> bool
-    // `may_put_lines` is true for an established session if nothing of the list is left, and for a closed end that
-    // is not kept; else it is false.
-    ensures { result ≡ takes_lines is_kept state phase is_empty }
+/// also if they are refused, each by name, so that input is read to its end.
+pub fn may_put_lines(
+    is_kept: bool,
+    refuses: bool,
+    state: ConnectionState,
+    phase: Phase,
+    is_empty: bool,
+) -> bool
+    // `may_put_lines` is true for an established session if nothing of the list is left, for a closed end that is not kept, and
+    // for one that `refuses` lines without a connection and has none; else it is false.
+    ensures { result ≡ takes_lines is_kept refuses state phase is_empty }
 {
-    (state == ConnectionState::Closed && !is_kept) || (phase == Phase::Established && is_empty)
+    refuses_lines(is_kept, refuses, state) || (phase == Phase::Established && is_empty)
+}
+
+/// Returns whether lines of input are refused in this state.
+fn refuses_lines(is_kept: bool, refuses: bool, state: ConnectionState) -> bool
+    ensures { result ≡ refuses_lines is_kept refuses state }
+{
+    match state {
+        ConnectionState::Closed => !is_kept || refuses,
+        ConnectionState::Down => refuses,
+        _ => false,
+    }
 }
 
 /// Returns whether the session is established.

@@ -5,7 +5,7 @@
 ghost use Rattle.std.specs.Prelude.{◌≡◌, ◌⊎◌, ◌≤◌, ◌<◌, ◌++◌, [], Bool, List, ℕ, None, Some, false, true, is_none, is_some, length, option_map, take, ◌&&◌, nat_eq, nat_lt, IfErr, IfOk, OnErr, OnOk, IfSome};
 ghost use Rattle.std.specs.Io.KnownBytes.{Appends, Consumes, IsAtEnd};
 ghost use Rattle.settings_file.specs.Groups.{put_seen};
-ghost use Rattle.rasta_run.specs.InputLines.{ReadsNextTelegram, ReadsLine, flaw_of, flaw_text, line_count_after, line_most, long_text, feed_place, input_of, is_done, is_open, is_wanted, is_whole, IsNumbered, open_text, rest_after_line, room_of, line_read, line_seen, lines_left, next_line, none_text, one_more, telegram_of, unfed_line, unput_count};
+ghost use Rattle.rasta_run.specs.InputLines.{ReadsNextTelegram, ReadsLine, flaw_of, flaw_text, line_count_after, line_most, long_text, feed_place, input_of, is_done, is_open, is_wanted, is_whole, IsNumbered, open_text, rest_after_line, room_of, line_read, line_seen, lines_left, next_line, none_text, one_more, telegram_of, unfed_line, unput_count, waited_for, waits_since};
 
 use crate::readiness::{Gate, Readiness, Stream};
 use octets::Milliseconds;
@@ -44,6 +44,8 @@ pub struct Feed<I: Read + Drop> {
     unread: u64,
     /// When it was at its end, in milliseconds of the run's clock.
     pub ended: Option<u64>,
+    /// Since when a line waits for a session, in milliseconds of the run's clock.
+    pub since: Option<u64>,
 }
 
 impl<I: Read + Drop> Feed<I> {
@@ -78,6 +80,7 @@ impl<I: Read + Drop> Feed<I> {
             next: None,
             unread: 0,
             ended: None,
+            since: None,
         })
     }
 
@@ -227,6 +230,22 @@ impl<I: Read + Drop> Feed<I> {
         }
     }
 
+    /// Looks whether a line waits for a session, which is there now if `is_up` is true. Returns for how long the first one has
+    /// waited for it, in milliseconds.
+    pub fn look_at_wait(&mut self, is_up: bool, now: Milliseconds) -> Option<u64>
+        // `look_at_wait` records since when a line waits, if one does and there is no session.
+        ensures kept { self.new ≡ record self.old {
+          since = waits_since is_up (is_some (feed_place self.old.lines.octets.items)) now self.old.since;
+        } }
+        // `look_at_wait` returns the time since then, once there is a session.
+        ensures waited { result ≡ waited_for is_up now self.old.since }
+    {
+        let has_line = feed_in(self.lines.octets.as_slice()).is_some();
+        let waited = waited_for(is_up, now, self.since);
+        self.since = waits_since(is_up, has_line, now, self.since);
+        waited
+    }
+
     /// Returns the number of the line of the next telegram, from 1.
     pub fn number(&self) -> u64
         // `number` returns how many lines were cut so far.
@@ -254,6 +273,27 @@ impl<I: Read + Drop> Feed<I> {
         ensures { result ≡ is_done self.now.ended (input_of self.now) }
     {
         self.ended.is_some() && self.next.is_none() && self.lines.is_empty()
+    }
+}
+
+/// Returns since when a line waits for a session.
+fn waits_since(is_up: bool, has_line: bool, now: Milliseconds, since: Option<u64>) -> Option<u64>
+    ensures { result ≡ waits_since is_up has_line now since }
+{
+    match (is_up, has_line, since) {
+        (false, true, None) => Some(now),
+        (false, true, since) => since,
+        _ => None,
+    }
+}
+
+/// Returns for how long lines have waited for a session, if there is one now.
+fn waited_for(is_up: bool, now: Milliseconds, since: Option<u64>) -> Option<u64>
+    ensures { result ≡ waited_for is_up now since }
+{
+    match (is_up, since) {
+        (true, Some(since)) => Some(now.saturating_sub(since)),
+        _ => None,
     }
 }
 

@@ -352,6 +352,7 @@ fn open_end<'a, D: NumberSource>(
             log,
             keeper,
             run.keep,
+            run.keep && run.refuse_while_down,
             teller,
         )),
         Err((fault, _channels)) => Err(fault_of_end(fault)),

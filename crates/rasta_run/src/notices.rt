@@ -51,6 +51,8 @@ pub enum Notice {
     OutputFails(Option<i32>),
     /// The run is told to end.
     Ending,
+    /// The first line of input has waited this many milliseconds for a session.
+    Waited(u64),
 }
 
 /// Writes the line of a notice at a time of the end's clock, in milliseconds.
@@ -111,6 +113,7 @@ fn write_what<W: Write>(writer: &mut W, notice: Notice) -> io::Result<()>
         Notice::Behind(count) => write_behind(writer, count),
         Notice::OutputFails(error) => write_output_fails(writer, error),
         Notice::Ending => write_text(writer, "is told to end: puts no more"),
+        Notice::Waited(milliseconds) => write_waited(writer, milliseconds),
     }
 }
 
@@ -309,6 +312,17 @@ fn write_behind<W: Write>(writer: &mut W, count: u64) -> io::Result<()>
     ensures { OnOk result (Appends (W.contents writer.old) (W.contents writer.new) (noticing.behind_text count)) }
 {
     write!(writer, "output: nobody reads, {count} lines wait")
+}
+
+/// Writes for how long lines of input have waited for a session.
+#[tactic(auto, unfolding(crate::specs::Notices::waited_text))]
+fn write_waited<W: Write>(writer: &mut W, milliseconds: u64) -> io::Result<()>
+    ensures { OnOk result (Appends (W.contents writer.old) (W.contents writer.new) (noticing.waited_text milliseconds)) }
+{
+    write!(
+        writer,
+        "puts lines of input that waited for a session, the first one for {milliseconds} ms"
+    )
 }
 
 /// Writes that standard output cannot be written, and why.

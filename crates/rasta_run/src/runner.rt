@@ -25,6 +25,7 @@ use crate::streams::Streams;
 use crate::turns::Actor;
 use crate::waits::{earlier, take_rest};
 use octets::Milliseconds;
+use pdi_session::Phase;
 use rasta_words::{Fault, RunLength, RunRequest};
 use std::alloc::Global;
 use std::io;
@@ -241,6 +242,7 @@ impl Runner<'_> {
             self.look_at_clock(rt, now);
             let heard = self.take_turn(now, streams)?;
             let came = feed.read(&mut streams.gate, now)?;
+            self.note_wait(feed, now, &mut streams.err);
             let put = self.put_lines(alloc, feed, now, &mut streams.out, &mut streams.err)?;
             self.note_progress(now);
             if feed.ended.is_some() && self.are_over(feed.is_done(), now) {
@@ -315,6 +317,22 @@ impl Runner<'_> {
         let stamp = self.first.log.stamp(now);
         let mut printer = Printer::new(self.first.side, stamp, out);
         self.first.put_lines(alloc, feed, now, &mut printer, err)
+    }
+
+    /// Logs for how long lines of input have waited for a session, if that is T_max or longer.
+    fn note_wait<I: Read + Drop, E: Write>(
+        &self,
+        feed: &mut Feed<I>,
+        now: Milliseconds,
+        err: &mut E,
+    ) {
+        let is_up = self.first.end.phase() == Phase::Established;
+        match feed.look_at_wait(is_up, now) {
+            Some(waited) if self.first.keeper.config.t_max <= waited => {
+                let _ = self.first.tell(Notice::Waited(waited), now, err);
+            }
+            _ => {}
+        }
     }
 
     /// Returns how many datagrams the sockets of each end received, modulo 2^64.

@@ -85,11 +85,12 @@ impl<C: Channels, A: Allocator + Copy> Actor<'_, C, A> {
 
     /// Returns whether the end takes lines of input now.
     fn may_put_lines(&self) -> bool
-        ensures { result ≡ takes_lines self.now.is_kept (inside self.now.end).upper.machine.connection
+        ensures { result ≡ takes_lines self.now.is_kept self.now.refuses (inside self.now.end).upper.machine.connection
             (inside self.now.end).upper.session.phase (length self.now.left.now == 0) }
     {
         may_put_lines(
             self.is_kept,
+            self.refuses,
             self.end.state(),
             self.end.phase(),
             self.left.is_empty(),
@@ -228,7 +229,7 @@ impl<C: Channels, A: Allocator + Copy> Actor<'_, C, A> {
         // it has put the telegram, or it was refused and counted, or the line is not one and was counted. It stops
         // before 256 only if no line is there, or if the end is full for the next telegram, which stays.
         ensures puts { IfOk result (λ found. TakesInputIf (λ o. C.told o.inner) T.refuses now (is_some feed.old.ended)
-            (takes_lines self.old.is_kept (inside self.old.end).upper.machine.connection (inside self.old.end).upper.session.phase
+            (takes_lines self.old.is_kept self.old.refuses (inside self.old.end).upper.machine.connection (inside self.old.end).upper.session.phase
             (length self.old.left.now == 0))
             (with_input self.old app.old (input_of feed.old)) found
             (with_input self.new app.new (input_of feed.new))) }

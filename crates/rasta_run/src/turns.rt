@@ -87,6 +87,8 @@ pub struct Actor<'a, C, A: Allocator = Global> {
     pub log: Log,
     /// Whether it is opened again if its connection is lost.
     pub is_kept: bool,
+    /// Whether it refuses lines of input while it has no connection.
+    pub refuses: bool,
     /// When it is opened again.
     pub keeper: Keeper,
     /// When it is to be opened again, in milliseconds, if that is known.
@@ -106,6 +108,7 @@ impl<'a, C: Channels, A: Allocator + Copy> Actor<'a, C, A> {
         log: Log,
         keeper: Keeper,
         is_kept: bool,
+        refuses: bool,
         teller: CountsPrinter,
     ) -> Self
         // The end of a new `Actor` is the one given.
@@ -116,8 +119,9 @@ impl<'a, C: Channels, A: Allocator + Copy> Actor<'a, C, A> {
         ensures left { (result.left.now ≡ puts.now) × (result.entries ≡ length puts.now) }
         // A new `Actor` has this keeper.
         ensures keeper { result.keeper ≡ keeper }
-        // A new `Actor` is opened again if and only if `is_kept` is true.
-        ensures kept { result.is_kept ≡ is_kept }
+        // A new `Actor` is opened again if and only if `is_kept` is true, and refuses lines without a connection if and only
+        // if `refuses` is.
+        ensures kept { (result.is_kept ≡ is_kept) × (result.refuses ≡ refuses) }
         // A new `Actor` has no earlier opening.
         ensures earlier { result.earlier.sums ≡ totals.none }
         // No call is noted as failed of a new `Actor`.
@@ -150,6 +154,7 @@ impl<'a, C: Channels, A: Allocator + Copy> Actor<'a, C, A> {
             failures: [Failures::none(); CHANNELS_MAX],
             log,
             is_kept,
+            refuses,
             keeper,
             anew_at: None,
             earlier: Totals::none(),

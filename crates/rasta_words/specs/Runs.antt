@@ -27,7 +27,7 @@ ends_word Fe = codes "fe"
 ends_word Pair = codes "pair"
 
 -- The command is il FILE (--turns N | --until-end [--end-on-3]) [--log off|state|all] [--time utc|run] [--stamp] [--expect
--- up|settled] [--keep] [--stats text|json|prometheus [--every N]]; fe and pair have the same.
+-- up|settled] [--keep [--refuse-while-down]] [--stats text|json|prometheus [--every N]]; fe and pair have the same.
 
 -- the command with `--turns` and the flags `--until-end` and `--end-on-3`
 abbrev pub with_length : App → App
@@ -37,9 +37,9 @@ with_length app = with_flag (with_flag (with_option app (codes "turns")) (codes 
 abbrev pub with_log : App → App
 with_log app = with_flag (with_option (with_option app (codes "log")) (codes "time")) (codes "stamp")
 
--- the command with `--expect` and the flag `--keep`
+-- the command with `--expect` and the flags `--keep` and `--refuse-while-down`
 abbrev pub with_expected : App → App
-with_expected app = with_flag (with_option app (codes "expect")) (codes "keep")
+with_expected app = with_flag (with_flag (with_option app (codes "expect")) (codes "keep")) (codes "refuse-while-down")
 
 -- the command with `--stats` and `--every`
 abbrev pub with_stats : App → App
@@ -127,6 +127,7 @@ IsRun rows r =
     × IsLogChosen (first_of (codes "log") rows) r.log × IsTimeChosen (first_of (codes "time") rows) r.time
     × (is_flagged (first_of (codes "stamp") rows) ≡ r.stamp) × IsEndChosen (first_of (codes "expect") rows) r.expected
     × (is_flagged (first_of (codes "keep") rows) ≡ r.keep)
+    × (is_flagged (first_of (codes "refuse-while-down") rows) ≡ r.refuse_while_down)
     × AreCountsChosen (first_of (codes "stats") rows) (first_of (codes "every") rows) r.counts
 
 -- no run has the values of these entries

@@ -77,6 +77,8 @@ pub struct RunRequest<'a> {
     pub expected: Option<ExpectedState>,
     /// `--keep`: an end that has lost its connection is opened again.
     pub keep: bool,
+    /// `--refuse-while-down`: with `--keep`, lines of input are refused while the connection is Closed or Down.
+    pub refuse_while_down: bool,
     /// `--stats`, and `--every` with a number of seconds: how and when counts are printed.
     pub counts: Option<CountsRequest>,
 }

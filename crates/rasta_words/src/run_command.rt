@@ -90,11 +90,11 @@ fn with_log<'a>(alloc: Global, command: Command<'a>) -> Result<Command<'a>, Allo
     )
 }
 
-/// Adds `--expect` and `--keep`.
+/// Adds `--expect`, `--keep` and `--refuse-while-down`.
 #[inline(never)]
 fn with_expected<'a>(alloc: Global, command: Command<'a>) -> Result<Command<'a>, AllocError>
     requires { (fields_of command).has_globals ≡ false }
-    // The command that `with_expected` returns has `--expect` and `--keep` after its other arguments.
+    // The command that `with_expected` returns has `--expect`, `--keep` and `--refuse-while-down` after its other arguments.
     ensures app { IfOk result (λ made. app_of made ≡ spec.with_expected (app_of command.entry)) }
     // No argument of the command that `with_expected` returns is global.
     ensures local { IfOk result (λ made. (fields_of made).has_globals ≡ false) }
@@ -105,11 +105,17 @@ fn with_expected<'a>(alloc: Global, command: Command<'a>) -> Result<Command<'a>,
         "expect",
         "Exit with status 4 unless, at the end, the session is established (up), or every telegram to be put is also confirmed (settled) [default: nothing is expected]",
     )?;
-    with_flag(
+    let kept = with_flag(
         alloc,
         command,
         "keep",
         "Reopen an end that has lost its connection [default: it stays closed]",
+    )?;
+    with_flag(
+        alloc,
+        kept,
+        "refuse-while-down",
+        "With --keep: refuse lines of input while the connection is Closed or Down [default: they wait for the next session]",
     )
 }
 

@@ -49,6 +49,7 @@ pub fn ends_run<'a>(
         stamp: is_chosen(entry(entries, "stamp")),
         expected,
         keep: is_chosen(entry(entries, "keep")),
+        refuse_while_down: is_chosen(entry(entries, "refuse-while-down")),
         counts,
     })
 }
