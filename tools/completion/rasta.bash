@@ -20,18 +20,21 @@ _rasta() {
     il--expect) words='up settled' ;;
     il--stats) words='text json prometheus' ;;
     il--every) words='' ;;
+    il--status) words='' ;;
     fe--turns) words='' ;;
     fe--log) words='off state all' ;;
     fe--time) words='' ;;
     fe--expect) words='up settled' ;;
     fe--stats) words='text json prometheus' ;;
     fe--every) words='' ;;
+    fe--status) words='' ;;
     pair--turns) words='' ;;
     pair--log) words='off state all' ;;
     pair--time) words='' ;;
     pair--expect) words='up settled' ;;
     pair--stats) words='text json prometheus' ;;
     pair--every) words='' ;;
+    pair--status) words='' ;;
     *)
         case $COMP_CWORD,${COMP_WORDS[1]} in
         1,*) words='md4 show sim follow il fe pair check help -h --help --version --completion' ;;
@@ -39,9 +42,9 @@ _rasta() {
         *,show) words='--code --iv -h --help' ;;
         *,sim) words='-h --help' ;;
         *,follow) words='--code --iv --only --t-max --messages --ports --json --choose --events --time --from --to --every --beside -h --help' ;;
-        *,il) words='--turns --until-end --end-on-3 --log --time --stamp --expect --keep --stats --every -h --help' ;;
-        *,fe) words='--turns --until-end --end-on-3 --log --time --stamp --expect --keep --stats --every -h --help' ;;
-        *,pair) words='--turns --until-end --end-on-3 --log --time --stamp --expect --keep --stats --every -h --help' ;;
+        *,il) words='--turns --until-end --end-on-3 --log --time --stamp --expect --keep --refuse-while-down --stats --every --status -h --help' ;;
+        *,fe) words='--turns --until-end --end-on-3 --log --time --stamp --expect --keep --refuse-while-down --stats --every --status -h --help' ;;
+        *,pair) words='--turns --until-end --end-on-3 --log --time --stamp --expect --keep --refuse-while-down --stats --every --status -h --help' ;;
         *,check) words='-h --help' ;;
         2,help) words='md4 show sim follow il fe pair check' ;;
         2,--completion) words='bash' ;;

@@ -72,6 +72,7 @@ fn run_of(turns: u32) -> RunRequest<'static> {
         expected: None,
         keep: false,
         refuse_while_down: false,
+        status: None,
         counts: None,
     }
 }

@@ -119,6 +119,7 @@ fn until_end(word: Ends) -> RunRequest<'static> {
         expected: None,
         keep: false,
         refuse_while_down: false,
+        status: None,
         counts: None,
     }
 }

@@ -25,6 +25,7 @@ use crate::recorder::ExpectedHeader;
 use crate::run_clock::RunClock;
 use crate::runner::Runner;
 use crate::settings::{NoAddress, read_ends, warn};
+use crate::status_file::StatusFile;
 use crate::streams::Streams;
 use crate::turns::Actor;
 use end_settings::Side;
@@ -181,11 +182,14 @@ fn run_sides<R: Net + Clock + Input + Files, O: Write, E: Write>(
     let channels = bind_channels(rt, alloc, side, first, &watch)?;
     let second = open_second(rt, alloc, &watch, second, run, now, &mut streams.err)?;
     let first = open_side(rt, alloc, channels, side, first, run, now, &mut streams.err)?;
+    let status = StatusFile::new(alloc, run.status)?;
     let mut running = Runner {
         first,
         second,
         turns: 0,
+        status,
     };
+    running.write_status(rt, alloc, now)?;
     let lines = match run.length {
         RunLength::Turns(turns) => {
             let ran = running.take_turns(rt, alloc, &mut clock, &mut watch, turns, streams);
@@ -199,6 +203,7 @@ fn run_sides<R: Net + Clock + Input + Files, O: Write, E: Write>(
         }
     };
     let outcome = running.finish(run, lines, clock.last, streams)?;
+    let _ = running.write_status(rt, alloc, clock.last);
     Ok(outcome)
 }
 
@@ -334,7 +339,7 @@ fn open_end<'a, D: NumberSource>(
     ensures time { IfOk result (λ actor. actor.end.time ≤ now) }
 {
     let is_heard = run.log != LogLevel::Off || run.expected.is_some();
-    let listens = is_heard || run.keep || run.counts.is_some();
+    let listens = is_heard || run.keep || run.counts.is_some() || run.status.is_some();
     let wanted = ExpectedHeader::of(&settings.config);
     let keeper = Keeper::new(settings.config, now);
     let t_max = settings.config.t_max;

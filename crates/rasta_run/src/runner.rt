@@ -6,14 +6,11 @@ ghost use Rattle.rasta_run.specs.Actors as acting;
 ghost use Rattle.rasta_run.specs.Counters.{run_counts_of};
 ghost use Rattle.rasta_run.specs.Counts.{look};
 ghost use Rattle.rasta_run.specs.ChannelFailures.{all_failures};
-ghost use Rattle.rasta_run.specs.Backlogs.{unread_lines};
 ghost use Rattle.rasta_run.specs.Progress.{limit_after};
-ghost use Rattle.rasta_run.specs.Leftovers.{is_nothing};
 ghost use Rattle.stack_end.specs.EndValue.{channels_of, statistics_of};
 
 use crate::input::Feed;
 use crate::lateness::ReaderState;
-use crate::leftovers::{Leftovers, Outcome};
 use crate::metrics::{Samples, write_block};
 use crate::net::unless_unread;
 use crate::notices::Notice;
@@ -21,19 +18,20 @@ use crate::number_source::Random;
 use crate::printer::Printer;
 use crate::readiness::Readiness;
 use crate::run_clock::RunClock;
+use crate::status_file::StatusFile;
 use crate::streams::Streams;
 use crate::turns::Actor;
 use crate::waits::{earlier, take_rest};
 use octets::Milliseconds;
 use pdi_session::Phase;
-use rasta_words::{Fault, RunLength, RunRequest};
+use rasta_words::{Fault, RunLength};
 use std::alloc::Global;
 use std::io;
 use std::io::{Input, Read, Write};
 use std::net::Net;
 use std::rt::Files;
 use std::time::Clock;
-use udp_channels::{CallFault, UdpChannels, Watch};
+use udp_channels::{UdpChannels, Watch};
 
 /// The descriptor that ends a run.
 const END: i32 = 3;
@@ -50,6 +48,8 @@ pub struct Runner<'a> {
     pub second: Option<Actor<'a, UdpChannels>>,
     /// The number of turns, modulo 2^64.
     pub turns: u64,
+    /// The file that has their state.
+    pub status: StatusFile<'a>,
 }
 
 impl Runner<'_> {
@@ -402,6 +402,7 @@ impl Runner<'_> {
         if self.first.report_due(now, err) {
             let _ = self.report_block(now, err);
         }
+        let _ = self.status.look(rt, alloc, &self.first, &self.second, now);
         Ok(first || second)
     }
 
@@ -410,7 +411,7 @@ impl Runner<'_> {
     /// # Errors
     ///
     /// - The error of the writer; what it wrote before stays written.
-    fn report_block<E: Write>(&self, now: Milliseconds, err: &mut E) -> io::Result<()> {
+    pub(crate) fn report_block<E: Write>(&self, now: Milliseconds, err: &mut E) -> io::Result<()> {
         if !self.first.teller.has_block() {
             return Ok(());
         }
@@ -429,168 +430,34 @@ impl Runner<'_> {
         }
     }
 
+    /// Writes the file that has the state of the ends, if there is one.
+    ///
+    /// # Errors
+    ///
+    /// - `File` if it cannot be written.
+    pub fn write_status<R: Files>(
+        &mut self,
+        rt: &R,
+        alloc: Global,
+        now: Milliseconds,
+    ) -> Result<(), Fault>
+        // `write_status` changes neither end.
+        ensures { self.new ≡ record self.old { status = self.new.status } }
+    {
+        self.status.hurry();
+        match self.status.look(rt, alloc, &self.first, &self.second, now) {
+            true => Ok(()),
+            false => Err(Fault::File),
+        }
+    }
+
     /// Returns the earliest deadline of all ends.
     fn next_deadline(&self) -> Option<Milliseconds> {
+        let first = earlier(self.first.next_deadline(), self.status.next_write());
         match &self.second {
-            None => self.first.next_deadline(),
-            Some(second) => earlier(self.first.next_deadline(), second.next_deadline()),
+            None => first,
+            Some(second) => earlier(first, second.next_deadline()),
         }
-    }
-
-    /// Ends a run, in which this many lines of input are left: prints the state of each end and what it leaves
-    /// undone, and finishes its log. Ends that ran until their input ended disconnect first. Returns how they were.
-    ///
-    /// # Errors
-    ///
-    /// - `Output` if a line cannot be printed.
-    pub fn finish<O: Write, E: Write>(
-        &mut self,
-        run: &RunRequest<'_>,
-        lines: u64,
-        now: Milliseconds,
-        streams: &mut Streams<O, E>,
-    ) -> Result<Outcome, Fault>
-        requires now { now ≤ TIME_MAX }
-        requires later { (self.old.first.end.time ≤ now) × IfSome self.old.second (λ a. a.end.time ≤ now) }
-        // If no state is expected, each end was in it when `finish` succeeds.
-        ensures expected { run.now.expected ≡ None → IfOk result (λ outcome. outcome.is_met ≡ true) }
-        // If `finish` succeeds, its outcome says whether every end was in the expected state before.
-        ensures met { IfOk result (λ outcome. outcome.is_met ≡ (acting.is_as_expected run.now.expected lines self.old.first
-            && acting.is_second_as_expected run.now.expected self.old.second)) }
-        // If `finish` succeeds, its outcome says whether each end had left nothing undone, if the run lasted until its input
-        // ended.
-        ensures finished { IfOk result (λ outcome. outcome.is_finished
-            ≡ acting.is_finished run.now.length lines self.old.first self.old.second) }
-        // If `finish` succeeds, its outcome says whether no line of standard output was left out, and none waits.
-        ensures read { IfOk result (λ outcome. outcome.is_read
-            ≡ (unread_lines streams.old.out.left_out streams.new.out.octets.items == 0)) }
-    {
-        let first_undone = self.first.undone(lines);
-        let second_undone = undone_of(&self.second);
-        let first_met = self.first.stands_as(run.expected, first_undone);
-        let second_met = is_met(&self.second, run, second_undone);
-        let is_until_end = run.length == RunLength::UntilEnd;
-        let left_out = streams.out.take_left_out();
-        self.leave(is_until_end, left_out, now, streams);
-        let printed = self.print_end(now, streams);
-        if is_until_end {
-            self.report_undone(first_undone, second_undone, &mut streams.err);
-        }
-        let is_read = streams.report_unread(left_out);
-        self.conclude(first_met, second_met, now, &mut streams.err);
-        let is_finished = first_undone.is_nothing() && second_undone.is_nothing();
-        printed?;
-        Ok(Outcome {
-            is_read,
-            is_finished: !is_until_end || is_finished,
-            is_met: first_met && second_met,
-        })
-    }
-
-    /// Disconnects the ends if their input has ended, or if nobody reads standard output or it cannot be written. Logs
-    /// the latter.
-    fn leave<O: Write, E: Write>(
-        &mut self,
-        is_until_end: bool,
-        left_out: u64,
-        now: Milliseconds,
-        streams: &mut Streams<O, E>,
-    )
-        requires now { now ≤ TIME_MAX }
-        requires later { (self.old.first.end.time ≤ now) × IfSome self.old.second (λ a. a.end.time ≤ now) }
-        ensures kept { streams.new.out ≡ streams.old.out }
-    {
-        let cause = leaving_cause(left_out, streams.is_stale, streams.out.failure);
-        if let Some(notice) = cause {
-            let _ = self.first.tell(notice, now, &mut streams.err);
-            if let Some(second) = &self.second {
-                let _ = second.tell(notice, now, &mut streams.err);
-            }
-        }
-        if is_until_end || cause.is_some() {
-            self.first.close(now, &mut streams.err);
-            if let Some(second) = &mut self.second {
-                second.close(now, &mut streams.err);
-            }
-        }
-    }
-
-    /// Prints what waits for standard output, and the state of each end, if somebody reads it. Lines that are too old
-    /// are not printed. Logs a write that fails.
-    ///
-    /// # Errors
-    ///
-    /// - `Output` if standard output cannot be written.
-    fn print_end<O: Write, E: Write>(
-        &self,
-        now: Milliseconds,
-        streams: &mut Streams<O, E>,
-    ) -> Result<(), Fault> {
-        if streams.out.failure.is_some() {
-            return Err(Fault::Output);
-        }
-        if streams.is_stale {
-            return Ok(());
-        }
-        let printed = self.print_report(streams);
-        if let Some(fault) = streams.out.failure {
-            let _ = self
-                .first
-                .tell(Notice::OutputFails(fault.error), now, &mut streams.err);
-        }
-        printed
-    }
-
-    /// Prints what waits for standard output, and the state of each end, if somebody reads it.
-    ///
-    /// # Errors
-    ///
-    /// - `Output` if standard output cannot be written.
-    fn print_report<O: Write, E: Write>(&self, streams: &mut Streams<O, E>) -> Result<(), Fault> {
-        if streams.print_rest()? {
-            self.report(&mut streams.out)?;
-            let _ = streams.print_rest()?;
-        }
-        Ok(())
-    }
-
-    /// Prints the state of each end.
-    fn report<O: Write>(&self, out: &mut O) -> Result<(), Fault> {
-        self.first.report(out)?;
-        match &self.second {
-            None => Ok(()),
-            Some(second) => second.report(out),
-        }
-    }
-
-    /// Prints what each end leaves undone, if it is anything. A failing output is ignored.
-    fn report_undone<E: Write>(
-        &self,
-        first_undone: Leftovers,
-        second_undone: Leftovers,
-        err: &mut E,
-    ) {
-        let _ = self.first.report_undone(first_undone, err);
-        if let Some(second) = &self.second {
-            let _ = second.report_undone(second_undone, err);
-        }
-    }
-
-    /// Finishes the log of each end.
-    fn conclude<E: Write>(
-        &mut self,
-        first_met: bool,
-        second_met: bool,
-        now: Milliseconds,
-        err: &mut E,
-    ) {
-        self.first.note_failures();
-        self.first.conclude(now, first_met, err);
-        if let Some(second) = &mut self.second {
-            second.note_failures();
-            second.conclude(now, second_met, err);
-        }
-        let _ = self.report_block(now, err);
     }
 }
 
@@ -698,15 +565,6 @@ fn watch_end(watch: &Watch, gate: &mut Readiness) -> Result<(), Fault> {
     }
 }
 
-/// Returns why ends leave: a write has failed, or nobody reads.
-fn leaving_cause(left_out: u64, is_stale: bool, failure: Option<CallFault>) -> Option<Notice> {
-    match failure {
-        Some(fault) => Some(Notice::OutputFails(fault.error)),
-        None if is_stale || left_out > 0 => Some(Notice::Unread),
-        None => None,
-    }
-}
-
 /// Takes one turn of the second end, if there is one.
 fn turn_of_second<O: Write, E: Write>(
     second: &mut Option<Actor<'_, UdpChannels>>,
@@ -744,32 +602,6 @@ fn keep_second<R: Files, E: Write>(
             let _due = actor.report_due(now, err);
             Ok(anew)
         }
-    }
-}
-
-/// Returns what the second end leaves undone: nothing, if there is none.
-fn undone_of(second: &Option<Actor<'_, UdpChannels>>) -> Leftovers
-    // `undone_of` returns what that end leaves, to which no line of input is offered.
-    ensures left { IfSome second.now (λ a. result ≡ acting.leftovers_of a 0) }
-    // Nothing is left if nothing is left by that end, or if there is none.
-    ensures done { is_nothing result ≡ acting.is_second_done second.now }
-{
-    match second {
-        None => Leftovers::nothing(),
-        Some(second) => second.undone(0),
-    }
-}
-
-/// Returns whether the second end is in the expected state, if there is one.
-fn is_met(second: &Option<Actor<'_, UdpChannels>>, run: &RunRequest<'_>, undone: Leftovers) -> bool
-    // `is_met` is true without a second end, and else if that is in the expected state.
-    ensures met { IfSome second.now (λ a. undone ≡ acting.leftovers_of a 0) → result ≡ acting.is_second_as_expected run.now.expected second.now }
-    // If no state is expected, `is_met` returns true.
-    ensures none { run.now.expected ≡ None → result ≡ true }
-{
-    match second {
-        None => true,
-        Some(second) => second.stands_as(run.expected, undone),
     }
 }
 

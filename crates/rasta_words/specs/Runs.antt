@@ -1,5 +1,6 @@
 -- The options of `il`, `fe` and `pair`, and the words that name their values.
 use Rattle.std.specs.Prelude.{◌≡◌, ⊤, ℕ, ◌≤◌, Bool, false, true, List, codes, Option, None, Some}
+use Rattle.std.specs.Option.{option_copied}
 use Rattle.std.specs.Str.Parse.{IsNumeral, digits_value, without_leading_plus}
 use Rattle.clap.specs.Words.{App, Row, Text, first_of, new_app}
 use Rattle.rasta_words.specs.declared.status.RunLength.{RunLength}
@@ -27,7 +28,8 @@ ends_word Fe = codes "fe"
 ends_word Pair = codes "pair"
 
 -- The command is il FILE (--turns N | --until-end [--end-on-3]) [--log off|state|all] [--time utc|run] [--stamp] [--expect
--- up|settled] [--keep [--refuse-while-down]] [--stats text|json|prometheus [--every N]]; fe and pair have the same.
+-- up|settled] [--keep [--refuse-while-down]] [--stats text|json|prometheus [--every N]]
+-- [--status FILE]; fe and pair have the same.
 
 -- the command with `--turns` and the flags `--until-end` and `--end-on-3`
 abbrev pub with_length : App → App
@@ -41,9 +43,9 @@ with_log app = with_flag (with_option (with_option app (codes "log")) (codes "ti
 abbrev pub with_expected : App → App
 with_expected app = with_flag (with_flag (with_option app (codes "expect")) (codes "keep")) (codes "refuse-while-down")
 
--- the command with `--stats` and `--every`
+-- the command with `--stats`, `--every` and `--status`
 abbrev pub with_stats : App → App
-with_stats app = with_option (with_option app (codes "stats")) (codes "every")
+with_stats app = with_option (with_option (with_option app (codes "stats")) (codes "every")) (codes "status")
 
 -- the whole command of this name, with FILE, which is required
 abbrev pub net_app : Text → App
@@ -129,6 +131,7 @@ IsRun rows r =
     × (is_flagged (first_of (codes "keep") rows) ≡ r.keep)
     × (is_flagged (first_of (codes "refuse-while-down") rows) ≡ r.refuse_while_down)
     × AreCountsChosen (first_of (codes "stats") rows) (first_of (codes "every") rows) r.counts
+    × (first_of (codes "status") rows ≡ option_copied r.status)
 
 -- no run has the values of these entries
 abbrev pub HasNoRun : List Row → Type 0

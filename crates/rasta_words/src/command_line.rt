@@ -81,6 +81,8 @@ pub struct RunRequest<'a> {
     pub refuse_while_down: bool,
     /// `--stats`, and `--every` with a number of seconds: how and when counts are printed.
     pub counts: Option<CountsRequest>,
+    /// `--status`: the name of the file that has the state of the ends.
+    pub status: Option<&'a str>,
 }
 
 /// How a recorded connection is analysed. Its defaults are those of a settings file.

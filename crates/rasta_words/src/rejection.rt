@@ -132,7 +132,7 @@ const FOLLOW_USAGE: &str =
 
 /// The usage of `il`, `fe` and `pair`.
 const RUN_USAGE: &str =
-    "Usage: rasta <il|fe|pair> [--log <off|state|all>] [--time <utc|run>] [--stamp] [--expect <up|settled>] [--keep [--refuse-while-down]] [--stats <text|json|prometheus> [--every <seconds>]] <--turns <turns>|--until-end [--end-on-3]> <file>\n\nFor more information, try 'rasta --help'.";
+    "Usage: rasta <il|fe|pair> [--log <off|state|all>] [--time <utc|run>] [--stamp] [--expect <up|settled>] [--keep [--refuse-while-down]] [--stats <text|json|prometheus> [--every <seconds>]] [--status <file>] <--turns <turns>|--until-end [--end-on-3]> <file>\n\nFor more information, try 'rasta --help'.";
 
 /// The usage of the program.
 const USAGE: &str = "Usage: rasta <COMMAND>\n\nFor more information, try 'rasta --help'.";

@@ -119,11 +119,11 @@ fn with_expected<'a>(alloc: Global, command: Command<'a>) -> Result<Command<'a>,
     )
 }
 
-/// Adds `--stats` and `--every`.
+/// Adds `--stats`, `--every` and `--status`.
 #[inline(never)]
 fn with_stats<'a>(alloc: Global, command: Command<'a>) -> Result<Command<'a>, AllocError>
     requires { (fields_of command).has_globals ≡ false }
-    // The command that `with_stats` returns has `--stats` and `--every` after its other arguments.
+    // The command that `with_stats` returns has `--stats`, `--every` and `--status` after its other arguments.
     ensures app { IfOk result (λ made. app_of made ≡ spec.with_stats (app_of command.entry)) }
     // No argument of the command that `with_stats` returns is global.
     ensures local { IfOk result (λ made. (fields_of made).has_globals ≡ false) }
@@ -134,10 +134,16 @@ fn with_stats<'a>(alloc: Global, command: Command<'a>) -> Result<Command<'a>, Al
         "stats",
         "Write counts to standard error at the end: text, json or prometheus [default: no counts]",
     )?;
-    with_option(
+    let command = with_option(
         alloc,
         command,
         "every",
         "With --stats: also write the counts every so many seconds, 1 to 86,400 [default: only at the end]",
+    )?;
+    with_option(
+        alloc,
+        command,
+        "status",
+        "Write the state of the ends to this file as JSON, anew each second [default: no file]",
     )
 }

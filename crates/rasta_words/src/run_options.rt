@@ -51,6 +51,7 @@ pub fn ends_run<'a>(
         keep: is_chosen(entry(entries, "keep")),
         refuse_while_down: is_chosen(entry(entries, "refuse-while-down")),
         counts,
+        status: entry(entries, "status"),
     })
 }
 
