@@ -116,7 +116,7 @@ impl Station {
         ensures time { IfOk result (λ s. s.time ≡ now) }
         // A new station reserves room for 37 datagrams for each channel before each call (`reserve_of`).
         ensures reserve { IfOk result (λ s. s.reserve ≡ reserve_of (settings_of config.now)) }
-        // One opening is counted, and nothing before it.
+        // A new station counts one opening, and nothing before it.
         ensures openings { IfOk result (λ s. s.openings ≡ first_opening side (settings_of config.now).connection.t_max now) }
     {
         if now > TIME_MAX {
